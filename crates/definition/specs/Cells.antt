@@ -1,0 +1,98 @@
+-- CELLS. Document 01, "Cells and statements", first paragraph, and the row "operands, raw access": type lookup and typed access.
+use Prim.Native.Nat.{ℕ, _+_, _-_, _%_}
+use mathlib.Core.List.{List, [], _∷_, _++_}
+use mathlib.Core.Bool.{Bool, true, false, not, _&&_, _||_, cond}
+use lib.ListN.{length, getD}
+use lib.Dec.{leb, ltb, eqb}
+use lib.IntN.{ℤ, pos, negsuc}
+use Rattle.definition.specs.declared.Definition.{Definition}
+use Rattle.definition.specs.Checks.{Condition, Conditions, _otherwise_}
+use Rattle.definition.specs.File.{Contents, negative}
+
+-- ---- types: "0 void, 1 string, 2 float, 3 vector, 4 entity, 5 field, 6 function, 7 pointer"
+
+abbrev pub string : ℕ
+string = 1
+
+abbrev pub float : ℕ
+float = 2
+
+abbrev pub vector : ℕ
+vector = 3
+
+abbrev pub entity : ℕ
+entity = 4
+
+abbrev pub field : ℕ
+field = 5
+
+abbrev pub function : ℕ
+function = 6
+
+-- what a lookup gives for a cell without a definition: no type, since bit 15 of a definition's type is its save flag
+abbrev pub untyped : ℕ
+untyped = 32768
+
+-- "Bit 15 of the type is the save flag"
+abbrev pub typeOf : Definition → ℕ
+typeOf d = d .kind % 32768
+
+-- "Type lookup takes the first global definition, in file order, with that cell"
+unfoldable pub lookup : List Definition → ℕ → ℕ
+lookup [] cell = untyped
+lookup (d ∷ ds) cell = cond (eqb (d .offset) cell) (typeOf d) (lookup ds cell)
+
+-- vector counts as float
+unfoldable pub scalar : ℕ → ℕ
+scalar t = cond (eqb t vector) float t
+
+-- "Float and vector pass for each other; otherwise types must match; a cell without a definition passes"
+unfoldable pub passes : ℕ → ℕ → Bool
+passes t want = eqb t untyped || eqb (scalar t) (scalar want)
+
+-- ---- operands
+
+-- The signed value of an operand, which is kept as its unsigned 16 bits.
+unfoldable pub signed : ℕ → ℤ
+signed x = cond (ltb x 32768) (pos x) (negsuc (65535 - x))
+
+-- The cell that an operand names. A negative operand names none: 98,304 or more is above every count of cells and every definition's cell.
+unfoldable pub cellOf : ℕ → ℕ
+cellOf x = cond (ltb x 32768) x (x + 65536)
+
+-- ---- typed access
+
+-- what an access looks at: the global definitions, and the file's count of cells
+pub record Typing : Type 0 where
+  pub definitions : List Definition
+  pub count : ℕ
+
+abbrev pub typingOf : Contents → Typing
+typingOf k = record { definitions = k .globaldefs; count = length (k .globals) }
+
+abbrev pub typeIs : Typing → ℕ → ℕ → Bool
+typeIs g want cell = passes (lookup (g .definitions) cell) want
+
+-- "15: cell negative or not below the count"
+abbrev pub addressed : Typing → ℕ → Conditions
+addressed g cell = (ltb cell (g .count) otherwise 15) ∷ []
+
+-- "A typed access checks type, then address"
+unfoldable pub cellAccess : Typing → ℕ → ℕ → Conditions
+cellAccess g want cell = (typeIs g want cell otherwise 16) ∷ addressed g cell
+
+-- "A vector checks its first cell as vector, then each of its three as float"
+unfoldable pub vectorAccess : Typing → ℕ → Conditions
+vectorAccess g cell =
+    (typeIs g vector cell otherwise 16) ∷ cellAccess g float cell ++ cellAccess g float (cell + 1) ++ cellAccess g float (cell + 2)
+
+unfoldable pub access : Typing → ℕ → ℕ → Conditions
+access g want cell = cond (eqb want vector) (vectorAccess g cell) (cellAccess g want cell)
+
+-- "17: negative entity or field read"
+abbrev pub mustBePositive : ℕ → Bool
+mustBePositive t = eqb t entity || eqb t field
+
+-- a read of a value: the access, then 17
+unfoldable pub readAccess : Typing → Bool → ℕ → ℕ → List ℕ → Conditions
+readAccess g must t cell cells = access g t cell ++ ((not (must && negative (getD cells cell 0)) otherwise 17) ∷ [])

@@ -1,0 +1,173 @@
+-- THE FILE. Document 01, "File", and pr_comp.h: the header, six lumps, the records, builtin numbers.
+use Prim.Native.Nat.{ℕ, zero, suc, _+_, _-_, _*_}
+use mathlib.Core.List.{List, [], _∷_}
+use mathlib.Core.Bool.{Bool, true, false, not, _&&_, _||_}
+use lib.ListN.{length, getD}
+use lib.Dec.{leb, ltb, eqb}
+use Rattle.definition.specs.declared.Lump.{Lump}
+use Rattle.definition.specs.declared.FileRecord.{FileRecord}
+use Rattle.definition.specs.declared.Statement.{Statement}
+use Rattle.definition.specs.declared.Definition.{Definition}
+use Rattle.definition.specs.declared.FunctionDef.{FunctionDef}
+
+-- ---- numbers: little-endian; past the end of the file a byte reads as 0, and nothing accepted reads there
+
+unfoldable pub byteAt : List ℕ → ℕ → ℕ
+byteAt file at = getD file at 0
+
+unfoldable pub u16At : List ℕ → ℕ → ℕ
+u16At file at = byteAt file at + 256 * byteAt file (at + 1)
+
+unfoldable pub u32At : List ℕ → ℕ → ℕ
+u32At file at = u16At file at + 65536 * u16At file (at + 2)
+
+-- a signed 32-bit number is kept as its unsigned bits
+abbrev pub negative : ℕ → Bool
+negative x = leb 2147483648 x
+
+-- ---- header: "fifteen signed 32-bit numbers"
+
+abbrev pub versionOf : List ℕ → ℕ
+versionOf file = u32At file 0
+
+abbrev pub checkNumberOf : List ℕ → ℕ
+checkNumberOf file = u32At file 4
+
+abbrev pub lumpAt : List ℕ → ℕ → Lump
+lumpAt file at = record { offset = u32At file at; count = u32At file (at + 4) }
+
+-- "offset and count of statements, global definitions, field definitions, functions, strings, cells; cells per entity"
+unfoldable pub fileOf : List ℕ → FileRecord
+fileOf file =
+    record {
+      length = length file;
+      statements = lumpAt file 8;
+      globaldefs = lumpAt file 16;
+      fielddefs = lumpAt file 24;
+      functions = lumpAt file 32;
+      strings = lumpAt file 40;
+      globals = lumpAt file 48;
+      entityfields = u32At file 56;
+    }
+
+-- ---- what the header may say: the conditions of refusals 1, 4, 10 and 11
+
+abbrev pub lengthFits : FileRecord → Bool
+lengthFits r = leb 60 (r .length) && leb (r .length) 1048576
+
+-- neither number is negative, and the records end in the file; "an empty lump may have any non-negative offset"
+abbrev pub lumpFits : ℕ → ℕ → Lump → Bool
+lumpFits size end l =
+    not (negative (l .offset)) && not (negative (l .count)) && (eqb (l .count) 0 || leb (l .offset + size * l .count) end)
+
+-- "Record sizes: 8, 8, 8, 36, 1, 4 bytes. Lumps may overlap"
+unfoldable pub lumpsFit : FileRecord → Bool
+lumpsFit r =
+    lumpFits 8 (r .length) (r .statements)
+    && lumpFits 8 (r .length) (r .globaldefs)
+    && lumpFits 8 (r .length) (r .fielddefs)
+    && lumpFits 36 (r .length) (r .functions)
+    && lumpFits 1 (r .length) (r .strings)
+    && lumpFits 4 (r .length) (r .globals)
+
+-- "10: under 36 or over 32,768"; R-7 raises the least number
+abbrev pub leastCells : ℕ
+leastCells = 36
+
+abbrev pub cellsFit : ℕ → FileRecord → Bool
+cellsFit least r = leb least (r .globals .count) && leb (r .globals .count) 32768
+
+abbrev pub entityFits : FileRecord → Bool
+entityFits r = leb 105 (r .entityfields) && not (negative (r .entityfields))
+
+-- ---- records
+
+-- n records of a size, one behind the other from byte `at` on
+unfoldable pub records : {A : Type 0} → (ℕ → A) → ℕ → ℕ → ℕ → List A
+records read size zero at = []
+records read size (suc n) at = read at ∷ records read size n (at + size)
+
+abbrev pub recordsIn : {A : Type 0} → (ℕ → A) → ℕ → Lump → List A
+recordsIn read size l = records read size (l .count) (l .offset)
+
+-- "Statement: opcode, three operands, each signed 16 bits"
+abbrev pub readStatement : List ℕ → ℕ → Statement
+readStatement file at =
+    record { opcode = u16At file at; arg1 = u16At file (at + 2); arg2 = u16At file (at + 4); arg3 = u16At file (at + 6) }
+
+-- "Definition: type and cell, each unsigned 16 bits; name offset, signed 32"
+abbrev pub readDefinition : List ℕ → ℕ → Definition
+readDefinition file at = record { kind = u16At file at; offset = u16At file (at + 2); name = u32At file (at + 4) }
+
+-- "Function: first statement, first local cell, local count, a profile number that is ignored, name, source file, argument count (signed 32 each);
+-- eight argument sizes (a byte each)"
+abbrev pub readFunction : List ℕ → ℕ → FunctionDef
+readFunction file at =
+    record {
+      first = u32At file at;
+      start = u32At file (at + 4);
+      locals = u32At file (at + 8);
+      name = u32At file (at + 16);
+      srcfile = u32At file (at + 20);
+      argc = u32At file (at + 24);
+      argsz = records (byteAt file) 1 8 (at + 28);
+    }
+
+-- ---- contents: all that a file says, wherever its lumps stand
+
+pub record Contents : Type 0 where
+  pub statements : List Statement
+  pub globaldefs : List Definition
+  pub fielddefs : List Definition
+  pub functions : List FunctionDef
+  pub strings : List ℕ
+  -- the starting cells
+  pub globals : List ℕ
+  pub entityfields : ℕ
+
+-- with the lumps where a record of the file has them
+unfoldable pub contentsAt : FileRecord → List ℕ → Contents
+contentsAt r file =
+    record {
+      statements = recordsIn (readStatement file) 8 (r .statements);
+      globaldefs = recordsIn (readDefinition file) 8 (r .globaldefs);
+      fielddefs = recordsIn (readDefinition file) 8 (r .fielddefs);
+      functions = recordsIn (readFunction file) 36 (r .functions);
+      strings = recordsIn (byteAt file) 1 (r .strings);
+      globals = recordsIn (u32At file) 4 (r .globals);
+      entityfields = r .entityfields;
+    }
+
+abbrev pub contentsOf : List ℕ → Contents
+contentsOf file = contentsAt (fileOf file) file
+
+-- ---- functions and builtins
+
+abbrev pub noFunction : FunctionDef
+noFunction = record { first = 0; start = 0; locals = 0; name = 0; srcfile = 0; argc = 0; argsz = [] }
+
+abbrev pub between : ℕ → ℕ → ℕ → Bool
+between low high n = leb low n && leb n high
+
+-- "1-4, 6-32, 34-38, 40-41, 43-49, 51-59, 67-70, 72-78"
+unfoldable pub builtinNumber : ℕ → Bool
+builtinNumber n =
+    between 1 4 n
+    || between 6 32 n
+    || between 34 38 n
+    || between 40 41 n
+    || between 43 49 n
+    || between 51 59 n
+    || between 67 70 n
+    || between 72 78 n
+
+-- "A negative first statement is a builtin: minus" its number
+abbrev pub isBuiltin : FunctionDef → Bool
+isBuiltin d = negative (d .first)
+
+abbrev pub builtinOf : FunctionDef → ℕ
+builtinOf d = 4294967296 - d .first
+
+-- the condition of refusal 5
+abbrev pub builtinKnown : FunctionDef → Bool
+builtinKnown d = not (isBuiltin d) || builtinNumber (builtinOf d)

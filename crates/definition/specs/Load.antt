@@ -1,0 +1,114 @@
+-- THE LOAD. Document 01's refusals 1 to 12, in the table's order, and what an accepted load leaves; and the program of a file.
+use Prim.Native.Nat.{ℕ, _+_}
+use mathlib.Core.List.{List, [], _∷_, _++_}
+use mathlib.Core.Bool.{Bool, not, _&&_}
+use lib.ListN.{length, drop}
+use lib.Dec.{leb, ltb, eqb}
+use Rattle.definition.specs.declared.Lump.{Lump}
+use Rattle.definition.specs.declared.FileRecord.{FileRecord}
+use Rattle.definition.specs.declared.Statement.{Statement}
+use Rattle.definition.specs.declared.Definition.{Definition}
+use Rattle.definition.specs.declared.FunctionDef.{FunctionDef}
+use Rattle.definition.specs.Checks.{Condition, Conditions, _otherwise_, Checked, guard}
+use Rattle.definition.specs.File.{versionOf, checkNumberOf, fileOf, lengthFits, lumpsFit, leastCells, cellsFit, entityFits}
+use Rattle.definition.specs.File.{Contents, contentsAt, contentsOf, builtinKnown}
+use Rattle.definition.specs.Cells.{typeOf}
+use Rattle.definition.specs.Statements.{fetchConditions, doesAt}
+use Rattle.definition.specs.Machine.{Program, Config, startState}
+
+-- ---- the records, each along its row
+
+-- "name or source file below 0 or not below the string length": a negative number's bits are above every length
+abbrev pub named : ℕ → ℕ → Condition
+named strings name = ltb name strings otherwise 6
+
+abbrev pub functionConditions : ℕ → FunctionDef → Conditions
+functionConditions strings d = (builtinKnown d otherwise 5) ∷ named strings (d .name) ∷ named strings (d .srcfile) ∷ []
+
+abbrev pub statementConditions : Statement → Conditions
+statementConditions st = (ltb (st .opcode) 66 otherwise 7) ∷ []
+
+abbrev pub typeKnown : Definition → Condition
+typeKnown d = leb (typeOf d) 7 otherwise 8
+
+abbrev pub globaldefConditions : ℕ → Definition → Conditions
+globaldefConditions strings d = named strings (d .name) ∷ typeKnown d ∷ []
+
+-- "9: save flag in a field definition"
+abbrev pub fielddefConditions : ℕ → Definition → Conditions
+fielddefConditions strings d = named strings (d .name) ∷ (ltb (d .kind) 32768 otherwise 9) ∷ typeKnown d ∷ []
+
+-- "load takes records in order"
+unfoldable pub each : {A : Type 0} → (A → Conditions) → List A → Conditions
+each conditions [] = []
+each conditions (x ∷ xs) = conditions x ++ each conditions xs
+
+-- ---- the load
+
+-- rows "header" to "cells" for a file beside so many lent cells and a saved store of so many; `least` is the least number of cells
+unfoldable pub loadConditions : ℕ → List ℕ → ℕ → ℕ → Conditions
+loadConditions least file lent store =
+    let r = fileOf file in
+    let k = contentsOf file in
+    let strings = r .strings .count in
+    (lengthFits r otherwise 1)
+    ∷ (eqb (versionOf file) 6 otherwise 2)
+    ∷ (eqb (checkNumberOf file) 5927 otherwise 3)
+    ∷ (lumpsFit r otherwise 4)
+    ∷ each (functionConditions strings) (k .functions)
+    ++ each statementConditions (k .statements)
+    ++ each (globaldefConditions strings) (k .globaldefs)
+    ++ each (fielddefConditions strings) (k .fielddefs)
+    ++ ((cellsFit least r otherwise 10) ∷ (entityFits r otherwise 11) ∷ (leb (r .globals .count) lent && leb 2048 store otherwise 12) ∷ [])
+
+-- "A load fills the lent cells from 0 and leaves those past the file's count"
+unfoldable pub loaded : List ℕ → List ℕ → List ℕ → Config
+loaded file cells saved =
+    record {
+      state = startState (fileOf file);
+      cells = contentsOf file .globals ++ drop (fileOf file .globals .count) cells;
+      saved = saved;
+    }
+
+unfoldable pub load : List ℕ → List ℕ → List ℕ → Checked Config
+load file cells saved = guard (loadConditions leastCells file (length cells) (length saved)) (loaded file cells saved)
+
+-- ---- the program of a file
+
+abbrev pub sameLump : Lump → Lump → Bool
+sameLump a b = eqb (a .offset) (b .offset) && eqb (a .count) (b .count)
+
+unfoldable pub sameFile : FileRecord → FileRecord → Bool
+sameFile a b =
+    eqb (a .length) (b .length)
+    && sameLump (a .statements) (b .statements)
+    && sameLump (a .globaldefs) (b .globaldefs)
+    && sameLump (a .fielddefs) (b .fielddefs)
+    && sameLump (a .functions) (b .functions)
+    && sameLump (a .strings) (b .strings)
+    && sameLump (a .globals) (b .globals)
+    && eqb (a .entityfields) (b .entityfields)
+
+-- 13: "file length, header lumps or cells per entity not as the state records, or outside 1, 4, 10 or 11; lent cells fewer than the file's"
+unfoldable pub recordedIn : List ℕ → FileRecord → ℕ → Bool
+recordedIn file r lent =
+    sameFile r (fileOf file)
+    && lengthFits r
+    && lumpsFit r
+    && cellsFit leastCells r
+    && entityFits r
+    && leb (r .globals .count) lent
+
+-- with the lumps where a record of the file has them
+unfoldable pub programAt : FileRecord → List ℕ → Program
+programAt r file =
+    let k = contentsAt r file in
+    record {
+      functions = k .functions;
+      fetching = fetchConditions (k .statements);
+      does = doesAt k;
+      recorded = recordedIn file;
+    }
+
+abbrev pub programOf : List ℕ → Program
+programOf file = programAt (fileOf file) file

@@ -1,0 +1,146 @@
+-- THE OPERATIONS that a host calls on a loaded program: entry, statement, run, carry on, abandon, raw read and write. "Later operations on a state
+-- check 13 first too", and "28 and 29 come directly after 13".
+use Prim.Native.Nat.{ℕ, zero, suc, _+_, _-_}
+use mathlib.Core.List.{List, [], _∷_, _++_}
+use mathlib.Core.Bool.{Bool, true, false, not, _&&_}
+use lib.IntN.{ℤ, pos, negsuc, _+ℤ_}
+use lib.ListN.{length, getD, set}
+use lib.Dec.{leb, ltb, eqb}
+use Rattle.definition.specs.declared.StackFrame.{StackFrame}
+use Rattle.definition.specs.declared.RunAnswer.the-variants.{Refused}
+use Rattle.definition.specs.Checks.{Condition, Conditions, _otherwise_, judge, Checked, refused, accepted, guard}
+use Rattle.definition.specs.File.{negative, between}
+use Rattle.definition.specs.Statements.{Does, next, calls, returns, refuses, handsOver, placeOf}
+use Rattle.definition.specs.Machine.{Program, functionOf, State, Config, countOf, limits, zeroFrame, withCells, advanced}
+use Rattle.definition.specs.Machine.{entryConditions, entered, leaveConditions, left, Stepped, refusedStep, step, Ran, runFor}
+
+-- ---- check 13
+
+-- the functions of frames k down to 1
+unfoldable pub frameFunctions : ℕ → List StackFrame → List ℕ
+frameFunctions zero frames = []
+frameFunctions (suc k) frames = getD frames (suc k) zeroFrame .«func_id» ∷ frameFunctions k frames
+
+abbrev pub enteredAt : ℕ → ℕ → List StackFrame → List ℕ
+enteredAt zero f frames = []
+enteredAt (suc k) f frames = f ∷ frameFunctions k frames
+
+-- "an entered function (at depth above 0 the current one and every frame's but the lowest)"
+unfoldable pub enteredFunctions : State → List ℕ
+enteredFunctions s = enteredAt (s .depth) (s .function) (s .frames)
+
+-- none is "absent or of negative local count"
+unfoldable pub allPresent : Program → List ℕ → Bool
+allPresent P [] = true
+allPresent P (f ∷ fs) = ltb f (length (P .functions)) && not (negative (functionOf P f .locals)) && allPresent P fs
+
+unfoldable pub localsOf : Program → List ℕ → ℕ
+localsOf P [] = 0
+localsOf P (f ∷ fs) = functionOf P f .locals + localsOf P fs
+
+-- the row "any operation on a state"
+unfoldable pub sound : Program → Config → Bool
+sound P c =
+    P .recorded (c .state .file) (length (c .cells))
+    && leb 2048 (length (c .saved))
+    && leb (c .state .depth) (limits (c .state .file) .depth)
+    && allPresent P (enteredFunctions (c .state))
+    && leb (c .state .saved) (limits (c .state .file) .saved)
+    && eqb (c .state .saved) (localsOf P (enteredFunctions (c .state)))
+
+-- ---- the numbers that a host gives are signed
+
+abbrev pub natural : ℤ → ℕ
+natural (pos n) = n
+natural (negsuc n) = 0
+
+-- from 0 up to below n
+abbrev pub below : ℤ → ℕ → Bool
+below (pos i) n = ltb i n
+below (negsuc i) n = false
+
+abbrev pub permitted : ℤ → ℕ → Bool
+permitted (pos n) most = between 1 most n
+permitted (negsuc n) most = false
+
+-- ---- entry, statement, run
+
+unfoldable pub hostEnter : Program → ℤ → Config → Checked Config
+hostEnter P f c =
+    let i = placeOf (length (P .functions)) f in
+    guard ((sound P c otherwise 13) ∷ entryConditions P i c) (entered P i (c .state .pc) c)
+
+abbrev pub stepIf : Bool → Stepped → Stepped
+stepIf true s = s
+stepIf false s = refusedStep 13
+
+unfoldable pub statement : Program → Config → Stepped
+statement P c = stepIf (sound P c) (step P c)
+
+-- "28: limit outside 1 to 99,999; 29: target below 0, or not below the depth"
+unfoldable pub runConditions : Program → ℤ → ℤ → Config → Conditions
+runConditions P target limit c =
+    (sound P c otherwise 13)
+    ∷ (permitted limit (limits (c .state .file) .run) otherwise 28)
+    ∷ (below target (c .state .depth) otherwise 29)
+    ∷ []
+
+abbrev pub runAfter : ℕ → Program → ℕ → ℕ → Config → Ran
+runAfter zero P target limit c = runFor P limit target c
+runAfter (suc n) P target limit c = record { answer = Refused (suc n); count = 0; config = c }
+
+unfoldable pub run : Program → ℤ → ℤ → Config → Ran
+run P target limit c = runAfter (judge (runConditions P target limit c)) P (natural target) (natural limit) c
+
+-- ---- carry on and abandon
+
+abbrev pub isHandedOver : Does → Bool
+isHandedOver (next p cells) = false
+isHandedOver (calls f) = false
+isHandedOver (returns a) = false
+isHandedOver (refuses n) = false
+isHandedOver (handsOver h) = true
+
+-- "14, 7, then 27: that statement, with the cells as they now are, would not be handed over"
+unfoldable pub carryOnConditions : Program → Config → Conditions
+carryOnConditions P c =
+    (sound P c otherwise 13)
+    ∷ P .fetching (c .state .pc)
+    ++ ((isHandedOver (P .does (c .state .pc) (c .cells)) otherwise 27) ∷ [])
+
+-- "until the host carries on by one"
+unfoldable pub carryOn : Program → Config → Checked Config
+carryOn P c = guard (carryOnConditions P c) (advanced c (c .state .pc +ℤ pos 1) (c .cells))
+
+-- n leavings, "innermost first, no return value"
+unfoldable pub leftTimes : Program → ℕ → Config → Config
+leftTimes P zero c = c
+leftTimes P (suc n) c = leftTimes P n (left P c)
+
+unfoldable pub leavingsConditions : Program → ℕ → Config → Conditions
+leavingsConditions P zero c = []
+leavingsConditions P (suc n) c = leaveConditions P c ++ leavingsConditions P n (left P c)
+
+abbrev pub leavingsTo : ℤ → Config → ℕ
+leavingsTo target c = c .state .depth - natural target
+
+-- "29: target below 0, or above the depth"; "15 if any local cell to be restored is missing"
+unfoldable pub abandonConditions : Program → ℤ → Config → Conditions
+abandonConditions P target c =
+    (sound P c otherwise 13)
+    ∷ (below target (c .state .depth + 1) otherwise 29)
+    ∷ leavingsConditions P (leavingsTo target c) c
+
+unfoldable pub abandon : Program → ℤ → Config → Checked Config
+abandon P target c = guard (abandonConditions P target c) (leftTimes P (leavingsTo target c) c)
+
+-- ---- raw access
+
+abbrev pub rawConditions : Program → ℤ → Config → Conditions
+rawConditions P a c = (sound P c otherwise 13) ∷ (below a (countOf c) otherwise 15) ∷ []
+
+unfoldable pub rawRead : Program → ℤ → Config → Checked ℕ
+rawRead P a c = guard (rawConditions P a c) (getD (c .cells) (natural a) 0)
+
+unfoldable pub rawWrite : Program → ℤ → ℕ → Config → Checked Config
+rawWrite P a v c = guard (rawConditions P a c) (withCells c (set (c .cells) (natural a) v))

@@ -1,0 +1,266 @@
+-- STATEMENTS. Document 01, "Cells and statements", globals.rs and pr_exec.c: what a statement does with the cells, for all 66 opcodes.
+use Prim.Native.Nat.{ℕ, zero, suc, _+_, _*_}
+use mathlib.Core.List.{List, [], _∷_, _++_}
+use mathlib.Core.Bool.{Bool, true, false, not, _&&_, _||_, Bool·beq, cond}
+use lib.ListN.{length, getD, set}
+use lib.Dec.{leb, ltb, eqb}
+use lib.IntN.{ℤ, pos, negsuc, _+ℤ_}
+use Rattle.definition.specs.declared.Statement.{Statement}
+use Rattle.definition.specs.declared.FunctionDef.{FunctionDef}
+use Rattle.definition.specs.declared.Handover.{Handover}
+use Rattle.definition.specs.declared.Handover.the-variants.{Builtin, Opcode}
+use Rattle.definition.specs.Checks.{Condition, Conditions, _otherwise_, judge}
+use Rattle.definition.specs.File.{Contents, noFunction, isBuiltin, builtinOf, builtinKnown}
+use Rattle.definition.specs.Floats.{addF, subF, mulF, divF, eqF, neF, leF, geF, ltF, gtF, andF, orF, notF, bitAndF, bitOrF, isZero, flag}
+use Rattle.definition.specs.Floats.{mulV, eqV, neV, notV, eqN, neN, notN}
+use Rattle.definition.specs.Cells.{string, float, vector, entity, field, function, cellOf, signed, Typing, typingOf}
+use Rattle.definition.specs.Cells.{addressed, cellAccess, access, mustBePositive, readAccess}
+
+-- what the statement at a position does, with the cells as they are
+pub data Does : Type 0 where
+  -- it completes, and neither enters nor leaves a function: the new position, the new cells
+  next : ℤ → List ℕ → Does
+  -- a Call of that function, which is none of 19, 20, 5 or a builtin
+  calls : ℕ → Does
+  -- a Return or Done of the three cells from that one on
+  returns : ℕ → Does
+  refuses : ℕ → Does
+  handsOver : Handover → Does
+
+abbrev pub orRefused : ℕ → Does → Does
+orRefused zero d = d
+orRefused (suc n) d = refuses (suc n)
+
+-- what is done, where all the conditions hold
+abbrev pub provided : Conditions → Does → Does
+provided cs d = orRefused (judge cs) d
+
+-- ---- opcodes by the shape of what they do
+
+pub data Shape : Type 0 where
+  -- two floats to a float
+  floats : (ℕ → ℕ → ℕ) → Shape
+  -- two values of a type, entity or function, to a float
+  values : ℕ → (ℕ → ℕ → ℕ) → Shape
+  -- two operands, each a vector or a float for each component, to a vector
+  vectors : ℕ → ℕ → (ℕ → ℕ → ℕ) → Shape
+  -- two vectors to a float
+  dots : (ℕ → ℕ → ℕ → ℕ → ℕ → ℕ → ℕ) → Shape
+  -- two strings to a float, by number
+  strings : (ℕ → ℕ → ℕ) → Shape
+  -- a Not: a value of a type to a float; NotV and NotS go their own ways
+  negates : ℕ → (ℕ → ℕ) → Shape
+  negatesV : Shape
+  negatesS : Shape
+  -- a Store of a type; StoreV goes its own way
+  stores : ℕ → Shape
+  storesV : Shape
+  -- IfNot jumps when the float is zero (true), If when it is not (false)
+  branches : Bool → Shape
+  jumps : Shape
+  call : Shape
+  return : Shape
+  -- "24 to 30, 37 to 42 and 60 go to the host"
+  host : Shape
+
+-- opcodes 0 to 65 (ops.rs)
+unfoldable pub opcodes : List Shape
+opcodes =
+    -- 0: Done, MulF, MulV, MulFV, MulVF, Div
+    (return ∷ floats mulF ∷ dots mulV ∷ vectors float vector mulF ∷ vectors vector float mulF ∷ floats divF ∷ [])
+    -- 6: AddF, AddV, SubF, SubV
+    ++ (floats addF ∷ vectors vector vector addF ∷ floats subF ∷ vectors vector vector subF ∷ [])
+    -- 10: EqF, EqV, EqS, EqEnt, EqFnc; NeF, NeV, NeS, NeEnt, NeFnc
+    ++ (floats eqF ∷ dots eqV ∷ strings eqN ∷ values entity eqN ∷ values function eqN ∷ [])
+    ++ (floats neF ∷ dots neV ∷ strings neN ∷ values entity neN ∷ values function neN ∷ [])
+    -- 20: Le, Ge, Lt, Gt
+    ++ (floats leF ∷ floats geF ∷ floats ltF ∷ floats gtF ∷ [])
+    -- 24: LoadF, LoadV, LoadS, LoadEnt, LoadFld, LoadFnc, Address
+    ++ (host ∷ host ∷ host ∷ host ∷ host ∷ host ∷ host ∷ [])
+    -- 31: StoreF, StoreV, StoreS, StoreEnt, StoreFld, StoreFnc
+    ++ (stores float ∷ storesV ∷ stores string ∷ stores entity ∷ stores field ∷ stores function ∷ [])
+    -- 37: StorePF, StorePV, StorePS, StorePEnt, StorePFld, StorePFnc
+    ++ (host ∷ host ∷ host ∷ host ∷ host ∷ host ∷ [])
+    -- 43: Return; NotF, NotV, NotS, NotEnt, NotFnc; If, IfNot
+    ++ (return ∷ negates float notF ∷ negatesV ∷ negatesS ∷ negates entity notN ∷ negates function notN ∷ branches false ∷ branches true ∷ [])
+    -- 51: Call0 to Call8
+    ++ (call ∷ call ∷ call ∷ call ∷ call ∷ call ∷ call ∷ call ∷ call ∷ [])
+    -- 60: State, Goto, And, Or, BitAnd, BitOr
+    ++ (host ∷ jumps ∷ floats andF ∷ floats orF ∷ floats bitAndF ∷ floats bitOrF ∷ [])
+
+unfoldable pub shapeOf : ℕ → Shape
+unfolding opcodes
+shapeOf opcode = getD opcodes opcode host
+
+-- ---- the shapes, where the operands name the cells a, b and c ("Operand order is first, second, destination"). Statements "but an entering Call,
+-- Return and Done add 1" to the position.
+
+unfoldable pub floatsDo : (ℕ → ℕ → ℕ) → Typing → ℤ → ℕ → ℕ → ℕ → List ℕ → Does
+floatsDo f g p a b c cells =
+    provided
+    (access g float a ++ access g float b ++ access g float c)
+    (next (p +ℤ pos 1) (set cells c (f (getD cells a 0) (getD cells b 0))))
+
+unfoldable pub valuesDo : ℕ → (ℕ → ℕ → ℕ) → Typing → ℤ → ℕ → ℕ → ℕ → List ℕ → Does
+valuesDo t f g p a b c cells =
+    provided
+    (readAccess g (mustBePositive t) t a cells ++ readAccess g (mustBePositive t) t b cells ++ access g float c)
+    (next (p +ℤ pos 1) (set cells c (f (getD cells a 0) (getD cells b 0))))
+
+-- the cell of component i of an operand of a type: a float serves for all three
+abbrev pub component : ℕ → ℕ → ℕ → ℕ
+component t cell i = cond (eqb t vector) (cell + i) cell
+
+-- "Vector arithmetic reads all before writing"
+unfoldable pub vectorResult : ℕ → ℕ → (ℕ → ℕ → ℕ) → ℕ → ℕ → ℕ → List ℕ → List ℕ
+vectorResult ta tb f a b c cells =
+    set
+    (set
+    (set cells c (f (getD cells a 0) (getD cells b 0)))
+    (c + 1) (f (getD cells (component ta a 1) 0) (getD cells (component tb b 1) 0)))
+    (c + 2) (f (getD cells (component ta a 2) 0) (getD cells (component tb b 2) 0))
+
+unfoldable pub vectorsDo : ℕ → ℕ → (ℕ → ℕ → ℕ) → Typing → ℤ → ℕ → ℕ → ℕ → List ℕ → Does
+vectorsDo ta tb f g p a b c cells =
+    provided
+    (access g ta a ++ access g tb b ++ access g vector c)
+    (next (p +ℤ pos 1) (vectorResult ta tb f a b c cells))
+
+unfoldable pub dotsDo : (ℕ → ℕ → ℕ → ℕ → ℕ → ℕ → ℕ) → Typing → ℤ → ℕ → ℕ → ℕ → List ℕ → Does
+dotsDo f g p a b c cells =
+    provided
+    (access g vector a ++ access g vector b ++ access g float c)
+    (next (p +ℤ pos 1)
+    (set cells c
+    (f (getD cells a 0) (getD cells (a + 1) 0) (getD cells (a + 2) 0) (getD cells b 0) (getD cells (b + 1) 0) (getD cells (b + 2) 0))))
+
+-- "EqS, NeS and NotS refuse negative operands 15 before any type check"
+abbrev pub operandGiven : ℕ → Conditions
+operandGiven cell = (ltb cell 32768 otherwise 15) ∷ []
+
+-- "EqS and NeS then compare string numbers, but equal operands are neither read nor checked further and count as equal"
+abbrev pub stringAccess : Typing → ℕ → ℕ → Conditions
+stringAccess g a b = cond (eqb a b) [] (access g string a ++ access g string b)
+
+abbrev pub stringResult : (ℕ → ℕ → ℕ) → ℕ → ℕ → List ℕ → ℕ
+stringResult f a b cells = cond (eqb a b) (f 0 0) (f (getD cells a 0) (getD cells b 0))
+
+unfoldable pub stringsDo : (ℕ → ℕ → ℕ) → Typing → ℤ → ℕ → ℕ → ℕ → List ℕ → Does
+stringsDo f g p a b c cells =
+    provided
+    (operandGiven a ++ operandGiven b ++ stringAccess g a b ++ access g float c)
+    (next (p +ℤ pos 1) (set cells c (stringResult f a b cells)))
+
+-- "18: third operand of a Store (31 to 36) or second of a Not isn't 0"
+abbrev pub unused : ℕ → Conditions
+unused cell = (eqb cell 0 otherwise 18) ∷ []
+
+unfoldable pub negatesDo : ℕ → (ℕ → ℕ) → Typing → ℤ → ℕ → ℕ → ℕ → List ℕ → Does
+negatesDo t f g p a b c cells =
+    provided
+    (unused b ++ readAccess g (mustBePositive t) t a cells ++ access g float c)
+    (next (p +ℤ pos 1) (set cells c (f (getD cells a 0))))
+
+-- NotV writes one float (pr_exec.c)
+unfoldable pub negatesVDo : Typing → ℤ → ℕ → ℕ → ℕ → List ℕ → Does
+negatesVDo g p a b c cells =
+    provided
+    (unused b ++ access g vector a ++ access g float c)
+    (next (p +ℤ pos 1) (set cells c (notV (getD cells a 0) (getD cells (a + 1) 0) (getD cells (a + 2) 0))))
+
+-- "NotS gives 1.0 for operand 0, as the Rust does, or string number 0; operand 0 is still checked"
+unfoldable pub negatesSDo : Typing → ℤ → ℕ → ℕ → ℕ → List ℕ → Does
+negatesSDo g p a b c cells =
+    provided
+    (unused b ++ operandGiven a ++ access g string a ++ access g float c)
+    (next (p +ℤ pos 1) (set cells c (flag (eqb a 0 || eqb (getD cells a 0) 0))))
+
+abbrev pub moved : ℕ → ℕ → List ℕ → List ℕ
+moved a b cells = set cells b (getD cells a 0)
+
+-- "negative entity or field read, or negative string in StoreS"
+abbrev pub storedPositive : ℕ → Bool
+storedPositive t = mustBePositive t || eqb t string
+
+unfoldable pub storesDo : ℕ → Typing → ℤ → ℕ → ℕ → ℕ → List ℕ → Does
+storesDo t g p a b c cells =
+    provided
+    (unused c ++ readAccess g (storedPositive t) t a cells ++ access g t b)
+    (next (p +ℤ pos 1) (moved a b cells))
+
+-- "where the destination is 1 to 27 all three, source and destination, are checked by address alone"
+abbrev pub argumentCell : ℕ → Bool
+argumentCell cell = leb 1 cell && leb cell 27
+
+abbrev pub moveAccess : Typing → Bool → ℕ → ℕ → Conditions
+moveAccess g raw a b = cond raw (addressed g a ++ addressed g b) (cellAccess g float a ++ cellAccess g float b)
+
+-- "StoreV goes cell by cell, source before destination, each typed as float"
+unfoldable pub storesVDo : Typing → ℤ → ℕ → ℕ → ℕ → List ℕ → Does
+storesVDo g p a b c cells =
+    let raw = argumentCell b in
+    provided
+    (unused c ++ moveAccess g raw a b ++ moveAccess g raw (a + 1) (b + 1) ++ moveAccess g raw (a + 2) (b + 2))
+    (next (p +ℤ pos 1) (moved (a + 2) (b + 2) (moved (a + 1) (b + 1) (moved a b cells))))
+
+-- "If jumps unless the float is +0 or -0 (so on NaN); IfNot jumps on those two. A jump adds to the position"
+unfoldable pub branchesDo : Bool → Typing → ℤ → ℕ → ℤ → List ℕ → Does
+branchesDo when g p a by cells =
+    provided (access g float a) (next (p +ℤ cond (Bool·beq (isZero (getD cells a 0)) when) by (pos 1)) cells)
+
+-- "19: function 0; 20: no such function; 5 again; a builtin is then handed over"
+unfoldable pub callOf : List FunctionDef → ℕ → Does
+callOf functions f =
+    let d = getD functions f noFunction in
+    provided
+    ((not (eqb f 0) otherwise 19) ∷ (ltb f (length functions) otherwise 20) ∷ (builtinKnown d otherwise 5) ∷ [])
+    (cond (isBuiltin d) (handsOver (Builtin (builtinOf d))) (calls f))
+
+unfoldable pub callDoes : List FunctionDef → Typing → ℕ → List ℕ → Does
+callDoes functions g a cells = provided (access g function a) (callOf functions (getD cells a 0))
+
+-- ---- fetch and execution
+
+abbrev pub noStatement : Statement
+noStatement = record { opcode = 0; arg1 = 0; arg2 = 0; arg3 = 0 }
+
+-- a signed number as one of n places, n where it is negative
+abbrev pub placeOf : ℕ → ℤ → ℕ
+placeOf n (pos i) = i
+placeOf n (negsuc i) = n
+
+abbrev pub statementAt : List Statement → ℤ → Statement
+statementAt statements p = getD statements (placeOf (length statements) p) noStatement
+
+-- "14: no statement there", "below 0 too", then "7: opcode"
+unfoldable pub fetchConditions : List Statement → ℤ → Conditions
+fetchConditions statements p =
+    (ltb (placeOf (length statements) p) (length statements) otherwise 14)
+    ∷ (ltb (statementAt statements p .opcode) 66 otherwise 7)
+    ∷ []
+
+-- a statement of a shape at the position p, whose operands name the cells a, b and c
+abbrev pub executeAs : Shape → Contents → Typing → ℤ → Statement → ℕ → ℕ → ℕ → List ℕ → Does
+executeAs (floats f) k g p st a b c cells = floatsDo f g p a b c cells
+executeAs (values t f) k g p st a b c cells = valuesDo t f g p a b c cells
+executeAs (vectors ta tb f) k g p st a b c cells = vectorsDo ta tb f g p a b c cells
+executeAs (dots f) k g p st a b c cells = dotsDo f g p a b c cells
+executeAs (strings f) k g p st a b c cells = stringsDo f g p a b c cells
+executeAs (negates t f) k g p st a b c cells = negatesDo t f g p a b c cells
+executeAs negatesV k g p st a b c cells = negatesVDo g p a b c cells
+executeAs negatesS k g p st a b c cells = negatesSDo g p a b c cells
+executeAs (stores t) k g p st a b c cells = storesDo t g p a b c cells
+executeAs storesV k g p st a b c cells = storesVDo g p a b c cells
+executeAs (branches when) k g p st a b c cells = branchesDo when g p a (signed (st .arg2)) cells
+executeAs jumps k g p st a b c cells = next (p +ℤ signed (st .arg1)) cells
+executeAs call k g p st a b c cells = callDoes (k .functions) g a cells
+executeAs return k g p st a b c cells = returns a
+executeAs host k g p st a b c cells = handsOver (Opcode (st .opcode))
+
+unfoldable pub execute : Contents → ℤ → Statement → List ℕ → Does
+execute k p st cells =
+    executeAs (shapeOf (st .opcode)) k (typingOf k) p st (cellOf (st .arg1)) (cellOf (st .arg2)) (cellOf (st .arg3)) cells
+
+-- the statement at the position p
+unfoldable pub doesAt : Contents → ℤ → List ℕ → Does
+doesAt k p cells = provided (fetchConditions (k .statements) p) (execute k p (statementAt (k .statements) p) cells)
