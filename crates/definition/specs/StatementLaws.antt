@@ -20,8 +20,8 @@ use Rattle.definition.specs.Floats.{flag, notV, isZero}
 use Rattle.definition.specs.Cells.{float, vector, string, function, cellOf, signed, Typing, typingOf, typeIs, addressed, cellAccess, vectorAccess, access, mustBePositive, readAccess}
 use Rattle.definition.specs.Statements.{Does, next, calls, returns, refuses, handsOver, orRefused, provided, moved}
 use Rattle.definition.specs.Statements.{Shape, floats, values, vectors, dots, strings, negates, negatesV, negatesS, stores, storesV, branches, jumps, call, return, host, opcodes, shapeOf}
-use Rattle.definition.specs.Statements.{floatsDo, valuesDo, vectorResult, vectorsDo, dotsDo, operandGiven, stringAccess, stringResult, stringsDo, unused, negatesDo, negatesVDo, negatesSDo}
-use Rattle.definition.specs.Statements.{storedPositive, storesDo, argumentCell, moveAccess, storesVDo, branchesDo, callOf, callDoes, statementAt, fetchConditions, executeAs, execute, doesAt}
+use Rattle.definition.specs.Statements.{floatsEffect, valuesEffect, vectorResult, vectorsEffect, dotsEffect, operandGiven, stringAccess, stringResult, stringsEffect, unused, negatesEffect, negatesVEffect, negatesSEffect}
+use Rattle.definition.specs.Statements.{storedPositive, storesEffect, argumentCell, moveAccess, storesVEffect, branchesDo, callOf, callDoes, statementAt, fetchConditions, executeAs, execute, doesAt}
 use Rattle.definition.specs.Machine.{Program}
 use Rattle.definition.specs.Load.{programAt, programOf}
 use Rattle.definition.specs.Returns.{functionIn, Kind, entry, leaving, other, statementKind}
@@ -192,7 +192,7 @@ module _ (k : Contents) (p : ℤ) (st : Statement) (cells : List ℕ) (κ : Kind
     as-call : isCall s ≡ true → Called (k .functions) p (getD cells a 0) κ
 
   executed : (s : Shape) → Expected s → Is count p cells κ (executeAs s k (typingOf k) p st a b c cells)
-  unfolding floatsDo valuesDo vectorsDo vectorResult dotsDo stringsDo negatesDo negatesVDo negatesSDo storesDo storesVDo branchesDo callDoes
+  unfolding floatsEffect valuesEffect vectorsEffect vectorResult dotsEffect stringsEffect negatesEffect negatesVEffect negatesSEffect storesEffect storesVEffect branchesDo callDoes
   executed (floats f) e = provided-is count p cells κ _ _ λ h. (
     e .as-other refl refl,
     keeps-one count cells c _ (access-below (typingOf k) float c (all-back (access (typingOf k) float a ++ access (typingOf k) float b) _ h)),
