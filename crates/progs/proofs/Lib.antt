@@ -1,1 +1,4 @@
 pub mod CopyLaws
+pub mod OutcomeLaws
+pub mod EntryLaws
+pub mod LeaveLaws

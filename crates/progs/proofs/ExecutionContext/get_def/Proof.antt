@@ -1,0 +1,16 @@
+use Rattle.progs.proofs.ExecutionContext.get_def.Statement.{statement}
+use Rattle.progs.proofs.ExecutionContext.get_def.Tie as tie
+use Rattle.progs.proofs.ExecutionContext.get_def.Reads as reads
+use Rattle.progs.proofs.ExecutionContext.get_def.Lts as lts
+use Rattle.functions.proofs.get_def.Reads as get-def-reads
+
+-- src/calls.rt:58:9
+get-def-requires : tie.Need-get-def-requires
+get-def-requires c κs = ?
+
+-- src/calls.rt:51:5
+returns : tie.Need-returns
+returns c = ?
+
+pub get-def-spec : {M : Type 1} → statement M
+get-def-spec = tie.close (tie.spec get-def-requires returns)

@@ -1,0 +1,71 @@
+-- The conditions of a leaving, test by test, and what it is for all to hold; the same for a Return.
+use Prim.Native.Nat.{ℕ, zero, suc, _+_, _-_, _≤_, _<_}
+use mathlib.Core.Path.{_≡_, refl, sym, _∙_, ap}
+use mathlib.Core.List.{List, [], _∷_}
+use mathlib.Core.Bool.{Bool, true, false}
+use native.Mathlib.Omega.{arith}
+use borrow.Author.Tests.{lt-ltb, le-ltb, le-leb, lt-leb, ltb-true, leb-true}
+use lib.ListN.{length, drop}
+use lib.Seq.{paste}
+use lib.Dec.{leb, ltb}
+use Rattle.definition.specs.Checks.{Conditions, _otherwise_, judge}
+use Rattle.definition.specs.Machine.{Program, functionOf, Config, present, copied, successive, withCells, leaveConditions, left, leave, returnConditions, returned}
+use Rattle.definition.specs.CheckLaws.{All, judge-passed}
+use Rattle.progs.specs.declared.ExecutionContext.{ExecutionContext}
+use Rattle.progs.specs.declared.Answered.{Answered}
+use Rattle.progs.specs.declared.calls.Locals.{Locals}
+use Rattle.progs.specs.Contexts.{stateOf, config, bare, rangeOf, outcomeOf, after, refusing, accepting, return}
+use Rattle.progs.proofs.OutcomeLaws.{refused-outcome, accepted-outcome}
+
+module _ (x : ExecutionContext) (l : Locals) (P : Program) (e : l ≡ rangeOf (functionOf P (x .«current_function»))) where
+  abbrev number : ℕ
+  number = judge (leaveConditions P (bare x))
+
+  start-is : functionOf P (x .«current_function») .start ≡ l .start
+  start-is = ap (λ (r : Locals). r .start) (sym e)
+
+  count-is : functionOf P (x .«current_function») .locals ≡ l .count
+  count-is = ap (λ (r : Locals). r .count) (sym e)
+
+  pub leave-25 : x .depth ≡ 0 → 25 ≡ number
+  unfolding leaveConditions judge
+  leave-25 h = rw h
+
+  pub leave-26 : (x .depth ≡ 0 → ⊥) → x .saved < l .count → 26 ≡ number
+  unfolding leaveConditions judge
+  leave-26 h k = rw (lt-ltb 0 (x .depth) (omega arith), count-is, lt-leb (l .count) (x .saved) k)
+
+  past : (x .depth ≡ 0 → ⊥) → l .count ≤ x .saved → number ≡ judge ((present (l .start) (l .count) (x .file .globals .count) otherwise 15) ∷ [])
+  unfolding leaveConditions judge
+  past h k = rw (lt-ltb 0 (x .depth) (omega arith), start-is, count-is, le-leb (l .count) (x .saved) k)
+
+  pub leave-15 : (x .depth ≡ 0 → ⊥) → l .count ≤ x .saved → present (l .start) (l .count) (x .file .globals .count) ≡ false → 15 ≡ number
+  unfolding judge
+  leave-15 h k a = rw (past h k, a)
+
+  pub leave-0 : (x .depth ≡ 0 → ⊥) → l .count ≤ x .saved → present (l .start) (l .count) (x .file .globals .count) ≡ true → 0 ≡ number
+  unfolding judge
+  leave-0 h k a = rw (past h k, a)
+
+  -- what an accepted leaving knows
+  pub record Leaves : Type 0 where
+    pub inside : 0 < x .depth
+    pub enough : l .count ≤ x .saved
+    pub locals-there : present (l .start) (l .count) (x .file .globals .count) ≡ true
+
+  pub leaves : number ≡ 0 → Leaves
+  unfolding leaveConditions
+  leaves z =
+      let h = judge-passed (leaveConditions P (bare x)) z in
+      record {
+        inside = ltb-true _ _ (h .0);
+        enough = rw (← count-is) (leb-true _ _ (h .1 .0));
+        locals-there = rw (← start-is, ← count-is) (h .1 .1 .0);
+      }
+
+  -- the configuration after it
+  pub left-config : (y : ExecutionContext) (cells cells′ saved : List ℕ) → stateOf y ≡ left P (bare x) .state
+      → cells′ ≡ paste cells (l .start) (drop (x .saved - l .count) saved) (l .count)
+      → config y cells′ saved ≡ left P (config x cells saved)
+  unfolding left
+  left-config y cells cells′ saved s a = rw (s, a, start-is, count-is)

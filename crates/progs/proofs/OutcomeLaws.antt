@@ -1,0 +1,30 @@
+-- What a method that refuses and one that accepts answer, for any conditions.
+use Prim.Native.Nat.{ℕ, zero, suc, _≤_, _<_}
+use mathlib.Core.Path.{_≡_, refl, sym, _∙_, ap}
+use mathlib.Core.List.{List, _∷_}
+use mathlib.Core.Bool.{Bool, true, false}
+use native.Mathlib.Omega.{arith}
+use lib.ListN.{length}
+use Rattle.definition.specs.declared.FunctionDef.{FunctionDef}
+use Rattle.definition.specs.Checks.{Conditions, _otherwise_, judge, guard, decided}
+use Rattle.definition.specs.Machine.{Config}
+use Rattle.definition.specs.Answers.{outcome}
+use Rattle.progs.specs.declared.ExecutionContext.{ExecutionContext}
+use Rattle.progs.specs.declared.Answered.{Answered}
+use Rattle.progs.specs.Contexts.{config, outcomeOf, refusing, accepting}
+
+module _ (x : ExecutionContext) (cells saved : List ℕ) (cs : Conditions) (a : Config) where
+  pub refused-outcome : (n : ℕ) (r : Answered) → n ≡ judge cs → (n ≡ 0 → ⊥) → r ≡ refusing x n → outcomeOf r cells saved ≡ outcome (config x cells saved) (guard cs a)
+  unfolding guard
+  refused-outcome zero r e z h = absurd (z refl)
+  refused-outcome (suc n) r e z h = rw (← e, h)
+
+  pub accepted-outcome : (y : ExecutionContext) (cells′ saved′ : List ℕ) → judge cs ≡ 0 → config y cells′ saved′ ≡ a
+      → outcomeOf (accepting y) cells′ saved′ ≡ outcome (config x cells saved) (guard cs a)
+  unfolding guard
+  accepted-outcome y cells′ saved′ e h = rw (e, h)
+
+-- a condition that holds refuses nothing
+pub guard-past : (b : Bool) (n : ℕ) (cs : Conditions) (a : Config) → b ≡ true → guard ((b otherwise suc n) ∷ cs) a ≡ guard cs a
+unfolding guard judge
+guard-past b n cs a h = rw h

@@ -1,0 +1,60 @@
+-- THE CONTEXT as the definition's state, and what a method answers as the definition's outcome.
+use Prim.Native.Nat.{ℕ, _≤_}
+use mathlib.Core.Path.{_≡_}
+use mathlib.Core.List.{List, []}
+use lib.ListN.{length}
+use Rattle.definition.specs.declared.FileRecord.{FileRecord}
+use Rattle.definition.specs.declared.FunctionDef.{FunctionDef}
+use Rattle.definition.specs.declared.Answer.the-variants as answer
+use Rattle.definition.specs.Checks.{Checked, guard}
+use Rattle.definition.specs.File.{fileOf}
+use Rattle.definition.specs.Machine.{Program, State, Config, returnConditions, returned}
+use Rattle.definition.specs.Answers.{Outcome, outcome}
+use Rattle.functions.specs.Laws.{AllFitting}
+use Rattle.progs.specs.declared.ExecutionContext.{ExecutionContext}
+use Rattle.progs.specs.declared.Answered.{Answered}
+use Rattle.progs.specs.declared.calls.Locals.{Locals}
+
+abbrev pub stateOf : ExecutionContext → State
+stateOf x =
+    record { file = x .file; pc = x .pc; function = x .«current_function»; depth = x .depth; saved = x .saved; frames = x .frames }
+
+abbrev pub config : ExecutionContext → List ℕ → List ℕ → Config
+config x cells saved = record { state = stateOf x; cells = cells; saved = saved }
+
+abbrev pub outcomeOf : Answered → List ℕ → List ℕ → Outcome
+outcomeOf r cells saved = record { answer = r .answer; config = config (r .context) cells saved }
+
+-- what an operation leaves of a configuration, and what it answers
+abbrev pub after : Config → (Config → Checked Config) → Outcome
+after c operation = outcome c (operation c)
+
+abbrev pub refusing : ExecutionContext → ℕ → Answered
+refusing x n = record { answer = answer.Refused n; context = x }
+
+abbrev pub accepting : ExecutionContext → Answered
+accepting x = record { answer = answer.Accepted; context = x }
+
+-- a Return or Done of the three cells from a on
+abbrev pub return : Program → ℕ → Config → Checked Config
+return P a c = guard (returnConditions P a c) (returned P a c)
+
+-- a context without its cells: no condition of a call, and no state after one, depends on a cell
+abbrev pub bare : ExecutionContext → Config
+bare x = config x [] []
+
+abbrev pub rangeOf : FunctionDef → Locals
+rangeOf d = record { start = d .start; count = d .locals }
+
+-- ---- what check 13 establishes, and every statement keeps: with this every read of a record and every access to a checked cell is in bounds
+
+pub record Loaded (file : List ℕ) (r : FileRecord) : Type 0 where
+  pub same : r ≡ fileOf file
+  pub lumps : AllFitting r
+
+pub record Within (file : List ℕ) (x : ExecutionContext) (cells saved : ℕ) : Type 0 where
+  pub loaded : Loaded file (x .file)
+  pub lent : x .file .globals .count ≤ cells
+  pub store : 2048 ≤ saved
+  pub depth : x .depth ≤ 31
+  pub held : x .saved ≤ 2048

@@ -1,0 +1,181 @@
+// Entry, leaving and Return, after check 13.
+ghost use mathlib.Core.Path.{_≡_};
+ghost use mathlib.Core.Bool.{true};
+ghost use Prim.Native.Nat.{ℕ, _+_, _≤_, _<_};
+ghost use lib.ListN.{length};
+ghost use Rattle.definition.specs.Checks.{judge};
+ghost use Rattle.definition.specs.Machine.{Program, functionOf, present, entryConditions, entered, enter, leaveConditions, left, leave};
+ghost use Rattle.definition.specs.Load.{programOf};
+ghost use Rattle.progs.specs.Contexts.{stateOf, config, outcomeOf, after, refusing, return, bare, rangeOf, Loaded, Within};
+use crate::Answered;
+use crate::ExecutionContext;
+use crate::copies;
+use definition::Answer;
+use definition::FunctionDef;
+use definition::StackFrame;
+
+// The local range of a function.
+pub struct Locals {
+    pub start: usize,
+    pub count: usize,
+}
+
+impl ExecutionContext {
+    pub fn refused(self, n: u8) -> Answered
+        ensures { λ r. ⌜ r ≡ refusing self n ⌝ }
+    {
+        Answered {
+            context: self,
+            answer: Answer::Refused(n),
+        }
+    }
+
+    // The file's count of cells, by which 15 refuses.
+    pub fn cell_count(self) -> usize
+        ensures { λ r. ⌜ r ≡ self .file .globals .count ⌝ }
+    {
+        let file = self.file;
+        let globals = file.globals;
+        globals.count
+    }
+
+    pub fn function_count(self) -> usize
+        ensures { λ r. ⌜ r ≡ self .file .functions .count ⌝ }
+    {
+        let file = self.file;
+        let functions = file.functions;
+        functions.count
+    }
+
+    // The record of a function that is there.
+    pub fn get_def(self, file: &[u8], f: usize) -> FunctionDef
+        requires { ⌜ Loaded (now file) (self .file) ⌝ }
+        requires { ⌜ f < self .file .functions .count ⌝ }
+        ensures { λ r. ⌜ r ≡ functionOf (programOf (now (file .entry))) f ⌝ }
+    {
+        let header = self.file;
+        let table = header.functions;
+        functions::get_def(file, table.offset, table.count, f)
+    }
+
+    // The local range of the current function; one that isn't there has no locals.
+    fn locals(self, file: &[u8]) -> Locals
+        requires { ⌜ Loaded (now file) (self .file) ⌝ }
+        ensures { λ r. ⌜ r ≡ rangeOf (functionOf (programOf (now (file .entry))) (self .«current_function»)) ⌝ }
+    {
+        let f = self.current_function;
+        if self.function_count() <= f {
+            return Locals { start: 0, count: 0 };
+        }
+        let def = self.get_def(file, f);
+        Locals {
+            start: def.start as usize,
+            count: def.locals as usize,
+        }
+    }
+
+    // 0, or the number of the refusal of an entry into a function that is there.
+    fn entry_refusal(self, def: FunctionDef) -> u8
+        requires { ⌜ self .saved ≤ 2048 ⌝ }
+        ensures { λ r. ⌜ ((P : Program) (f : ℕ) → f < length (P .functions) → def ≡ functionOf P f → r ≡ judge (entryConditions P f (bare self))) ⌝ }
+    {
+        let start = def.start as usize;
+        let locals = def.locals as usize;
+        let argsz = def.argsz;
+        if 31 <= self.depth {
+            return 22;
+        }
+        // A negative count's bits are over 2,048.
+        if 2048 < self.saved + locals {
+            return 23;
+        }
+        if !copies::in_range(start, locals, self.cell_count()) {
+            return 15;
+        }
+        if 8 < def.argc {
+            return 24;
+        }
+        if !copies::arguments_in_range(argsz, start, def.argc as usize, self.cell_count()) {
+            return 15;
+        }
+        if functions::is_builtin(def) { 21 } else { 0 }
+    }
+
+    // The context in function f, which is to go back to the position `back`.
+    fn entered(self, f: usize, def: FunctionDef, back: i64) -> ExecutionContext
+        requires { ⌜ (self .depth < 31) × (self .saved + def .locals ≤ 2048) ⌝ }
+        ensures { λ r. ⌜ ((P : Program) → def ≡ functionOf P f → stateOf r ≡ entered P f back (bare self) .state) ⌝ }
+    {
+        let at = self.depth;
+        let frame = StackFrame {
+            instr_id: back,
+            func_id: self.current_function,
+        };
+        let mut next = self;
+        next.frames[at] = frame;
+        next.depth = at + 1;
+        next.saved = self.saved + def.locals as usize;
+        next.current_function = f;
+        next.pc = def.first as i64;
+        next
+    }
+
+    // Enters function f, which is to go back to the position `back`.
+    pub fn enter_function(self, file: &[u8], f: usize, back: i64, cells: &mut [u32], saved: &mut [u32]) -> Answered
+        requires { ⌜ Within (now file) self (length (now cells)) (length (now saved)) ⌝ }
+        ensures { λ r. ⌜ outcomeOf r (now (cells .exit)) (now (saved .exit)) ≡ after (config self (now (cells .entry)) (now (saved .entry))) (enter (programOf (now (file .entry))) f back) ⌝ }
+    {
+        if self.function_count() <= f {
+            return self.refused(20);
+        }
+        let def = self.get_def(file, f);
+        let refusal = self.entry_refusal(def);
+        if refusal != 0 {
+            return self.refused(refusal);
+        }
+        let start = def.start as usize;
+        let argsz = def.argsz;
+        copies::move_cells(cells, saved, start, self.saved, def.locals as usize);
+        copies::copy_arguments(cells, argsz, start, def.argc as usize);
+        Answered {
+            context: self.entered(f, def, back),
+            answer: Answer::Accepted,
+        }
+    }
+
+    // 0, or the number of the refusal to leave the current function, whose local range is `locals`.
+    fn leave_refusal(self, locals: Locals) -> u8
+        ensures { λ r. ⌜ ((P : Program) → locals ≡ rangeOf (functionOf P (self .«current_function»)) → r ≡ judge (leaveConditions P (bare self))) ⌝ }
+    {
+        if self.depth == 0 {
+            return 25;
+        }
+        if self.saved < locals.count {
+            return 26;
+        }
+        if !copies::in_range(locals.start, locals.count, self.cell_count()) {
+            return 15;
+        }
+        0
+    }
+
+    // The context after the current function, with so many locals, is left.
+    fn left(self, locals: Locals) -> ExecutionContext
+        requires { ⌜ (0 < self .depth) × ((self .depth ≤ 31) × (locals .count ≤ self .saved)) ⌝ }
+        ensures { λ r. ⌜ ((P : Program) → locals ≡ rangeOf (functionOf P (self .«current_function»)) → stateOf r ≡ left P (bare self) .state) ⌝ }
+    {
+        let at = self.depth - 1;
+        let top = self.frames[at];
+        let none = StackFrame {
+            instr_id: 0,
+            func_id: 0,
+        };
+        let mut next = self;
+        next.frames[at] = none;
+        next.depth = at;
+        next.saved = self.saved - locals.count;
+        next.current_function = top.func_id;
+        next.pc = top.instr_id;
+        next
+    }
+}
