@@ -43,6 +43,9 @@ pub present-of : (first n size : ℕ) → first + n ≤ size → present first n
 unfolding present
 present-of first n size h = rw (le-leb (first + n) size h, mathlib.Core.Bool.or-true)
 
+pub present-more : (first n size more : ℕ) → size ≤ more → present first n size ≡ true → present first n more ≡ true
+present-more first n size more h e = ⊎-elim (λ z. sym (present-none first n more z)) (λ l. present-of first n more (omega arith)) (present-cases first n size e)
+
 -- a range that starts below the top of the numbers ends there
 pub present-ends : (to n size : ℕ) → present to n size ≡ true → to < 2 ^ 64 → size < 2 ^ 64 → to + n < 2 ^ 64
 present-ends to n size h a b = ⊎-elim (λ e. omega arith) (λ e. omega arith) (present-cases to n size h)
@@ -134,6 +137,16 @@ successive-present size zero from to = refl
 successive-present size (suc n) from to =
     rw (successive-present size n (from + 1) (to + 1), ← present-suc from n size, ← present-suc to n size)
     (and-swap (ltb from size) (ltb to size) (present (from + 1) n size) (present (to + 1) n size))
+
+pub copies-more : (size more : ℕ) (ms : List Copy) → size ≤ more → copiesPresent size ms ≡ true → copiesPresent more ms ≡ true
+unfolding copiesPresent
+copies-more size more [] h e = refl
+copies-more size more (m ∷ ms) h e =
+    let both = and-left (ltb (m .from) size && ltb (m .to) size) (copiesPresent size ms) e in
+    let from = ltb-true (m .from) size (and-left (ltb (m .from) size) (ltb (m .to) size) both) in
+    let to = ltb-true (m .to) size (and-right (ltb (m .from) size) (ltb (m .to) size) both) in
+    rw (lt-ltb (m .from) more (omega arith), lt-ltb (m .to) more (omega arith))
+    (copies-more size more ms h (and-right (ltb (m .from) size && ltb (m .to) size) (copiesPresent size ms) e))
 
 -- one argument more: `sizes` are those of all arguments, and i is its number
 module _ (sizes : List ℕ) (argc i to : ℕ) (more : i < argc) (there : i < length sizes) where

@@ -32,6 +32,13 @@ module _ (x : ExecutionContext) (d : FunctionDef) where
     pub frame-free : x .depth < 31
     pub locals-fit : x .saved + d .locals ≤ 2048
 
+  -- what an accepted entry knows
+  pub record Accepted : Type 0 where
+    pub room : Room
+    pub locals-there : present (d .start) (d .locals) (x .file .globals .count) ≡ true
+    pub few : d .argc ≤ 8
+    pub arguments-there : copiesPresent (x .file .globals .count) (argumentsOf d) ≡ true
+
   module _ (P : Program) (f : ℕ) (there : f < length (P .functions)) (e : d ≡ functionOf P f) where
     abbrev number : ℕ
     number = judge (entryConditions P f (bare x))
@@ -77,19 +84,16 @@ module _ (x : ExecutionContext) (d : FunctionDef) where
           unfolding judge
           entry-0 u = rw (past h, a, le-leb (d .argc) 8 b, k, u)
 
-    -- what an accepted entry knows
-    pub record Accepted : Type 0 where
-      pub room : Room
-      pub locals-there : present (d .start) (d .locals) (x .file .globals .count) ≡ true
-      pub few : d .argc ≤ 8
-      pub arguments-there : copiesPresent (x .file .globals .count) (argumentsOf d) ≡ true
-
     pub accepted : number ≡ 0 → Accepted
     unfolding entryConditions limits
     accepted z =
         let h = judge-passed (entryConditions P f (bare x)) z in
         record {
-          room = record { frame-free = ltb-true _ _ (h .1 .0); locals-fit = rw e (leb-true _ _ (and-right (not (negative (functionOf P f .locals))) (leb (x .saved + functionOf P f .locals) 2048) (h .1 .1 .0))) };
+          room =
+              record {
+                frame-free = ltb-true _ _ (h .1 .0);
+                locals-fit = rw e (leb-true _ _ (and-right (not (negative (functionOf P f .locals))) (leb (x .saved + functionOf P f .locals) 2048) (h .1 .1 .0)));
+              };
           locals-there = rw e (h .1 .1 .1 .0);
           few = rw e (leb-true _ _ (h .1 .1 .1 .1 .0));
           arguments-there = rw e (h .1 .1 .1 .1 .1 .0);

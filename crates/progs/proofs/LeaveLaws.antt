@@ -17,6 +17,12 @@ use Rattle.progs.specs.declared.calls.Locals.{Locals}
 use Rattle.progs.specs.Contexts.{stateOf, config, bare, rangeOf, outcomeOf, after, refusing, accepting, return}
 use Rattle.progs.proofs.OutcomeLaws.{refused-outcome, accepted-outcome}
 
+-- what an accepted leaving knows
+pub record Leaves (x : ExecutionContext) (l : Locals) : Type 0 where
+  pub inside : 0 < x .depth
+  pub enough : l .count ≤ x .saved
+  pub locals-there : present (l .start) (l .count) (x .file .globals .count) ≡ true
+
 module _ (x : ExecutionContext) (l : Locals) (P : Program) (e : l ≡ rangeOf (functionOf P (x .«current_function»))) where
   abbrev number : ℕ
   number = judge (leaveConditions P (bare x))
@@ -24,7 +30,7 @@ module _ (x : ExecutionContext) (l : Locals) (P : Program) (e : l ≡ rangeOf (f
   start-is : functionOf P (x .«current_function») .start ≡ l .start
   start-is = ap (λ (r : Locals). r .start) (sym e)
 
-  count-is : functionOf P (x .«current_function») .locals ≡ l .count
+  pub count-is : functionOf P (x .«current_function») .locals ≡ l .count
   count-is = ap (λ (r : Locals). r .count) (sym e)
 
   pub leave-25 : x .depth ≡ 0 → 25 ≡ number
@@ -47,13 +53,7 @@ module _ (x : ExecutionContext) (l : Locals) (P : Program) (e : l ≡ rangeOf (f
   unfolding judge
   leave-0 h k a = rw (past h k, a)
 
-  -- what an accepted leaving knows
-  pub record Leaves : Type 0 where
-    pub inside : 0 < x .depth
-    pub enough : l .count ≤ x .saved
-    pub locals-there : present (l .start) (l .count) (x .file .globals .count) ≡ true
-
-  pub leaves : number ≡ 0 → Leaves
+  pub leaves : number ≡ 0 → Leaves x l
   unfolding leaveConditions
   leaves z =
       let h = judge-passed (leaveConditions P (bare x)) z in
@@ -69,3 +69,36 @@ module _ (x : ExecutionContext) (l : Locals) (P : Program) (e : l ≡ rangeOf (f
       → config y cells′ saved ≡ left P (config x cells saved)
   unfolding left
   left-config y cells cells′ saved s a = rw (s, a, start-is, count-is)
+
+-- ---- what a leaving and a Return answer
+
+module _ (P : Program) (x : ExecutionContext) (cells saved : List ℕ) where
+  pub leave-refused : (n : ℕ) (r : Answered) → n ≡ judge (leaveConditions P (bare x)) → (n ≡ 0 → ⊥) → r ≡ refusing x n
+      → outcomeOf r cells saved ≡ after (config x cells saved) (leave P)
+  unfolding leaveConditions
+  leave-refused n r e z h = refused-outcome x cells saved _ _ n r e z h
+
+  pub leave-accepted : (y : ExecutionContext) (cells′ : List ℕ) → judge (leaveConditions P (bare x)) ≡ 0
+      → config y cells′ saved ≡ left P (config x cells saved)
+      → outcomeOf (accepting y) cells′ saved ≡ after (config x cells saved) (leave P)
+  unfolding leaveConditions
+  leave-accepted y cells′ z h = accepted-outcome x cells saved _ _ y cells′ saved z h
+
+  module _ (a : ℕ) where
+    pub return-15 : (r : Answered) → present a 3 (x .file .globals .count) ≡ false → r ≡ refusing x 15
+        → outcomeOf r cells saved ≡ after (config x cells saved) (return P a)
+    unfolding judge
+    return-15 r p h = refused-outcome x cells saved _ _ 15 r (rw p) (λ z. absurd (omega arith)) h
+
+    module _ (p : present a 3 (x .file .globals .count) ≡ true) where
+      pub return-refused : (n : ℕ) (r : Answered) → n ≡ judge (leaveConditions P (bare x)) → (n ≡ 0 → ⊥) → r ≡ refusing x n
+          → outcomeOf r cells saved ≡ after (config x cells saved) (return P a)
+      unfolding judge leaveConditions
+      return-refused n r e z h = refused-outcome x cells saved _ _ n r (rw p e) z h
+
+      pub return-accepted : (y : ExecutionContext) (cells₁ cells′ : List ℕ) → judge (leaveConditions P (bare x)) ≡ 0
+          → cells₁ ≡ copied (successive 3 a 1) cells
+          → config y cells′ saved ≡ left P (config x cells₁ saved)
+          → outcomeOf (accepting y) cells′ saved ≡ after (config x cells saved) (return P a)
+      unfolding judge leaveConditions
+      return-accepted y cells₁ cells′ z e h = accepted-outcome x cells saved _ _ y cells′ saved (rw p z) (rw e at h)

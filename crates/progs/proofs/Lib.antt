@@ -1,4 +1,5 @@
 pub mod CopyLaws
+pub mod FileLaws
 pub mod OutcomeLaws
 pub mod EntryLaws
 pub mod LeaveLaws

@@ -10,7 +10,7 @@ use Rattle.definition.specs.Checks.{Checked, guard}
 use Rattle.definition.specs.File.{fileOf}
 use Rattle.definition.specs.Machine.{Program, State, Config, returnConditions, returned}
 use Rattle.definition.specs.Answers.{Outcome, outcome}
-use Rattle.functions.specs.Laws.{AllFitting}
+use Rattle.functions.specs.Laws.{AllFit}
 use Rattle.progs.specs.declared.ExecutionContext.{ExecutionContext}
 use Rattle.progs.specs.declared.Answered.{Answered}
 use Rattle.progs.specs.declared.calls.Locals.{Locals}
@@ -46,14 +46,16 @@ bare x = config x [] []
 abbrev pub rangeOf : FunctionDef → Locals
 rangeOf d = record { start = d .start; count = d .locals }
 
--- ---- what check 13 establishes, and every statement keeps: with this every read of a record and every access to a checked cell is in bounds
+-- ---- what check 13 establishes and every statement keeps: with it every read of a record, and of a cell below the count, is in bounds
 
 pub record Loaded (file : List ℕ) (r : FileRecord) : Type 0 where
   pub same : r ≡ fileOf file
-  pub lumps : AllFitting r
+  pub lumps : AllFit (length file) r
 
 pub record Within (file : List ℕ) (x : ExecutionContext) (cells saved : ℕ) : Type 0 where
   pub loaded : Loaded file (x .file)
+  pub least : 36 ≤ x .file .globals .count
+  pub most : x .file .globals .count ≤ 32768
   pub lent : x .file .globals .count ≤ cells
   pub store : 2048 ≤ saved
   pub depth : x .depth ≤ 31

@@ -121,7 +121,14 @@ impl ExecutionContext {
     }
 
     // Enters function f, which is to go back to the position `back`.
-    pub fn enter_function(self, file: &[u8], f: usize, back: i64, cells: &mut [u32], saved: &mut [u32]) -> Answered
+    pub fn enter_function(
+        self,
+        file: &[u8],
+        f: usize,
+        back: i64,
+        cells: &mut [u32],
+        saved: &mut [u32],
+    ) -> Answered
         requires { ⌜ Within (now file) self (length (now cells)) (length (now saved)) ⌝ }
         ensures { λ r. ⌜ outcomeOf r (now (cells .exit)) (now (saved .exit)) ≡ after (config self (now (cells .entry)) (now (saved .entry))) (enter (programOf (now (file .entry))) f back) ⌝ }
     {
@@ -177,5 +184,52 @@ impl ExecutionContext {
         next.current_function = top.func_id;
         next.pc = top.instr_id;
         next
+    }
+
+    // Leaves the current function: restores its locals, and gives the context after.
+    fn restored(self, locals: Locals, cells: &mut [u32], saved: &[u32]) -> ExecutionContext
+        requires { ⌜ (0 < self .depth) × (self .depth ≤ 31) ⌝ }
+        requires { ⌜ (locals .count ≤ self .saved) × (self .saved ≤ length (now saved)) ⌝ }
+        requires { ⌜ present (locals .start) (locals .count) (length (now cells)) ≡ true ⌝ }
+        ensures { λ r. ⌜ ((P : Program) → locals ≡ rangeOf (functionOf P (self .«current_function»)) → config r (now (cells .exit)) (now (saved .entry)) ≡ left P (config self (now (cells .entry)) (now (saved .entry)))) ⌝ }
+    {
+        let first = self.saved - locals.count;
+        copies::move_cells(saved, cells, first, locals.start, locals.count);
+        self.left(locals)
+    }
+
+    pub fn leave_function(self, file: &[u8], cells: &mut [u32], saved: &[u32]) -> Answered
+        requires { ⌜ Within (now file) self (length (now cells)) (length (now saved)) ⌝ }
+        ensures { λ r. ⌜ outcomeOf r (now (cells .exit)) (now (saved .entry)) ≡ after (config self (now (cells .entry)) (now (saved .entry))) (leave (programOf (now (file .entry)))) ⌝ }
+    {
+        let locals = self.locals(file);
+        let refusal = self.leave_refusal(locals);
+        if refusal != 0 {
+            return self.refused(refusal);
+        }
+        Answered {
+            context: self.restored(locals, cells, saved),
+            answer: Answer::Accepted,
+        }
+    }
+
+    // Return and Done of the three cells from a on.
+    pub fn op_return(self, file: &[u8], a: usize, cells: &mut [u32], saved: &[u32]) -> Answered
+        requires { ⌜ Within (now file) self (length (now cells)) (length (now saved)) ⌝ }
+        ensures { λ r. ⌜ outcomeOf r (now (cells .exit)) (now (saved .entry)) ≡ after (config self (now (cells .entry)) (now (saved .entry))) (return (programOf (now (file .entry))) a) ⌝ }
+    {
+        if !copies::in_range(a, 3, self.cell_count()) {
+            return self.refused(15);
+        }
+        let locals = self.locals(file);
+        let refusal = self.leave_refusal(locals);
+        if refusal != 0 {
+            return self.refused(refusal);
+        }
+        copies::copy_cells(cells, a, 1, 3);
+        Answered {
+            context: self.restored(locals, cells, saved),
+            answer: Answer::Accepted,
+        }
     }
 }

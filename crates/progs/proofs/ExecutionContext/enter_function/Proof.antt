@@ -1,3 +1,15 @@
+use mir.Syntax.{w64}
+use mir.Val.{SFits}
+use mir.Facts.{toZ-ofZ}
+use mathlib.Core.Path.{_≡_, sym, _∙_}
+use native.Mathlib.Omega.{arith}
+use Rattle.definition.specs.Checks.{judge}
+use Rattle.definition.specs.Machine.{entryConditions}
+use Rattle.definition.specs.Load.{programOf}
+use Rattle.progs.specs.Contexts.{bare}
+use Rattle.progs.proofs.CopyLaws.{present-of, present-more, copies-more}
+use Rattle.progs.proofs.FileLaws.{function-there, function-absent}
+use Rattle.progs.proofs.EntryLaws.{Accepted, accepted, enter-20, enter-refused, enter-accepted}
 use borrow.Author.Needs.{needs}
 use Rattle.progs.proofs.ExecutionContext.enter_function.Statement.{statement}
 use Rattle.progs.proofs.ExecutionContext.enter_function.Tie as tie
@@ -11,6 +23,17 @@ use Rattle.progs.proofs.ExecutionContext.refused.Reads as refused-reads
 use Rattle.progs.proofs.copies.copy_arguments.Reads as copy-arguments-reads
 use Rattle.progs.proofs.copies.move_cells.Reads as move-cells-reads
 
+-- the number that is found is that of the entry's conditions
+number : (c : tie.After-entry-refusal) → let s = c .before .before .before .before .before .before .before in c .entry-refusal .result ≡ judge (entryConditions (programOf (s .args .file .now)) (s .args .f) (bare (s .args .self)))
+number c = c .entry-refusal .ensures _ _ (function-there _ _ (c .before .before .before .before .before .before .before .pre .loaded) _ (search needs)) (c .before .get-def .ensures)
+
+-- none refuses
+clear : (c : tie.Else2) → let s = c .before .before .before .before .before .before .before .before in judge (entryConditions (programOf (s .args .file .now)) (s .args .f) (bare (s .args .self))) ≡ 0
+clear c = sym (number (c .before)) ∙ c .if2 .left
+
+ok : (c : tie.Else2) → let s = c .before .before .before .before .before .before .before .before in Accepted (s .args .self) (c .before .before .get-def .result)
+ok c = accepted _ _ _ _ (function-there _ _ (c .before .before .before .before .before .before .before .before .pre .loaded) _ (search needs)) (c .before .before .get-def .ensures) (clear c)
+
 -- src/calls.rt:128:12
 function-count-requires : tie.Need-function-count-requires
 function-count-requires c κs = search needs
@@ -21,7 +44,7 @@ refused-requires c κs = search needs
 
 -- src/calls.rt:129:13
 returns : tie.Need-returns
-returns c = ?
+returns c = enter-20 _ _ _ _ _ _ _ (function-absent _ _ (c .before .before .before .before .before .before .pre .loaded) _ (search needs)) (search needs)
 
 -- src/calls.rt:131:13
 get-def-requires : tie.Need-get-def-requires
@@ -37,7 +60,7 @@ refused-requires-2 c κs = search needs
 
 -- src/calls.rt:134:13
 returns-2 : tie.Need-returns-2
-returns-2 c = ?
+returns-2 c = enter-refused _ _ _ _ _ _ _ _ (number (c .before .before)) (search needs) (search needs)
 
 -- src/calls.rt:136:21
 cast-start : tie.Need-cast-start
@@ -49,7 +72,7 @@ cast-move-cells c = search needs
 
 -- src/calls.rt:138:9
 move-cells-requires : tie.Need-move-cells-requires
-move-cells-requires c κs = ?
+move-cells-requires c κs = let a = ok (c .before .before .before .before .before) in (present-more _ _ _ _ (c .before .before .before .before .before .before .before .before .before .before .before .before .before .pre .lent) (a .locals-there), present-of _ _ _ (omega arith))
 
 -- src/calls.rt:139:53
 cast-copy-arguments : tie.Need-cast-copy-arguments
@@ -57,11 +80,11 @@ cast-copy-arguments c = search needs
 
 -- src/calls.rt:139:9
 copy-arguments-requires : tie.Need-copy-arguments-requires
-copy-arguments-requires c κs = ?
+copy-arguments-requires c κs = let a = ok (c .before .before .before .before .before .before .before .before .before .before) in (a .few, copies-more _ _ _ (c .before .before .before .before .before .before .before .before .before .before .before .before .before .before .before .before .before .before .pre .lent) (a .arguments-there))
 
 -- src/calls.rt:141:22
 entered-requires : tie.Need-entered-requires
-entered-requires c κs = ?
+entered-requires c κs = let a = ok (c .before .before .before .before .before .before .before .before .before .before .before .before .before) in (a .room .frame-free, a .room .locals-fit)
 
 -- src/calls.rt:124:5
 same-length : tie.Need-same-length
@@ -73,7 +96,11 @@ same-length-2 c = search needs
 
 -- src/calls.rt:124:5
 returns-3 : tie.Need-returns-3
-returns-3 c = ?
+returns-3 c =
+    let s = c .before .before .before .before .before .before .before .before .before .before .before .before .before .before .before .before .before .before .before .before .before .before in
+    let g : SFits w64 (s .args .back) = search needs in
+    let d = c .before .before .before .before .before .before .before .before .before .before .before .before .before .before .before .before .get-def .ensures in
+    enter-accepted _ _ _ _ _ _ _ _ _ _ (clear (c .before .before .before .before .before .before .before .before .before .before .before .before .before .before)) d (rw (toZ-ofZ g) at (c .entered .ensures (programOf (s .args .file .now)) d)) (c .before .before .before .copy-arguments .ensures) (c .before .before .before .before .before .before .before .before .move-cells .ensures)
 
 pub enter-function-spec : {M : Type 1} → statement M
 enter-function-spec =

@@ -1,3 +1,8 @@
+use lib.IntN.{pos}
+use mir.Syntax.{w64}
+use mir.Val.{SFits}
+use mir.Facts.{toZ-ofZ, toZ-pos}
+use Rattle.definition.specs.Machine.{entered}
 use borrow.Author.Needs.{needs}
 use Rattle.progs.proofs.ExecutionContext.entered.Statement.{statement}
 use Rattle.progs.proofs.ExecutionContext.entered.Tie as tie
@@ -30,7 +35,12 @@ cast-next-2 c = search needs
 
 -- src/calls.rt:105:5
 returns : tie.Need-returns
-returns c = ?
+unfolding entered
+returns c P e =
+    let s = c .before .before .before in
+    let g : SFits w64 (s .args .back) = search needs in
+    let k : SFits w64 (pos (s .args .def .first)) = search needs in
+    rw (toZ-ofZ g, toZ-pos w64 (k .sfits), ← e)
 
 pub entered-spec : {M : Type 1} → statement M
 entered-spec =

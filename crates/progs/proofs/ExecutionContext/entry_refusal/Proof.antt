@@ -1,3 +1,5 @@
+use borrow.Author.Tests.{not-true, not-false}
+use Rattle.progs.proofs.EntryLaws.{entry-22, entry-23, entry-15, entry-24, entry-15-arguments, entry-21, entry-0}
 use borrow.Author.Needs.{needs}
 use Rattle.progs.proofs.ExecutionContext.entry_refusal.Statement.{statement}
 use Rattle.progs.proofs.ExecutionContext.entry_refusal.Tie as tie
@@ -18,7 +20,7 @@ cast-locals c = search needs
 
 -- src/calls.rt:86:13
 returns : tie.Need-returns
-returns c = ?
+returns c = λ P f h e. entry-22 _ _ P f h e (search needs)
 
 -- src/calls.rt:89:19
 add-if2 : tie.Need-add-if2
@@ -26,7 +28,7 @@ add-if2 c = search needs
 
 -- src/calls.rt:90:13
 returns-2 : tie.Need-returns-2
-returns-2 c = ?
+returns-2 c = λ P f h e. entry-23 _ _ P f h e (search needs) (search needs)
 
 -- src/calls.rt:92:45
 cell-count-requires : tie.Need-cell-count-requires
@@ -38,11 +40,11 @@ in-range-requires c κs = search needs
 
 -- src/calls.rt:93:13
 returns-3 : tie.Need-returns-3
-returns-3 c = ?
+returns-3 c = λ P f h e. entry-15 _ _ P f h e (search needs) (cc (not-true (c .before .in-range .result) (c .if3 .taken)))
 
 -- src/calls.rt:96:13
 returns-4 : tie.Need-returns-4
-returns-4 c = ?
+returns-4 c = λ P f h e. entry-24 _ _ P f h e (search needs) (cc (not-false (c .before .before .before .in-range .result) (c .before .before .if3 .left))) (search needs)
 
 -- src/calls.rt:98:54
 cast-arguments-in-range : tie.Need-cast-arguments-in-range
@@ -58,7 +60,7 @@ arguments-in-range-requires c κs = search needs
 
 -- src/calls.rt:99:13
 returns-5 : tie.Need-returns-5
-returns-5 c = ?
+returns-5 c = λ P f h e. entry-15-arguments _ _ P f h e (search needs) (cc (not-false (c .before .before .before .before .before .before .before .in-range .result) (c .before .before .before .before .before .before .if3 .left))) (search needs) (cc (not-true (c .before .arguments-in-range .result) (c .if5 .taken)))
 
 -- src/calls.rt:101:12
 is-builtin-requires : tie.Need-is-builtin-requires
@@ -66,11 +68,11 @@ is-builtin-requires c κs = search needs
 
 -- src/calls.rt:78:5
 returns-6 : tie.Need-returns-6
-returns-6 c = ?
+returns-6 c = λ P f h e. entry-21 _ _ P f h e (search needs) (cc (not-false (c .before .before .before .before .before .before .before .before .before .in-range .result) (c .before .before .before .before .before .before .before .before .if3 .left))) (search needs) (cc (not-false (c .before .before .before .arguments-in-range .result) (c .before .before .if5 .left))) (cc)
 
 -- src/calls.rt:78:5
 returns-7 : tie.Need-returns-7
-returns-7 c = ?
+returns-7 c = λ P f h e. entry-0 _ _ P f h e (search needs) (cc (not-false (c .before .before .before .before .before .before .before .before .before .in-range .result) (c .before .before .before .before .before .before .before .before .if3 .left))) (search needs) (cc (not-false (c .before .before .before .arguments-in-range .result) (c .before .before .if5 .left))) (cc)
 
 pub entry-refusal-spec : {M : Type 1} → statement M
 entry-refusal-spec =

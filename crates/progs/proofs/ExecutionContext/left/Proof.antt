@@ -1,3 +1,10 @@
+use Prim.Native.Nat.{_-_}
+use lib.ListN.{getD}
+use mir.Syntax.{w64}
+use mir.Val.{SFits}
+use mir.Facts.{toZ-ofZ}
+use Rattle.definition.specs.Machine.{zeroFrame, left}
+use Rattle.progs.proofs.LeaveLaws.{count-is}
 use borrow.Author.Needs.{needs}
 use Rattle.progs.proofs.ExecutionContext.left.Statement.{statement}
 use Rattle.progs.proofs.ExecutionContext.left.Tie as tie
@@ -30,7 +37,11 @@ sub-next c = search needs
 
 -- src/calls.rt:163:5
 returns : tie.Need-returns
-returns c = ?
+unfolding left
+returns c P e =
+    let s = c .before .before .before in
+    let g : SFits w64 (getD (s .args .t1 .frames) (s .args .t1 .depth - 1) zeroFrame .«instr_id») = search needs in
+    rw (toZ-ofZ g, count-is (s .args .t1) _ P e)
 
 pub left-spec : {M : Type 1} → statement M
 left-spec =

@@ -1,3 +1,4 @@
+use Rattle.progs.proofs.FileLaws.{no-locals}
 use borrow.Author.Needs.{needs}
 use Rattle.progs.proofs.ExecutionContext.locals.Statement.{statement}
 use Rattle.progs.proofs.ExecutionContext.locals.Tie as tie
@@ -12,7 +13,7 @@ function-count-requires c κs = search needs
 
 -- src/calls.rt:68:13
 returns : tie.Need-returns
-returns c = ?
+returns c = no-locals _ _ (c .before .before .before .pre) _ (search needs)
 
 -- src/calls.rt:70:13
 get-def-requires : tie.Need-get-def-requires
@@ -28,7 +29,7 @@ cast-t7 c = search needs
 
 -- src/calls.rt:62:5
 returns-2 : tie.Need-returns-2
-returns-2 c = ?
+returns-2 c = cc
 
 pub locals-spec : {M : Type 1} → statement M
 locals-spec =

@@ -1,0 +1,30 @@
+-- What a context that records the file's header says of the program.
+use Prim.Native.Nat.{ℕ, _≤_, _<_}
+use mathlib.Core.Path.{_≡_, refl, sym, _∙_, ap}
+use mathlib.Core.List.{List}
+use lib.ListN.{length, getD, List·getD-eq-default}
+use Rattle.definition.specs.declared.FileRecord.{FileRecord}
+use Rattle.definition.specs.declared.FunctionDef.{FunctionDef}
+use Rattle.definition.specs.File.{fileOf, readFunction, recordsIn, contentsAt, noFunction}
+use Rattle.definition.specs.Machine.{Program, functionOf}
+use Rattle.definition.specs.Load.{programAt, programOf}
+use Rattle.definition.specs.RecordLaws.{length-records}
+use Rattle.progs.specs.Contexts.{Loaded, rangeOf}
+
+module _ (file : List ℕ) (r : FileRecord) (h : Loaded file r) where
+  pub function-is : (f : ℕ) (d : FunctionDef) → d ≡ getD (recordsIn (readFunction file) 36 (r .functions)) f noFunction → d ≡ functionOf (programOf file) f
+  unfolding programAt contentsAt
+  function-is f d e = rw (← h .same) e
+
+  pub function-count : length (programOf file .functions) ≡ r .functions .count
+  unfolding programAt contentsAt
+  function-count = rw (← h .same) (length-records (readFunction file) 36 (r .functions .count) (r .functions .offset))
+
+  pub function-there : (f : ℕ) → f < r .functions .count → f < length (programOf file .functions)
+  function-there f k = rw function-count k
+
+  pub function-absent : (f : ℕ) → r .functions .count ≤ f → length (programOf file .functions) ≤ f
+  function-absent f k = rw function-count k
+
+  pub no-locals : (f : ℕ) → r .functions .count ≤ f → record { start = 0; count = 0 } ≡ rangeOf (functionOf (programOf file) f)
+  no-locals f k = rw (List·getD-eq-default (programOf file .functions) noFunction {n = f} (function-absent f k))
