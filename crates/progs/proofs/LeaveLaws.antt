@@ -70,6 +70,11 @@ module _ (x : ExecutionContext) (l : Locals) (P : Program) (e : l ≡ rangeOf (f
   unfolding left
   left-config y cells cells′ saved s a = rw (s, a, start-is, count-is)
 
+-- the state alone
+pub left-state : (P : Program) (x y : ExecutionContext) (cells cells′ saved : List ℕ) → config y cells′ saved ≡ left P (config x cells saved) → stateOf y ≡ left P (bare x) .state
+unfolding left
+left-state P x y cells cells′ saved e = ap (λ (c : Config). c .state) e
+
 -- ---- what a leaving and a Return answer
 
 module _ (P : Program) (x : ExecutionContext) (cells saved : List ℕ) where

@@ -3,3 +3,6 @@ pub mod FileLaws
 pub mod OutcomeLaws
 pub mod EntryLaws
 pub mod LeaveLaws
+pub mod StateLaws
+pub mod AbandonLaws
+pub mod HostLaws

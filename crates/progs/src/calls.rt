@@ -59,7 +59,7 @@ impl ExecutionContext {
     }
 
     // The local range of the current function; one that isn't there has no locals.
-    fn locals(self, file: &[u8]) -> Locals
+    pub fn locals(self, file: &[u8]) -> Locals
         requires { ⌜ Loaded (now file) (self .file) ⌝ }
         ensures { λ r. ⌜ r ≡ rangeOf (functionOf (programOf (now (file .entry))) (self .«current_function»)) ⌝ }
     {
@@ -151,7 +151,7 @@ impl ExecutionContext {
     }
 
     // 0, or the number of the refusal to leave the current function, whose local range is `locals`.
-    fn leave_refusal(self, locals: Locals) -> u8
+    pub fn leave_refusal(self, locals: Locals) -> u8
         ensures { λ r. ⌜ ((P : Program) → locals ≡ rangeOf (functionOf P (self .«current_function»)) → r ≡ judge (leaveConditions P (bare self))) ⌝ }
     {
         if self.depth == 0 {
@@ -167,7 +167,7 @@ impl ExecutionContext {
     }
 
     // The context after the current function, with so many locals, is left.
-    fn left(self, locals: Locals) -> ExecutionContext
+    pub fn left(self, locals: Locals) -> ExecutionContext
         requires { ⌜ (0 < self .depth) × ((self .depth ≤ 31) × (locals .count ≤ self .saved)) ⌝ }
         ensures { λ r. ⌜ ((P : Program) → locals ≡ rangeOf (functionOf P (self .«current_function»)) → stateOf r ≡ left P (bare self) .state) ⌝ }
     {
@@ -187,7 +187,7 @@ impl ExecutionContext {
     }
 
     // Leaves the current function: restores its locals, and gives the context after.
-    fn restored(self, locals: Locals, cells: &mut [u32], saved: &[u32]) -> ExecutionContext
+    pub fn restored(self, locals: Locals, cells: &mut [u32], saved: &[u32]) -> ExecutionContext
         requires { ⌜ (0 < self .depth) × (self .depth ≤ 31) ⌝ }
         requires { ⌜ (locals .count ≤ self .saved) × (self .saved ≤ length (now saved)) ⌝ }
         requires { ⌜ present (locals .start) (locals .count) (length (now cells)) ≡ true ⌝ }

@@ -1,0 +1,151 @@
+-- Laws of check 13: what is left of the entered functions, and what it is to pass.
+use Prim.Native.Nat.{ℕ, zero, suc, _+_, _-_, _≤_, _<_}
+use mathlib.Core.Path.{_≡_, refl, sym, _∙_, ap}
+use mathlib.Core.List.{List, [], _∷_}
+use mathlib.Core.Bool.{Bool, true, false, not, _&&_, and-true, and-false}
+use native.Mathlib.Omega.{arith}
+use native.Mathlib.Nat.{add-assoc, add-zero}
+use borrow.Author.Tests.{lt-ltb, le-ltb, le-leb, lt-leb, leb-true}
+use lib.ListN.{length, getD}
+use lib.Dec.{leb, ltb, eqb}
+use Rattle.definition.specs.declared.FileRecord.{FileRecord}
+use Rattle.definition.specs.declared.StackFrame.{StackFrame}
+use Rattle.definition.specs.declared.FunctionDef.{FunctionDef}
+use Rattle.definition.specs.File.{negative}
+use Rattle.definition.specs.Machine.{Program, functionOf, State, limits, zeroFrame, left}
+use Rattle.definition.specs.Load.{programAt, programOf, recordedIn}
+use Rattle.definition.specs.Operations.{frameFunctions, enteredAt, enteredFunctions, allPresent, localsOf, sound}
+use Rattle.definition.specs.CheckLaws.{and-left, and-right}
+use Rattle.functions.specs.Laws.{Recorded, recorded}
+use Rattle.progs.specs.declared.ExecutionContext.{ExecutionContext}
+use Rattle.progs.specs.Contexts.{stateOf, config, bare, Loaded, Within}
+
+-- ---- the entered functions that are left, when the local counts of the others are summed
+
+unfoldable pub adds-up : Program → ℕ → ℕ → List ℕ → Bool
+adds-up P saved sum fs = allPresent P fs && eqb saved (sum + localsOf P fs)
+
+-- the function of frame k is the next below
+next-below : (k : ℕ) (frames : List StackFrame) → enteredAt k (getD frames k zeroFrame .«func_id») frames ≡ frameFunctions k frames
+unfolding frameFunctions
+next-below zero frames = refl
+next-below (suc k) frames = refl
+
+module _ (P : Program) (saved sum k f : ℕ) (frames : List StackFrame) (more : 0 < k) where
+  entered-on : enteredAt k f frames ≡ f ∷ enteredAt (k - 1) (getD frames (k - 1) zeroFrame .«func_id») frames
+  entered-on =
+      let e : k ≡ suc (k - 1) = omega arith in
+      ap (λ (n : ℕ). enteredAt n f frames) e ∙ ap (λ (fs : List ℕ). f ∷ fs) (sym (next-below (k - 1) frames))
+
+  pub add-absent : length (P .functions) ≤ f → false ≡ adds-up P saved sum (enteredAt k f frames)
+  unfolding adds-up allPresent
+  add-absent h = rw (entered-on, le-ltb f (length (P .functions)) h)
+
+  module _ (d : FunctionDef) (there : f < length (P .functions)) (e : d ≡ functionOf P f) where
+    pub add-negative : 2147483648 ≤ d .locals → false ≡ adds-up P saved sum (enteredAt k f frames)
+    unfolding adds-up allPresent
+    add-negative h = rw (entered-on, lt-ltb f (length (P .functions)) there, ← e, le-leb 2147483648 (d .locals) h)
+
+    pub add-on : d .locals < 2147483648
+        → adds-up P saved (sum + d .locals) (enteredAt (k - 1) (getD frames (k - 1) zeroFrame .«func_id») frames) ≡ adds-up P saved sum (enteredAt k f frames)
+    unfolding adds-up allPresent localsOf
+    add-on h =
+        rw (
+          entered-on,
+          lt-ltb f (length (P .functions)) there,
+          ← e,
+          lt-leb 2147483648 (d .locals) h,
+          ← add-assoc sum (d .locals) (localsOf P (enteredAt (k - 1) (getD frames (k - 1) zeroFrame .«func_id») frames)),
+        )
+
+pub add-none : (P : Program) (saved sum k f : ℕ) (frames : List StackFrame) → k ≤ 0 → eqb saved sum ≡ adds-up P saved sum (enteredAt k f frames)
+unfolding adds-up allPresent localsOf
+add-none P saved sum k f frames h = let z : k ≡ 0 = omega arith in rw (z, add-zero sum)
+
+pub add-start : (P : Program) (x : ExecutionContext)
+    → adds-up P (x .saved) 0 (enteredAt (x .depth) (x .«current_function») (x .frames))
+    ≡ (allPresent P (enteredFunctions (stateOf x)) && eqb (x .saved) (localsOf P (enteredFunctions (stateOf x))))
+unfolding adds-up enteredFunctions
+add-start P x = rw (native.Mathlib.Nat.zero-add (localsOf P (enteredAt (x .depth) (x .«current_function») (x .frames))))
+
+-- ---- the check
+
+module _ (file cells saved : List ℕ) (x : ExecutionContext) where
+  abbrev check : Bool
+  check = sound (programOf file) (config x cells saved)
+
+  pub unrecorded : recordedIn file (x .file) (length cells) ≡ false → false ≡ check
+  unfolding sound programAt
+  unrecorded h = rw h
+
+  pub short-store : length saved < 2048 → false ≡ check
+  unfolding sound
+  short-store h = rw (lt-leb 2048 (length saved) h, and-false)
+
+  pub too-deep : 31 < x .depth → false ≡ check
+  unfolding sound limits
+  too-deep h = rw (lt-leb (x .depth) 31 h, and-false)
+
+  pub too-full : 2048 < x .saved → false ≡ check
+  unfolding sound limits
+  too-full h = rw (lt-leb (x .saved) 2048 h, and-false)
+
+  pub adding-up : recordedIn file (x .file) (length cells) ≡ true → 2048 ≤ length saved → x .depth ≤ 31 → x .saved ≤ 2048
+      → (allPresent (programOf file) (enteredFunctions (stateOf x)) && eqb (x .saved) (localsOf (programOf file) (enteredFunctions (stateOf x)))) ≡ check
+  unfolding sound limits programAt
+  adding-up a b c d = rw (a, le-leb 2048 (length saved) b, le-leb (x .depth) 31 c, le-leb (x .saved) 2048 d, and-true)
+
+  pub passed : check ≡ true → Within file x (length cells) (length saved)
+  unfolding sound limits programAt
+  passed h =
+      let r = recordedIn file (x .file) (length cells) in
+      let s = leb 2048 (length saved) in
+      let d = leb (x .depth) 31 in
+      let p = allPresent (programOf file) (enteredFunctions (stateOf x)) in
+      let l = leb (x .saved) 2048 in
+      let h4 = and-left (r && s && d && p && l) (eqb (x .saved) (localsOf (programOf file) (enteredFunctions (stateOf x)))) h in
+      let h3 = and-left (r && s && d) p (and-left (r && s && d && p) l h4) in
+      let k = recorded file (x .file) (length cells) (and-left r s (and-left (r && s) d h3)) in
+      record {
+        loaded = record { same = k .same; lumps = k .lumps };
+        least = k .least;
+        most = k .most;
+        lent = k .lends;
+        store = leb-true _ _ (and-right r s (and-left (r && s) d h3));
+        depth = leb-true _ _ (and-right (r && s) d h3);
+        held = leb-true _ _ (and-right (r && s && d && p) l h4);
+      }
+
+-- a file that a context records
+pub loaded-of : (file : List ℕ) (r : FileRecord) (cells : ℕ) → recordedIn file r cells ≡ true → Loaded file r
+loaded-of file r cells h = let k = recorded file r cells h in record { same = k .same; lumps = k .lumps }
+
+-- ---- kept by a leaving
+
+module _ (P : Program) (x y : ExecutionContext) (e : stateOf y ≡ left P (bare x) .state) where
+  file-stays : y .file ≡ x .file
+  unfolding left
+  file-stays = ap (λ (s : State). s .file) e
+
+  pub depth-falls : y .depth ≡ x .depth - 1
+  unfolding left
+  depth-falls = ap (λ (s : State). s .depth) e
+
+  saved-falls : y .saved ≤ x .saved
+  unfolding left
+  saved-falls = let h : y .saved ≡ x .saved - functionOf P (x .«current_function») .locals = ap (λ (s : State). s .saved) e in omega arith
+
+  pub loaded-left : (file : List ℕ) → Loaded file (x .file) → Loaded file (y .file)
+  loaded-left file h = rw file-stays h
+
+  pub within-left : (file : List ℕ) (cells saved : ℕ) → Within file x cells saved → Within file y cells saved
+  within-left file cells saved h =
+      record {
+        loaded = loaded-left file (h .loaded);
+        least = rw file-stays (h .least);
+        most = rw file-stays (h .most);
+        lent = rw file-stays (h .lent);
+        store = h .store;
+        depth = omega (arith, depth-falls, h .depth);
+        held = omega (arith, saved-falls, h .held);
+      }
