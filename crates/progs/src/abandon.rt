@@ -32,7 +32,13 @@ impl ExecutionContext {
     }
 
     // Leaves functions down to the depth `target`, none of which is refused.
-    fn unwound(self, file: &[u8], target: usize, cells: &mut [u32], saved: &[u32]) -> ExecutionContext
+    fn unwound(
+        self,
+        file: &[u8],
+        target: usize,
+        cells: &mut [u32],
+        saved: &[u32],
+    ) -> ExecutionContext
         requires { ⌜ Within (now file) self (length (now cells)) (length (now saved)) ⌝ }
         requires { ⌜ judge (leavingsConditions (programOf (now file)) (self .depth - target) (bare self)) ≡ 0 ⌝ }
         ensures { λ r. ⌜ config r (now (cells .exit)) (now (saved .entry)) ≡ leftTimes (programOf (now (file .entry))) (self .depth - target) (config self (now (cells .entry)) (now (saved .entry))) ⌝ }

@@ -58,7 +58,14 @@ impl ExecutionContext {
         ReadAnswer::Value(cells[at])
     }
 
-    pub fn write(self, file: &[u8], cells: &mut [u32], saved: &[u32], address: i64, value: u32) -> Answered
+    pub fn write(
+        self,
+        file: &[u8],
+        cells: &mut [u32],
+        saved: &[u32],
+        address: i64,
+        value: u32,
+    ) -> Answered
         ensures { λ r. ⌜ outcomeOf r (now (cells .exit)) (now (saved .entry)) ≡ after (config self (now (cells .entry)) (now (saved .entry))) (rawWrite (programOf (now (file .entry))) address value) ⌝ }
     {
         if !self.check_state(file, cells, saved) {

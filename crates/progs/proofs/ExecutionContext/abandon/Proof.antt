@@ -1,3 +1,18 @@
+use Prim.Native.Nat.{_+_}
+use mathlib.Core.Path.{_≡_, sym, _∙_}
+use mathlib.Core.Bool.{true}
+use native.Mathlib.Omega.{arith}
+use borrow.Author.Tests.{not-true, not-false}
+use mir.Syntax.{w64}
+use mir.Val.{SFits}
+use mir.Facts.{toZ-ofZ}
+use lib.ListN.{length}
+use Rattle.definition.specs.Statements.{placeOf}
+use Rattle.definition.specs.Load.{programOf}
+use Rattle.definition.specs.Operations.{sound}
+use Rattle.progs.specs.Contexts.{config, Within}
+use Rattle.progs.proofs.StateLaws.{passed}
+use Rattle.progs.proofs.HostLaws.{abandon-13, abandon-29, abandon-refused, abandon-done}
 use borrow.Author.Needs.{needs}
 use Rattle.progs.proofs.ExecutionContext.abandon.Statement.{statement}
 use Rattle.progs.proofs.ExecutionContext.abandon.Tie as tie
@@ -8,6 +23,19 @@ use Rattle.progs.proofs.ExecutionContext.check_state.Reads as check-sta
 use Rattle.progs.proofs.ExecutionContext.leavings_refusal.Reads as leavings-refusal-reads
 use Rattle.progs.proofs.ExecutionContext.refused.Reads as refused-reads
 use Rattle.progs.proofs.ExecutionContext.unwound.Reads as unwound-reads
+
+-- check 13 passed
+sound-here : (c : tie.Else1) → let s = c .before .before .before .before .before .before in sound (programOf (s .args .file .now)) (config (s .args .self) (s .args .cells .now) (s .args .saved .now)) ≡ true
+sound-here c = sym (c .before .check-state .ensures) ∙ not-false _ (c .if1 .left)
+
+within : (c : tie.Else1) → let s = c .before .before .before .before .before .before in Within (s .args .file .now) (s .args .self) (length (s .args .cells .now)) (length (s .args .saved .now))
+within c = passed _ _ _ _ (sound-here c)
+
+-- the depth that the target names
+place : (c : tie.After-place-of) → let s = c .before .before .before .before .before .before .before .before in c .place-of .result ≡ placeOf (s .args .self .depth + 1) (s .args .target)
+place c =
+    let g : SFits w64 (c .before .before .before .before .before .before .before .before .args .target) = search needs in
+    (rw (toZ-ofZ g) at (c .place-of .ensures))
 
 -- src/abandon.rt:51:13
 check-state-requires : tie.Need-check-state-requires
@@ -23,11 +51,11 @@ same-length c = search needs
 
 -- src/abandon.rt:52:13
 returns : tie.Need-returns
-returns c = ?
+returns c = abandon-13 _ _ _ _ _ _ (sym (c .before .before .check-state .ensures) ∙ not-true _ (c .before .if1 .taken)) (search needs)
 
 -- src/abandon.rt:54:36
 add-place-of : tie.Need-add-place-of
-add-place-of c = ?
+add-place-of c = omega (arith, within (c .before) .depth)
 
 -- src/abandon.rt:54:13
 place-of-requires : tie.Need-place-of-requires
@@ -43,11 +71,11 @@ same-length-2 c = search needs
 
 -- src/abandon.rt:56:13
 returns-2 : tie.Need-returns-2
-returns-2 c = ?
+returns-2 c = abandon-29 _ _ _ _ _ _ (sound-here (c .before .before .before .before .before)) (place (c .before .before .before)) _ (c .before .if2 .taken) (search needs)
 
 -- src/abandon.rt:58:13
 leavings-refusal-requires : tie.Need-leavings-refusal-requires
-leavings-refusal-requires c κs = ?
+leavings-refusal-requires c κs = let w = within (c .before .before .before .before) in (w .loaded, w .depth)
 
 -- src/abandon.rt:60:13
 refused-requires-3 : tie.Need-refused-requires-3
@@ -59,11 +87,11 @@ same-length-3 c = search needs
 
 -- src/abandon.rt:60:13
 returns-3 : tie.Need-returns-3
-returns-3 c = ?
+returns-3 c = abandon-refused _ _ _ _ _ _ (sound-here (c .before .before .before .before .before .before .before)) (place (c .before .before .before .before .before)) (c .before .before .before .if2 .left) _ _ (c .before .before .leavings-refusal .ensures) (c .before .if3 .taken) (search needs)
 
 -- src/abandon.rt:63:22
 unwound-requires : tie.Need-unwound-requires
-unwound-requires c κs = ?
+unwound-requires c κs = (within (c .before .before .before .before .before .before .before), sym (c .before .before .leavings-refusal .ensures) ∙ c .before .if3 .left)
 
 -- src/abandon.rt:48:5
 same-length-4 : tie.Need-same-length-4
@@ -71,7 +99,7 @@ same-length-4 c = search needs
 
 -- src/abandon.rt:48:5
 returns-4 : tie.Need-returns-4
-returns-4 c = ?
+returns-4 c = abandon-done _ _ _ _ _ _ (sound-here (c .before .before .before .before .before .before .before .before .before .before)) (place (c .before .before .before .before .before .before .before .before)) (c .before .before .before .before .before .before .if2 .left) _ _ (sym (c .before .before .before .before .before .leavings-refusal .ensures) ∙ c .before .before .before .before .if3 .left) (c .before .before .unwound .ensures)
 
 pub abandon-spec : {M : Type 1} → statement M
 abandon-spec =

@@ -77,7 +77,7 @@ same-length-4 c = search needs
 
 -- src/lib.rt:37:5
 returns-2 : tie.Need-returns-2
-returns-2 c = 
+returns-2 c =
     let s = c .before .before .before .before .before .before .before .before .before .before .before .before .before .before .before .before .before in
     let g : SFits w64 (s .args .self .pc) = search needs in
     enter-host _ _ _ _ _ _ _ (sound-here (c .before .before .before .before .before .before .before .before .before .before)) (place (c .before .before .before .before .before .before .before .before)) (rw (toZ-ofZ g) at (c .before .before .before .before .enter-function .ensures))

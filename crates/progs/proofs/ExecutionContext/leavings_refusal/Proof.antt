@@ -22,7 +22,7 @@ use Rattle.progs.proofs.ExecutionContext.locals.Reads as locals-reads
 abbrev Inv-loop : tie.InvT-loop
 Inv-loop file target context₀ context =
     ((Loaded file (context .file)) × (context .depth ≤ 31))
-        × (judge (leavingsConditions (programOf file) (context .depth - target) (bare context)) ≡ judge (leavingsConditions (programOf file) (context₀ .depth - target) (bare context₀)))
+    × (judge (leavingsConditions (programOf file) (context .depth - target) (bare context)) ≡ judge (leavingsConditions (programOf file) (context₀ .depth - target) (bare context₀)))
 
 abbrev μ-loop : tie.MeasureT-loop
 μ-loop file target context₀ context = context .depth - target

@@ -20,8 +20,8 @@ use Rattle.progs.proofs.ExecutionContext.get_def.Reads as get-def-reads
 abbrev Inv-loop : tie.InvT-loop
 Inv-loop file self count sum₀ k₀ f₀ sum k f =
     ((k ≤ 31) × (sum + k * 2147483648 ≤ 31 * 2147483648))
-        × (adds-up (programOf file) (self .saved) sum (enteredAt k f (self .frames))
-        ≡ (allPresent (programOf file) (enteredFunctions (stateOf self)) && eqb (self .saved) (localsOf (programOf file) (enteredFunctions (stateOf self)))))
+    × (adds-up (programOf file) (self .saved) sum (enteredAt k f (self .frames))
+    ≡ (allPresent (programOf file) (enteredFunctions (stateOf self)) && eqb (self .saved) (localsOf (programOf file) (enteredFunctions (stateOf self)))))
 
 abbrev μ-loop : tie.MeasureT-loop
 μ-loop file self count sum₀ k₀ f₀ sum k f = k

@@ -23,7 +23,7 @@ use Rattle.progs.proofs.ExecutionContext.restored.Reads as restored-rea
 abbrev Inv-loop : tie.InvT-loop
 Inv-loop file target cells₀ saved context₀ cells context =
     ((length cells ≡ length cells₀) × ((Within file context (length cells) (length saved)) × (judge (leavingsConditions (programOf file) (context .depth - target) (bare context)) ≡ 0)))
-        × (leftTimes (programOf file) (context .depth - target) (config context cells saved) ≡ leftTimes (programOf file) (context₀ .depth - target) (config context₀ cells₀ saved))
+    × (leftTimes (programOf file) (context .depth - target) (config context cells saved) ≡ leftTimes (programOf file) (context₀ .depth - target) (config context₀ cells₀ saved))
 
 abbrev μ-loop : tie.MeasureT-loop
 μ-loop file target cells₀ saved context₀ cells context = context .depth - target
@@ -58,13 +58,12 @@ loop-less c = omega (arith, depth-falls _ _ _ (after c))
 
 -- src/abandon.rt:41:9
 loop-again : tie.Need-loop-again Inv-loop μ-loop
-loop-again c = 
+loop-again c =
     let l = c .before .before .before .before .before .before .before in
     let s = l .before .before .before .before in
     let k = c .before .before .restored .kept .1 .1 .0 in
     let j = l .loop .inv .0 .1 .1 in
-    let m = c .before .before .before .before .before .if1 .taken in
-    (
+    let m = c .before .before .before .before .before .if1 .taken in (
       (
         omega (arith, k),
         (rw k (within-left _ _ _ (after c) _ _ _ (l .loop .inv .0 .1 .0)), leavings-on _ _ _ m _ (after c) (leaves-first _ _ _ m j) ∙ j),
