@@ -8,3 +8,4 @@ pub mod Machine
 pub mod Load
 pub mod Operations
 pub mod Answers
+pub mod Starred
