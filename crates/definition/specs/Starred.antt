@@ -11,17 +11,17 @@ use lib.Ieee as Ieee
 use Rattle.definition.specs.declared.Statement.{Statement}
 use Rattle.definition.specs.declared.Definition.{Definition}
 use Rattle.definition.specs.declared.FunctionDef.{FunctionDef}
-use Rattle.definition.specs.declared.StackFrame.{StackFrame}
 use Rattle.definition.specs.Checks.{judge, Checked, refused, accepted, guard}
 use Rattle.definition.specs.File.{byteAt, u16At, u32At, fileOf, lumpsFit, records, Contents, contentsAt, builtinNumber}
 use Rattle.definition.specs.Cells.{float, entity, lookup, scalar, passes, signed, cellOf, cellAccess, vectorAccess, access, readAccess}
-use Rattle.definition.specs.Statements.{shapeOf, floatsDo, vectorResult, vectorsDo, dotsDo, negatesVDo, storesDo, storesVDo, branchesDo, fetchConditions, execute, doesAt}
-use Rattle.definition.specs.Machine.{Program, State, Config, limits, zeroFrame, present, copied, successive, arguments, copiesPresent}
-use Rattle.definition.specs.Machine.{entryConditions, entered, leaveConditions, left, Stepped, completed, refusedStep, handedStep, stepAs, step, Ran, runFor}
+use Rattle.definition.specs.Statements.{shapeOf, floatsDo, vectorResult, vectorsDo, dotsDo, negatesVDo, storesDo, storesVDo, branchesDo}
+use Rattle.definition.specs.Statements.{fetchConditions, execute, doesAt}
+use Rattle.definition.specs.Machine.{Program, Config, limits, zeroFrame, present, copied, successive, arguments, copiesPresent}
+use Rattle.definition.specs.Machine.{entryConditions, entered, leaveConditions, left, Stepped, completed, refusedStep, handedStep, stepAs, step, runFor}
 use Rattle.definition.specs.Load.{each, loadConditions, loaded, load, sameFile, recordedIn, programAt, programOf}
 use Rattle.definition.specs.Operations.{frameFunctions, enteredFunctions, allPresent, localsOf, sound}
 use Rattle.definition.specs.Operations.{hostEnter, statement, runConditions, run, rawRead, rawWrite}
-use Rattle.definition.specs.Answers.{Outcome, outcome, refusalNumber, outcomeWord, outcomeDetail, letters}
+use Rattle.definition.specs.Answers.{outcome, refusalNumber, outcomeWord, outcomeDetail, letters}
 
 -- ---- an assembler: the bytes of a file with these contents
 
@@ -238,6 +238,7 @@ after st xs rest = from (program (st ∷ []) (plain ∷ []) (cellsWith 28 xs)) (
 abbrev entering : FunctionDef → Scenario → Seen
 entering d rest = from (program [] (d ∷ []) numbered) (enter 1 rest)
 
+-- n entries of a function with one local
 abbrev atDepth : ℕ → Scenario → Seen
 atDepth n rest = from (program [] (fn 1 30 1 0 [] ∷ []) numbered) (enterTimes n 1 rest)
 
