@@ -3,12 +3,11 @@ use Prim.Native.Nat.{ℕ, _%_, _≤_, _<_}
 use mathlib.Core.Path.{_≡_, refl, sym, ap, _∙_, subst}
 use mathlib.Core.Bool.{Bool, true, false, not}
 use lib.Dec.{T}
-use lib.Ieee as Ieee
-use lib.Ieee.{Float, nan, inf, fin, binary32, ofBits, toBits, div, ne, eq, isNan, nanBits}
+use lib.Ieee.{Float, nan, inf, fin, binary32, ofBits, toBits, add, mul, div, ne, isNan, nanBits}
 use lib.Ieee.Bits.{nanBits-is, nanBits-above}
 use lib.Ieee.Compare.{differs-from-itself, nan-differs}
 use borrow.Author.Tests.{lt-ltb, le-ltb}
-use Rattle.definition.specs.Floats.{value, cell, onCells, flag, onFlags}
+use Rattle.definition.specs.Floats.{value, cell, onCells, flag, onFlags, mulV}
 
 pub yes : {b : Bool} → b ≡ true → T b
 yes h = subst T (sym h) tt
@@ -55,3 +54,7 @@ on-cells op a b r x y p q h = cc
 
 pub on-flags : (test : Float → Float → Bool) (a b r : ℕ) (x y : Float) → x ≡ value a → y ≡ value b → r ≡ flag (test x y) → r ≡ onFlags test a b
 on-flags test a b r x y p q h = cc
+
+-- the products of three pairs, added up from +0
+pub on-products : (a0 a1 a2 b0 b1 b2 r : ℕ) (x0 x1 x2 y0 y1 y2 : Float) → x0 ≡ value a0 → y0 ≡ value b0 → x1 ≡ value a1 → y1 ≡ value b1 → x2 ≡ value a2 → y2 ≡ value b2 → r ≡ cell (add binary32 (add binary32 (add binary32 (value 0) (mul binary32 x0 y0)) (mul binary32 x1 y1)) (mul binary32 x2 y2)) → r ≡ mulV a0 a1 a2 b0 b1 b2
+on-products a0 a1 a2 b0 b1 b2 r x0 x1 x2 y0 y1 y2 p0 q0 p1 q1 p2 q2 h = cc

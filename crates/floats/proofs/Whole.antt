@@ -3,7 +3,7 @@ use Prim.Native.Nat.{ℕ, zero, suc, _+_, _-_, _*_, _/_, _%_, _^_, _≤_, _<_, m
 use mathlib.Core.Path.{_≡_, refl, sym, ap, _∙_, subst}
 use mathlib.Core.Logic.{_⊎_, inl, inr}
 use mathlib.Core.Bool.{Bool, true, false, not, cond}
-use native.Mathlib.Nat.{mul-assoc, mul-comm, mul-right-comm, eq-of-mul-eq-mul-right, lt-of-lt-of-le, le-trans, le-of-eq, mod-lt, div-eq-of-lt, le-div-iff-mul-le, mul-le-mul-right, mul-le-mul-left, le-add-right, eq-or-lt-of-le}
+use native.Mathlib.Nat.{mul-assoc, mul-comm, mul-right-comm, eq-of-mul-eq-mul-right, lt-of-lt-of-le, le-trans, le-of-eq, mod-lt, mod-eq-of-lt, div-eq-of-lt, le-div-iff-mul-le, mul-le-mul-right, mul-le-mul-left, le-add-right, eq-or-lt-of-le}
 use native.Mathlib.Omega.{arith}
 use lib.Dec.{T, leb, ltb, eqb, lit≤}
 use lib.IntN.{ℤ, pos, negsuc, negℤ, _-ℤ_}
@@ -171,11 +171,17 @@ neg-fits zero h = record { sfits = h }
 neg-fits (suc n) h = record { sfits = omega arith }
 
 module _ (x : ℕ) (p : 127 ≤ field x) (q : field x < 158) where
-  pub room : scaled x < 2 ^ 54
+  room : scaled x < 2 ^ 54
   room = lt-of-lt-of-le (shl-lt 24 (field x - 127) (digits-lt x)) (pow-mono (the (field x) q))
     where
       the : (i : ℕ) → i < 158 → 24 + (i - 127) ≤ 54
       the i h = omega arith
+
+  -- d is the digits with their leading one, moved up in 64 bits
+  pub moved-up : (d : ℕ) → d ≡ 8388608 + x % 8388608 → d * 2 ^ (field x - 127) % 18446744073709551616 ≡ scaled x
+  moved-up d e =
+      ap (λ (k : ℕ). k * 2 ^ (field x - 127) % 18446744073709551616) e
+      ∙ mod-eq-of-lt (lt-of-lt-of-le room (lit≤ tt))
 
   -- r is what `scaled_up` gives
   module _ (r : ℕ) (g : r ≡ scaled x) where

@@ -1,4 +1,4 @@
-// Floats on cells. A cell is a `u32`, the bit pattern of an `f32`; each function here is the definition's of the same name (specs/Floats.antt there).
+// Floats on cells. A cell is a `u32`, the bit pattern of an `f32`; each function here equals the definition's of the same name.
 ghost use mathlib.Core.Path.{_≡_};
 ghost use Prim.Native.Nat.{_≤_, _<_, _%_, _/_};
 ghost use Rattle.definition.specs.Floats.{value, cell, addF, subF, mulF, divF, flag, isZero, eqF, neF, leF, geF, ltF, gtF, andF, orF, notF, whole, bitAndF, bitOrF};
@@ -74,22 +74,10 @@ pub fn ne_f(a: u32, b: u32) -> u32
     flag(of_cell(a) != of_cell(b))
 }
 
-pub fn lt_f(a: u32, b: u32) -> u32
-    ensures { λ r. ⌜ r ≡ ltF a b ⌝ }
-{
-    flag(of_cell(a) < of_cell(b))
-}
-
 pub fn le_f(a: u32, b: u32) -> u32
     ensures { λ r. ⌜ r ≡ leF a b ⌝ }
 {
     flag(of_cell(a) <= of_cell(b))
-}
-
-pub fn gt_f(a: u32, b: u32) -> u32
-    ensures { λ r. ⌜ r ≡ gtF a b ⌝ }
-{
-    flag(of_cell(a) > of_cell(b))
 }
 
 pub fn ge_f(a: u32, b: u32) -> u32
@@ -98,7 +86,19 @@ pub fn ge_f(a: u32, b: u32) -> u32
     flag(of_cell(a) >= of_cell(b))
 }
 
-// `&` and `|` on bools, and not `&&` and `||`: no branch, so the proof is the one of the others.
+pub fn lt_f(a: u32, b: u32) -> u32
+    ensures { λ r. ⌜ r ≡ ltF a b ⌝ }
+{
+    flag(of_cell(a) < of_cell(b))
+}
+
+pub fn gt_f(a: u32, b: u32) -> u32
+    ensures { λ r. ⌜ r ≡ gtF a b ⌝ }
+{
+    flag(of_cell(a) > of_cell(b))
+}
+
+// `&` and `|` on bools, not `&&` and `||`: no branch, in the code and in the proof.
 pub fn and_f(a: u32, b: u32) -> u32
     ensures { λ r. ⌜ r ≡ andF a b ⌝ }
 {
@@ -117,7 +117,13 @@ pub fn not_f(a: u32) -> u32
     flag(is_zero(a))
 }
 
-// The magnitude of a cell's float, in units of 2^-23, where the exponent's field is that of a number from 1 to below 2^31.
+fn wide(x: u32) -> u64
+    ensures { λ r. ⌜ r ≡ x ⌝ }
+{
+    x as u64
+}
+
+// The magnitude of a cell's float in units of 2^-23. The exponent's field is that of a number from 1 to below 2^31.
 fn scaled_up(x: u32) -> u64
     requires { ⌜ (127 ≤ x % 2147483648 / 8388608) × (x % 2147483648 / 8388608 < 158) ⌝ }
     ensures { λ r. ⌜ r ≡ scaled x ⌝ }
@@ -126,13 +132,7 @@ fn scaled_up(x: u32) -> u64
     wide(0x80_0000 + x % 0x80_0000) << (e - 127)
 }
 
-fn wide(x: u32) -> u64
-    ensures { λ r. ⌜ r ≡ x ⌝ }
-{
-    x as u64
-}
-
-// The whole part, toward zero, to the ends of the range of an `i32`; a NaN gives 0. Worked out from the bits: `e` is the exponent's field.
+// The Rust's `as i32`, worked out from the bits: toward zero, to the ends of the range, 0 for a NaN. `e` is the exponent's field.
 pub fn to_i32(x: u32) -> i32
     ensures { λ r. ⌜ r ≡ whole x ⌝ }
 {
@@ -219,9 +219,10 @@ pub fn not_n(a: u32) -> u32
     flag(a == 0)
 }
 
-// ---- by opcode: what a statement of the shape makes of its operands' cells, 0 where the opcode has another shape.
-// One number to an arm, and a `return` in each: consecutive numbers in one arm become ranges, and arms that meet again a case for each at the end.
+// ---- by opcode, 0 where it is none of those here. One number to an arm and a `return` in each: the prover reads consecutive numbers in one arm
+// as ranges, and arms that meet again as one case for each.
 
+// Two floats: the result of MulF, Div, AddF, SubF, the comparisons, And, Or, BitAnd, BitOr.
 pub fn float_op(op: u16, a: u32, b: u32) -> u32
     ensures { λ r. ⌜ r ≡ floatOp op a b ⌝ }
 {
@@ -244,7 +245,7 @@ pub fn float_op(op: u16, a: u32, b: u32) -> u32
     }
 }
 
-// One component of a vector's result. MulFV, MulVF, AddV, SubV.
+// One component of each operand: a component of the result of MulFV, MulVF, AddV, SubV.
 pub fn component_op(op: u16, x: u32, y: u32) -> u32
     ensures { λ r. ⌜ r ≡ componentOp op x y ⌝ }
 {
@@ -257,6 +258,7 @@ pub fn component_op(op: u16, x: u32, y: u32) -> u32
     }
 }
 
+// Two vectors: the result of MulV, EqV, NeV.
 pub fn dot_op(op: u16, a0: u32, a1: u32, a2: u32, b0: u32, b1: u32, b2: u32) -> u32
     ensures { λ r. ⌜ r ≡ dotOp op a0 a1 a2 b0 b1 b2 ⌝ }
 {
@@ -268,7 +270,7 @@ pub fn dot_op(op: u16, a0: u32, a1: u32, a2: u32, b0: u32, b1: u32, b2: u32) -> 
     }
 }
 
-// String, entity and function numbers.
+// Two numbers: the result of EqS, EqEnt, EqFnc, NeS, NeEnt, NeFnc.
 pub fn value_op(op: u16, a: u32, b: u32) -> u32
     ensures { λ r. ⌜ r ≡ valueOp op a b ⌝ }
 {
@@ -283,7 +285,7 @@ pub fn value_op(op: u16, a: u32, b: u32) -> u32
     }
 }
 
-// NotF, NotEnt, NotFnc.
+// One value: the result of NotF, NotEnt, NotFnc.
 pub fn not_op(op: u16, a: u32) -> u32
     ensures { λ r. ⌜ r ≡ notOp op a ⌝ }
 {

@@ -16,9 +16,9 @@ not-op-spec =
     tie.close
     (tie.spec
     (λ c κs. tt)
-    (λ c. row 44 _ _ (c .before .match .keys1) (c .not-f .ensures))
+    (λ c. row _ _ _ (c .before .match .keys1) (c .not-f .ensures))
     (λ c κs. tt)
-    (λ c. row 47 _ _ (c .before .match .keys2) (c .not-n .ensures))
+    (λ c. row _ _ _ (c .before .match .keys2) (c .not-n .ensures))
     (λ c κs. tt)
-    (λ c. row 48 _ _ (c .before .match .keys3) (c .not-n2 .ensures))
+    (λ c. row _ _ _ (c .before .match .keys3) (c .not-n2 .ensures))
     (λ c. last negatesOf (λ a. 0) (λ (f : Unary). f (c .before .args .a)) (44 ∷ 47 ∷ 48 ∷ []) (c .before .args .op) tt (c .match .rest)))
