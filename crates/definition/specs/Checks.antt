@@ -2,7 +2,7 @@
 -- the refusal that it gives where it fails; the first that fails refuses.
 use Prim.Native.Nat.{ℕ, zero, suc, _-_}
 use mathlib.Core.List.{List, [], _∷_}
-use mathlib.Core.Bool.{Bool, true, false}
+use mathlib.Core.Bool.{Bool, cond}
 
 -- A condition and its number, which is 1 or more. The number is kept less 1, so that 0 can stand for "no refusal".
 pub record Condition : Type 0 where
@@ -19,7 +19,7 @@ Conditions = List Condition
 -- the number of the first condition that fails, 0 where all hold
 unfoldable pub judge : Conditions → ℕ
 judge [] = 0
-judge (c ∷ cs) = elim (c .holds) [ true ↦ judge cs | false ↦ suc (c .number-1) ]
+judge (c ∷ cs) = cond (c .holds) (judge cs) (suc (c .number-1))
 
 -- what a checked operation gives: the number of its refusal, or its result
 pub data Checked (A : Type 0) : Type 0 where

@@ -8,3 +8,12 @@ pub mod Machine
 pub mod Load
 pub mod Operations
 pub mod Answers
+pub mod Starred
+pub mod Calls
+pub mod Returns
+pub mod CheckLaws
+pub mod Parts
+pub mod StatementLaws
+pub mod Walk
+pub mod RecordLaws
+pub mod ReturnsHold

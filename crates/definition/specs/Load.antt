@@ -45,21 +45,36 @@ each conditions (x ∷ xs) = conditions x ++ each conditions xs
 
 -- ---- the load
 
--- rows "header" to "cells" for a file beside so many lent cells and a saved store of so many; `least` is the least number of cells
-unfoldable pub loadConditions : ℕ → List ℕ → ℕ → ℕ → Conditions
-loadConditions least file lent store =
-    let r = fileOf file in
-    let k = contentsOf file in
-    let strings = r .strings .count in
-    (lengthFits r otherwise 1)
+-- the row "header"
+unfoldable pub headerConditions : List ℕ → Conditions
+headerConditions file =
+    (lengthFits (fileOf file) otherwise 1)
     ∷ (eqb (versionOf file) 6 otherwise 2)
     ∷ (eqb (checkNumberOf file) 5927 otherwise 3)
-    ∷ (lumpsFit r otherwise 4)
-    ∷ each (functionConditions strings) (k .functions)
+    ∷ (lumpsFit (fileOf file) otherwise 4)
+    ∷ []
+
+-- the rows "functions", "statements", "global, then field definitions"
+unfoldable pub recordConditions : ℕ → Contents → Conditions
+recordConditions strings k =
+    each (functionConditions strings) (k .functions)
     ++ each statementConditions (k .statements)
     ++ each (globaldefConditions strings) (k .globaldefs)
     ++ each (fielddefConditions strings) (k .fielddefs)
-    ++ ((cellsFit least r otherwise 10) ∷ (entityFits r otherwise 11) ∷ (leb (r .globals .count) lent && leb 2048 store otherwise 12) ∷ [])
+
+-- the row "cells", beside so many lent cells and a saved store of so many; `least` is the least number of cells
+unfoldable pub cellConditions : ℕ → FileRecord → ℕ → ℕ → Conditions
+cellConditions least r lent store =
+    (cellsFit least r otherwise 10)
+    ∷ (entityFits r otherwise 11)
+    ∷ (leb (r .globals .count) lent && leb 2048 store otherwise 12)
+    ∷ []
+
+abbrev pub loadConditions : ℕ → List ℕ → ℕ → ℕ → Conditions
+loadConditions least file lent store =
+    headerConditions file
+    ++ recordConditions (fileOf file .strings .count) (contentsOf file)
+    ++ cellConditions least (fileOf file) lent store
 
 -- "A load fills the lent cells from 0 and leaves those past the file's count"
 unfoldable pub loaded : List ℕ → List ℕ → List ℕ → Config

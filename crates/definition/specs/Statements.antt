@@ -92,20 +92,30 @@ unfoldable pub shapeOf : ℕ → Shape
 unfolding opcodes
 shapeOf opcode = getD opcodes opcode host
 
--- ---- the shapes, where the operands name the cells a, b and c ("Operand order is first, second, destination"). Statements "but an entering Call,
--- Return and Done add 1" to the position.
+-- ---- the shapes that write cells, where the operands name the cells a, b and c ("Operand order is first, second, destination")
 
-unfoldable pub floatsDo : (ℕ → ℕ → ℕ) → Typing → ℤ → ℕ → ℕ → ℕ → List ℕ → Does
-floatsDo f g p a b c cells =
-    provided
-    (access g float a ++ access g float b ++ access g float c)
-    (next (p +ℤ pos 1) (set cells c (f (getD cells a 0) (getD cells b 0))))
+-- what such a statement checks, and the cells after it
+pub record Effect : Type 0 where
+  pub conditions : Conditions
+  pub cells : List ℕ
 
-unfoldable pub valuesDo : ℕ → (ℕ → ℕ → ℕ) → Typing → ℤ → ℕ → ℕ → ℕ → List ℕ → Does
-valuesDo t f g p a b c cells =
-    provided
-    (readAccess g (mustBePositive t) t a cells ++ readAccess g (mustBePositive t) t b cells ++ access g float c)
-    (next (p +ℤ pos 1) (set cells c (f (getD cells a 0) (getD cells b 0))))
+-- "other statements but an entering Call, Return and Done add 1" to the position
+abbrev pub effectDoes : ℤ → Effect → Does
+effectDoes p e = provided (e .conditions) (next (p +ℤ pos 1) (e .cells))
+
+unfoldable pub floatsEffect : (ℕ → ℕ → ℕ) → Typing → ℕ → ℕ → ℕ → List ℕ → Effect
+floatsEffect f g a b c cells =
+    record {
+      conditions = access g float a ++ access g float b ++ access g float c;
+      cells = set cells c (f (getD cells a 0) (getD cells b 0));
+    }
+
+unfoldable pub valuesEffect : ℕ → (ℕ → ℕ → ℕ) → Typing → ℕ → ℕ → ℕ → List ℕ → Effect
+valuesEffect t f g a b c cells =
+    record {
+      conditions = readAccess g (mustBePositive t) t a cells ++ readAccess g (mustBePositive t) t b cells ++ access g float c;
+      cells = set cells c (f (getD cells a 0) (getD cells b 0));
+    }
 
 -- the cell of component i of an operand of a type: a float serves for all three
 abbrev pub component : ℕ → ℕ → ℕ → ℕ
@@ -120,19 +130,19 @@ vectorResult ta tb f a b c cells =
     (c + 1) (f (getD cells (component ta a 1) 0) (getD cells (component tb b 1) 0)))
     (c + 2) (f (getD cells (component ta a 2) 0) (getD cells (component tb b 2) 0))
 
-unfoldable pub vectorsDo : ℕ → ℕ → (ℕ → ℕ → ℕ) → Typing → ℤ → ℕ → ℕ → ℕ → List ℕ → Does
-vectorsDo ta tb f g p a b c cells =
-    provided
-    (access g ta a ++ access g tb b ++ access g vector c)
-    (next (p +ℤ pos 1) (vectorResult ta tb f a b c cells))
+unfoldable pub vectorsEffect : ℕ → ℕ → (ℕ → ℕ → ℕ) → Typing → ℕ → ℕ → ℕ → List ℕ → Effect
+vectorsEffect ta tb f g a b c cells =
+    record {
+      conditions = access g ta a ++ access g tb b ++ access g vector c;
+      cells = vectorResult ta tb f a b c cells;
+    }
 
-unfoldable pub dotsDo : (ℕ → ℕ → ℕ → ℕ → ℕ → ℕ → ℕ) → Typing → ℤ → ℕ → ℕ → ℕ → List ℕ → Does
-dotsDo f g p a b c cells =
-    provided
-    (access g vector a ++ access g vector b ++ access g float c)
-    (next (p +ℤ pos 1)
-    (set cells c
-    (f (getD cells a 0) (getD cells (a + 1) 0) (getD cells (a + 2) 0) (getD cells b 0) (getD cells (b + 1) 0) (getD cells (b + 2) 0))))
+unfoldable pub dotsEffect : (ℕ → ℕ → ℕ → ℕ → ℕ → ℕ → ℕ) → Typing → ℕ → ℕ → ℕ → List ℕ → Effect
+dotsEffect f g a b c cells =
+    record {
+      conditions = access g vector a ++ access g vector b ++ access g float c;
+      cells = set cells c (f (getD cells a 0) (getD cells (a + 1) 0) (getD cells (a + 2) 0) (getD cells b 0) (getD cells (b + 1) 0) (getD cells (b + 2) 0));
+    }
 
 -- "EqS, NeS and NotS refuse negative operands 15 before any type check"
 abbrev pub operandGiven : ℕ → Conditions
@@ -145,35 +155,39 @@ stringAccess g a b = cond (eqb a b) [] (access g string a ++ access g string b)
 abbrev pub stringResult : (ℕ → ℕ → ℕ) → ℕ → ℕ → List ℕ → ℕ
 stringResult f a b cells = cond (eqb a b) (f 0 0) (f (getD cells a 0) (getD cells b 0))
 
-unfoldable pub stringsDo : (ℕ → ℕ → ℕ) → Typing → ℤ → ℕ → ℕ → ℕ → List ℕ → Does
-stringsDo f g p a b c cells =
-    provided
-    (operandGiven a ++ operandGiven b ++ stringAccess g a b ++ access g float c)
-    (next (p +ℤ pos 1) (set cells c (stringResult f a b cells)))
+unfoldable pub stringsEffect : (ℕ → ℕ → ℕ) → Typing → ℕ → ℕ → ℕ → List ℕ → Effect
+stringsEffect f g a b c cells =
+    record {
+      conditions = operandGiven a ++ operandGiven b ++ stringAccess g a b ++ access g float c;
+      cells = set cells c (stringResult f a b cells);
+    }
 
 -- "18: third operand of a Store (31 to 36) or second of a Not isn't 0"
 abbrev pub unused : ℕ → Conditions
 unused cell = (eqb cell 0 otherwise 18) ∷ []
 
-unfoldable pub negatesDo : ℕ → (ℕ → ℕ) → Typing → ℤ → ℕ → ℕ → ℕ → List ℕ → Does
-negatesDo t f g p a b c cells =
-    provided
-    (unused b ++ readAccess g (mustBePositive t) t a cells ++ access g float c)
-    (next (p +ℤ pos 1) (set cells c (f (getD cells a 0))))
+unfoldable pub negatesEffect : ℕ → (ℕ → ℕ) → Typing → ℕ → ℕ → ℕ → List ℕ → Effect
+negatesEffect t f g a b c cells =
+    record {
+      conditions = unused b ++ readAccess g (mustBePositive t) t a cells ++ access g float c;
+      cells = set cells c (f (getD cells a 0));
+    }
 
 -- NotV writes one float (pr_exec.c)
-unfoldable pub negatesVDo : Typing → ℤ → ℕ → ℕ → ℕ → List ℕ → Does
-negatesVDo g p a b c cells =
-    provided
-    (unused b ++ access g vector a ++ access g float c)
-    (next (p +ℤ pos 1) (set cells c (notV (getD cells a 0) (getD cells (a + 1) 0) (getD cells (a + 2) 0))))
+unfoldable pub negatesVEffect : Typing → ℕ → ℕ → ℕ → List ℕ → Effect
+negatesVEffect g a b c cells =
+    record {
+      conditions = unused b ++ access g vector a ++ access g float c;
+      cells = set cells c (notV (getD cells a 0) (getD cells (a + 1) 0) (getD cells (a + 2) 0));
+    }
 
 -- "NotS gives 1.0 for operand 0, as the Rust does, or string number 0; operand 0 is still checked"
-unfoldable pub negatesSDo : Typing → ℤ → ℕ → ℕ → ℕ → List ℕ → Does
-negatesSDo g p a b c cells =
-    provided
-    (unused b ++ operandGiven a ++ access g string a ++ access g float c)
-    (next (p +ℤ pos 1) (set cells c (flag (eqb a 0 || eqb (getD cells a 0) 0))))
+unfoldable pub negatesSEffect : Typing → ℕ → ℕ → ℕ → List ℕ → Effect
+negatesSEffect g a b c cells =
+    record {
+      conditions = unused b ++ operandGiven a ++ access g string a ++ access g float c;
+      cells = set cells c (flag (eqb a 0 || eqb (getD cells a 0) 0));
+    }
 
 abbrev pub moved : ℕ → ℕ → List ℕ → List ℕ
 moved a b cells = set cells b (getD cells a 0)
@@ -182,11 +196,12 @@ moved a b cells = set cells b (getD cells a 0)
 abbrev pub storedPositive : ℕ → Bool
 storedPositive t = mustBePositive t || eqb t string
 
-unfoldable pub storesDo : ℕ → Typing → ℤ → ℕ → ℕ → ℕ → List ℕ → Does
-storesDo t g p a b c cells =
-    provided
-    (unused c ++ readAccess g (storedPositive t) t a cells ++ access g t b)
-    (next (p +ℤ pos 1) (moved a b cells))
+unfoldable pub storesEffect : ℕ → Typing → ℕ → ℕ → ℕ → List ℕ → Effect
+storesEffect t g a b c cells =
+    record {
+      conditions = unused c ++ readAccess g (storedPositive t) t a cells ++ access g t b;
+      cells = moved a b cells;
+    }
 
 -- "where the destination is 1 to 27 all three, source and destination, are checked by address alone"
 abbrev pub argumentCell : ℕ → Bool
@@ -196,12 +211,13 @@ abbrev pub moveAccess : Typing → Bool → ℕ → ℕ → Conditions
 moveAccess g raw a b = cond raw (addressed g a ++ addressed g b) (cellAccess g float a ++ cellAccess g float b)
 
 -- "StoreV goes cell by cell, source before destination, each typed as float"
-unfoldable pub storesVDo : Typing → ℤ → ℕ → ℕ → ℕ → List ℕ → Does
-storesVDo g p a b c cells =
+unfoldable pub storesVEffect : Typing → ℕ → ℕ → ℕ → List ℕ → Effect
+storesVEffect g a b c cells =
     let raw = argumentCell b in
-    provided
-    (unused c ++ moveAccess g raw a b ++ moveAccess g raw (a + 1) (b + 1) ++ moveAccess g raw (a + 2) (b + 2))
-    (next (p +ℤ pos 1) (moved (a + 2) (b + 2) (moved (a + 1) (b + 1) (moved a b cells))))
+    record {
+      conditions = unused c ++ moveAccess g raw a b ++ moveAccess g raw (a + 1) (b + 1) ++ moveAccess g raw (a + 2) (b + 2);
+      cells = moved (a + 2) (b + 2) (moved (a + 1) (b + 1) (moved a b cells));
+    }
 
 -- "If jumps unless the float is +0 or -0 (so on NaN); IfNot jumps on those two. A jump adds to the position"
 unfoldable pub branchesDo : Bool → Typing → ℤ → ℕ → ℤ → List ℕ → Does
@@ -241,16 +257,16 @@ fetchConditions statements p =
 
 -- a statement of a shape at the position p, whose operands name the cells a, b and c
 abbrev pub executeAs : Shape → Contents → Typing → ℤ → Statement → ℕ → ℕ → ℕ → List ℕ → Does
-executeAs (floats f) k g p st a b c cells = floatsDo f g p a b c cells
-executeAs (values t f) k g p st a b c cells = valuesDo t f g p a b c cells
-executeAs (vectors ta tb f) k g p st a b c cells = vectorsDo ta tb f g p a b c cells
-executeAs (dots f) k g p st a b c cells = dotsDo f g p a b c cells
-executeAs (strings f) k g p st a b c cells = stringsDo f g p a b c cells
-executeAs (negates t f) k g p st a b c cells = negatesDo t f g p a b c cells
-executeAs negatesV k g p st a b c cells = negatesVDo g p a b c cells
-executeAs negatesS k g p st a b c cells = negatesSDo g p a b c cells
-executeAs (stores t) k g p st a b c cells = storesDo t g p a b c cells
-executeAs storesV k g p st a b c cells = storesVDo g p a b c cells
+executeAs (floats f) k g p st a b c cells = effectDoes p (floatsEffect f g a b c cells)
+executeAs (values t f) k g p st a b c cells = effectDoes p (valuesEffect t f g a b c cells)
+executeAs (vectors ta tb f) k g p st a b c cells = effectDoes p (vectorsEffect ta tb f g a b c cells)
+executeAs (dots f) k g p st a b c cells = effectDoes p (dotsEffect f g a b c cells)
+executeAs (strings f) k g p st a b c cells = effectDoes p (stringsEffect f g a b c cells)
+executeAs (negates t f) k g p st a b c cells = effectDoes p (negatesEffect t f g a b c cells)
+executeAs negatesV k g p st a b c cells = effectDoes p (negatesVEffect g a b c cells)
+executeAs negatesS k g p st a b c cells = effectDoes p (negatesSEffect g a b c cells)
+executeAs (stores t) k g p st a b c cells = effectDoes p (storesEffect t g a b c cells)
+executeAs storesV k g p st a b c cells = effectDoes p (storesVEffect g a b c cells)
 executeAs (branches when) k g p st a b c cells = branchesDo when g p a (signed (st .arg2)) cells
 executeAs jumps k g p st a b c cells = next (p +ℤ signed (st .arg1)) cells
 executeAs call k g p st a b c cells = callDoes (k .functions) g a cells

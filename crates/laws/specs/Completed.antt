@@ -1,0 +1,74 @@
+-- What a completed statement is, by the file alone: entered exactly at a completed Call opcode of a function that is no builtin, left exactly at a
+-- completed Return or Done; and what calls leave, refused ones too.
+use Prim.Native.Nat.{ℕ, zero, suc}
+use mathlib.Core.Path.{_≡_, refl, sym, _∙_, ap}
+use mathlib.Core.List.{List}
+use native.Mathlib.Omega.{arith}
+use lib.IntN.{ℤ, pos, _+ℤ_}
+use lib.ListN.{length}
+use Rattle.definition.specs.declared.Handover.{Handover}
+use Rattle.definition.specs.Checks.{Condition, Conditions, judge, Checked, refused, accepted, decided, guard}
+use Rattle.definition.specs.File.{contentsOf}
+use Rattle.definition.specs.Statements.{Does, next, calls, returns, refuses, handsOver}
+use Rattle.definition.specs.Machine.{Program, Config, advanced, entryConditions, entered, returnConditions, returned, Stepped, completed, refusedStep, handedStep, asStep, stepAs, step}
+use Rattle.definition.specs.Load.{programOf}
+use Rattle.definition.specs.Operations.{hostEnter, statement, run, carryOn, abandon, rawRead, rawWrite}
+use Rattle.definition.specs.Answers.{statementOutcome}
+use Rattle.definition.specs.Calls.{Call, enters, steps, runs, carries, abandons, reads, writes, after}
+use Rattle.definition.specs.Returns.{Kind, entry, leaving, other, statementKind}
+use Rattle.definition.specs.StatementLaws.{Is, statement-is}
+
+-- what a completed statement made of c, by its kind
+abbrev pub Made : List ℕ → Config → Config → Kind → Type 0
+Made file c c′ (entry f back) = c′ ≡ entered (programOf file) f back c
+Made file c c′ leaving = (a : ℕ) × (c′ ≡ returned (programOf file) a c)
+Made file c c′ other = c′ ≡ advanced c (c′ .state .pc) (c′ .cells)
+
+as-accepted : (cs : Conditions) (a c′ : Config) → asStep (guard cs a) ≡ completed c′ → c′ ≡ a
+unfolding guard
+as-accepted cs a c′ = go (judge cs)
+  where
+    go : (n : ℕ) → asStep (decided n a) ≡ completed c′ → c′ ≡ a
+    go zero e = cc
+    go (suc n) e = absurd (let z : _≡_ {A = ℕ} 0 1 = cc in omega arith)
+
+made : (file : List ℕ) (c c′ : Config) (κ : Kind) (x : Does) → Is (length (contentsOf file .globals)) (c .state .pc) (c .cells) κ x
+    → stepAs (programOf file) x c ≡ completed c′ → Made file c c′ κ
+unfolding stepAs
+made file c c′ κ (next p cells) (o, keeps) e = rw o (let s : advanced c p cells ≡ c′ = cc in sym s ∙ ap (λ (y : Config). advanced c (y .state .pc) (y .cells)) s)
+made file c c′ κ (calls f) is e = rw is (as-accepted (entryConditions (programOf file) f c) (entered (programOf file) f (c .state .pc +ℤ pos 1) c) c′ e)
+made file c c′ κ (returns a) is e = rw is (a, as-accepted (returnConditions (programOf file) a c) (returned (programOf file) a c) c′ e)
+made file c c′ κ (refuses n) is e = absurd (let z : _≡_ {A = ℕ} 0 1 = cc in omega arith)
+made file c c′ κ (handsOver h) is e = absurd (let z : _≡_ {A = ℕ} 0 1 = cc in omega arith)
+
+pub completed-is : (file : List ℕ) (c c′ : Config) → step (programOf file) c ≡ completed c′ → Made file c c′ (statementKind file (c .state .pc) (c .cells))
+unfolding step
+completed-is file c c′ e =
+    made file c c′ (statementKind file (c .state .pc) (c .cells)) (programOf file .does (c .state .pc) (c .cells)) (statement-is file (c .state .pc) (c .cells)) e
+
+-- ---- what calls leave
+
+-- a call is refused, or a statement is handed over
+abbrev pub NotDone : Program → Call → Config → Type 0
+NotDone P (enters f) c = (n : ℕ) × (hostEnter P f c ≡ refused n)
+NotDone P steps c = (n : ℕ) × (statement P c ≡ refusedStep n)
+NotDone P (runs target limit) c = run P target limit c .config ≡ c
+NotDone P carries c = (n : ℕ) × (carryOn P c ≡ refused n)
+NotDone P (abandons target) c = (n : ℕ) × (abandon P target c ≡ refused n)
+NotDone P (reads a) c = Unit {0}
+NotDone P (writes a v) c = (n : ℕ) × (rawWrite P a v c ≡ refused n)
+
+-- a refusal leaves state, cells and saved store; of a run, those after its last completed statement (run-exactly, and the claim of demand 3)
+pub refusal-leaves : (P : Program) (k : Call) (c : Config) → NotDone P k c → after P k c ≡ c
+unfolding after
+refusal-leaves P (enters f) c (n, e) = rw e
+refusal-leaves P steps c (n, e) = ap (λ (s : Stepped). statementOutcome c s .config) e
+refusal-leaves P (runs target limit) c e = e
+refusal-leaves P carries c (n, e) = rw e
+refusal-leaves P (abandons target) c (n, e) = rw e
+refusal-leaves P (reads a) c u = refl
+refusal-leaves P (writes a v) c (n, e) = rw e
+
+pub handover-leaves : (P : Program) (c : Config) (h : Handover) → statement P c ≡ handedStep h → after P steps c ≡ c
+unfolding after
+handover-leaves P c h e = ap (λ (s : Stepped). statementOutcome c s .config) e

@@ -1,0 +1,268 @@
+-- After an accepted load check 13 refuses no call of any list, and what the load records stays. So demand 3 is not had by refusing.
+use Prim.Native.Nat.{ℕ, zero, suc, _+_, _-_, _≤_, _<_}
+use mathlib.Core.Path.{_≡_, refl, sym, _∙_, ap, subst}
+use mathlib.Core.List.{List, [], _∷_, _++_}
+use mathlib.Core.Bool.{Bool, true, false, not, _&&_}
+use native.Mathlib.Omega.{arith}
+use borrow.Author.Tests.{ltb-true, leb-true, le-leb, eq-eqb, eqb-true}
+use lib.IntN.{ℤ, pos, _+ℤ_}
+use lib.ListN.{length, drop, getD, set, length-set, length-drop, length-replicate, length-append}
+use lib.Seq.{paste, length-paste, getD-set-same, getD-set-other}
+use lib.Dec.{leb, ltb, eqb, eqb-refl}
+use Rattle.definition.specs.declared.Lump.{Lump}
+use Rattle.definition.specs.declared.FileRecord.{FileRecord}
+use Rattle.definition.specs.declared.FunctionDef.{FunctionDef}
+use Rattle.definition.specs.declared.StackFrame.{StackFrame}
+use Rattle.definition.specs.Checks.{Condition, Conditions, Checked, refused, accepted, guard}
+use Rattle.definition.specs.File.{negative, fileOf, contentsOf, lengthFits, lumpsFit, leastCells, cellsFit, entityFits}
+use Rattle.definition.specs.Machine.{Program, functionOf, State, Config, countOf, limits, zeroFrame, startState, present, copied, successive, argumentsOf, withCells, advanced}
+use Rattle.definition.specs.Machine.{entryConditions, entered, leaveConditions, left, returnConditions, returned}
+use Rattle.definition.specs.Load.{headerConditions, recordConditions, cellConditions, loadConditions, loaded, load, sameLump, sameFile, recordedIn, programAt, programOf}
+use Rattle.definition.specs.Operations.{frameFunctions, enteredAt, enteredFunctions, allPresent, localsOf, sound}
+use Rattle.definition.specs.Calls.{Call}
+use Rattle.definition.specs.Returns.{Log, Kind, entry, leaving, other, StepClaim, Through}
+use Rattle.definition.specs.CheckLaws.{All, and-left, and-right, and-both, all-front, all-back, WhenAccepted, guarded}
+use Rattle.definition.specs.Parts.{Present, present-true, present-more, present-source, length-pasted, length-copied}
+use Rattle.definition.specs.RecordLaws.{length-globals}
+use Rattle.definition.specs.StatementLaws.{Keeps}
+use Rattle.definition.specs.Walk.{Good, Steps, through}
+
+-- ---- the entered functions, after an entry and after a leaving
+
+-- frames above k do not count among those from k down
+frames-set : (k j : ℕ) (frames : List StackFrame) (x : StackFrame) → k < j → frameFunctions k (set frames j x) ≡ frameFunctions k frames
+unfolding frameFunctions
+frames-set zero j frames x h = refl
+frames-set (suc k) j frames x h =
+    rw (getD-set-other frames j (suc k) x zeroFrame (omega arith), frames-set k j frames x (omega arith))
+
+entered-more : (k f : ℕ) (frames : List StackFrame) (x : StackFrame) → k < length frames
+    → enteredAt (suc k) f (set frames k x) ≡ f ∷ enteredAt k (x .«func_id») frames
+unfolding frameFunctions
+entered-more zero f frames x h = refl
+entered-more (suc k) f frames x h =
+    rw (getD-set-same frames (suc k) x zeroFrame h, frames-set k (suc k) frames x (omega arith))
+
+entered-less : (k f : ℕ) (frames : List StackFrame)
+    → enteredAt (suc k) f frames ≡ f ∷ enteredAt k (getD frames k zeroFrame .«func_id») (set frames k zeroFrame)
+unfolding frameFunctions
+entered-less zero f frames = refl
+entered-less (suc k) f frames = rw (frames-set k (suc k) frames zeroFrame (omega arith))
+
+-- ---- what 13 asks of the state, as facts
+
+pub record Balanced (P : Program) (s : State) : Type 0 where
+  pub room : 31 ≤ length (s .frames)
+  pub depth-most : s .depth ≤ 31
+  pub all : allPresent P (enteredFunctions s) ≡ true
+  pub sum : s .saved ≡ localsOf P (enteredFunctions s)
+  pub saved-most : s .saved ≤ 2048
+
+pub record Steady (file : List ℕ) (c : Config) : Type 0 where
+  pub balanced : Balanced (programOf file) (c .state)
+  pub long : 2048 ≤ length (c .saved)
+  pub recorded : c .state .file ≡ fileOf file
+  pub enough : countOf c ≤ length (c .cells)
+  pub in-range : (lengthFits (fileOf file) && lumpsFit (fileOf file) && cellsFit leastCells (fileOf file) && entityFits (fileOf file)) ≡ true
+
+same-number : (n : ℕ) → eqb n n ≡ true
+same-number n = eq-eqb n n refl
+
+same-file : (r : FileRecord) → sameFile r r ≡ true
+unfolding sameFile
+same-file r =
+    rw (
+      same-number (r .length),
+      same-number (r .statements .offset),
+      same-number (r .statements .count),
+      same-number (r .globaldefs .offset),
+      same-number (r .globaldefs .count),
+      same-number (r .fielddefs .offset),
+      same-number (r .fielddefs .count),
+      same-number (r .functions .offset),
+      same-number (r .functions .count),
+      same-number (r .strings .offset),
+      same-number (r .strings .count),
+      same-number (r .globals .offset),
+      same-number (r .globals .count),
+      same-number (r .entityfields),
+    )
+
+steady-recorded : (file : List ℕ) (c : Config) → Steady file c → recordedIn file (c .state .file) (length (c .cells)) ≡ true
+unfolding recordedIn
+steady-recorded file c k =
+    let r = fileOf file in
+    let lent : leb (r .globals .count) (length (c .cells)) ≡ true = le-leb _ _ (rw (k .recorded) at (k .enough)) in
+    rw (k .recorded, same-file r, lent) (and-both _ true (k .in-range) refl)
+
+pub steady-sound : (file : List ℕ) (c : Config) → Steady file c → sound (programOf file) c ≡ true
+unfolding sound limits programAt
+steady-sound file c k =
+    rw (
+      steady-recorded file c k,
+      le-leb 2048 (length (c .saved)) (k .long),
+      le-leb (c .state .depth) 31 (k .balanced .depth-most),
+      k .balanced .all,
+      le-leb (c .state .saved) 2048 (k .balanced .saved-most),
+      eq-eqb (c .state .saved) (localsOf (programOf file) (enteredFunctions (c .state))) (k .balanced .sum),
+    )
+
+-- ---- kept by every small step
+
+-- only the position and cells of the same number change
+pub advanced-steady : (file : List ℕ) (c : Config) (p : ℤ) (cells : List ℕ) → length cells ≡ length (c .cells) → Steady file c → Steady file (advanced c p cells)
+unfolding enteredFunctions
+advanced-steady file c p cells e k =
+    record {
+      balanced =
+          record {
+            room = k .balanced .room;
+            depth-most = k .balanced .depth-most;
+            all = k .balanced .all;
+            sum = k .balanced .sum;
+            saved-most = k .balanced .saved-most;
+          };
+      long = k .long;
+      recorded = k .recorded;
+      enough = omega (arith, e, k .enough);
+      in-range = k .in-range;
+    }
+
+pub entered-steady : (file : List ℕ) (c : Config) (f : ℕ) (back : ℤ) → Steady file c → All (entryConditions (programOf file) f c)
+    → Steady file (entered (programOf file) f back c)
+unfolding entryConditions entered limits enteredFunctions allPresent localsOf
+entered-steady file c f back k h =
+    let P = programOf file in
+    let d = functionOf P f in
+    let s = c .state in
+    let shallow : s .depth < 31 = ltb-true (s .depth) 31 (h .1 .0) in
+    let positive : not (negative (d .locals)) ≡ true = and-left (not (negative (d .locals))) (leb (s .saved + d .locals) 2048) (h .1 .1 .0) in
+    let fits : s .saved + d .locals ≤ 2048 = leb-true _ _ (and-right (not (negative (d .locals))) (leb (s .saved + d .locals) 2048) (h .1 .1 .0)) in
+    let there : Present (d .start) (d .locals) (length (c .cells)) =
+    present-more _ _ (countOf c) _ (k .enough) (present-true (d .start) (d .locals) (countOf c) (h .1 .1 .1 .0))
+    in
+    let frame : StackFrame = record { «instr_id» = back; «func_id» = s .function } in
+    let e : enteredAt (s .depth + 1) f (set (s .frames) (s .depth) frame) ≡ f ∷ enteredAt (s .depth) (s .function) (s .frames) =
+    rw native.Mathlib.Numerals.add-one (entered-more (s .depth) f (s .frames) frame (omega (arith, k .balanced .room)))
+    in
+    let same : length (paste (c .saved) (s .saved) (drop (d .start) (c .cells)) (d .locals)) ≡ length (c .saved) =
+    length-paste (c .saved) (s .saved) (drop (d .start) (c .cells)) (d .locals) (omega (arith, k .long)) (present-source (c .cells) (d .start) (d .locals) there)
+    in
+    record {
+      balanced =
+          record {
+            room = omega (arith, k .balanced .room, length-set (s .frames) (s .depth) frame);
+            depth-most = omega arith;
+            all = rw (e, h .0, positive) (k .balanced .all);
+            sum = rw e (omega (arith, k .balanced .sum));
+            saved-most = fits;
+          };
+      long = omega (arith, same, k .long);
+      recorded = k .recorded;
+      enough = omega (arith, length-copied (argumentsOf d) (c .cells), k .enough);
+      in-range = k .in-range;
+    }
+
+-- in a balanced state above depth 0 the saved cells suffice for the function being left
+pub suffice : (P : Program) (s : State) → 0 < s .depth → Balanced P s → functionOf P (s .function) .locals ≤ s .saved
+unfolding enteredFunctions localsOf
+suffice P s h b =
+    let one : s .depth ≡ suc (s .depth - 1) = omega arith in
+    let e : enteredAt (s .depth) (s .function) (s .frames) ≡ s .function ∷ _ =
+    ap (λ (k : ℕ). enteredAt k (s .function) (s .frames)) one ∙ entered-less (s .depth - 1) (s .function) (s .frames)
+    in
+    omega (arith, b .sum, ap (localsOf P) e)
+
+pub left-steady : (file : List ℕ) (c : Config) → Steady file c → All (leaveConditions (programOf file) c) → Steady file (left (programOf file) c)
+unfolding leaveConditions left enteredFunctions allPresent localsOf
+left-steady file c k h =
+    let P = programOf file in
+    let s = c .state in
+    let d = functionOf P (s .function) in
+    let deep : 0 < s .depth = ltb-true 0 (s .depth) (h .0) in
+    let fewer : d .locals ≤ s .saved = leb-true (d .locals) (s .saved) (h .1 .0) in
+    let there : Present (d .start) (d .locals) (length (c .cells)) =
+    present-more _ _ (countOf c) _ (k .enough) (present-true (d .start) (d .locals) (countOf c) (h .1 .1 .0))
+    in
+    let one : s .depth ≡ suc (s .depth - 1) = omega arith in
+    let rest : List ℕ = enteredAt (s .depth - 1) (getD (s .frames) (s .depth - 1) zeroFrame .«func_id») (set (s .frames) (s .depth - 1) zeroFrame) in
+    let e : enteredAt (s .depth) (s .function) (s .frames) ≡ s .function ∷ rest =
+    ap (λ (m : ℕ). enteredAt m (s .function) (s .frames)) one ∙ entered-less (s .depth - 1) (s .function) (s .frames)
+    in
+    let alls : allPresent P (s .function ∷ rest) ≡ true = (rw e at (k .balanced .all)) in
+    let source : d .locals ≤ length (drop (s .saved - d .locals) (c .saved)) =
+    omega (arith, fewer, k .balanced .saved-most, k .long, length-drop (s .saved - d .locals) (c .saved))
+    in
+    record {
+      balanced =
+          record {
+            room = omega (arith, k .balanced .room, length-set (s .frames) (s .depth - 1) zeroFrame);
+            depth-most = omega (arith, k .balanced .depth-most);
+            all = and-right (ltb (s .function) (length (P .functions)) && not (negative (d .locals))) (allPresent P rest) alls;
+            sum = omega (arith, k .balanced .sum, ap (localsOf P) e);
+            saved-most = omega (arith, k .balanced .saved-most);
+          };
+      long = k .long;
+      recorded = k .recorded;
+      enough = omega (arith, k .enough, length-pasted (c .cells) (d .start) (drop (s .saved - d .locals) (c .saved)) (d .locals) there source);
+      in-range = k .in-range;
+    }
+
+-- nothing is claimed of a small step itself
+abbrev pub Any : StepClaim
+Any κ c l c′ = Unit {0}
+
+pub returned-steady : (file : List ℕ) (c : Config) (a : ℕ) → Steady file c → All (returnConditions (programOf file) a c) → Steady file (returned (programOf file) a c)
+unfolding leaveConditions
+returned-steady file c a k h =
+    let cells = copied (successive 3 a 1) (c .cells) in
+    left-steady file (withCells c cells) (advanced-steady file c (c .state .pc) cells (length-copied (successive 3 a 1) (c .cells)) k) (h .1)
+
+steady-steps : (file : List ℕ) → Steps file (λ c l. Steady file c) Any
+steady-steps file =
+    record {
+      plain = λ c l p cells k keeps. (tt, advanced-steady file c p cells (keeps .same-length) k);
+      writing = λ c l a v k h. (tt, advanced-steady file c (c .state .pc) (set (c .cells) a v) (length-set (c .cells) a v) k);
+      entering = λ c l f back k h. (tt, entered-steady file c f back k h);
+      returning = λ c l a k h. (tt, returned-steady file c a k h);
+      leave-one = λ c l k h. (tt, left-steady file c k h);
+    }
+
+-- ---- the load
+
+pub loaded-steady : (file cells saved : List ℕ) → WhenAccepted (Steady file) (load file cells saved)
+unfolding load loaded headerConditions cellConditions enteredFunctions allPresent localsOf
+loaded-steady file cells saved =
+    guarded (Steady file) _ _ λ h.
+    let r = fileOf file in
+    let k = contentsOf file in
+    let header : All (headerConditions file) =
+    all-front (headerConditions file) (recordConditions (r .strings .count) k)
+    (all-front (headerConditions file ++ recordConditions (r .strings .count) k) (cellConditions leastCells r (length cells) (length saved)) h)
+    in
+    let last : All (cellConditions leastCells r (length cells) (length saved)) =
+    all-back (headerConditions file ++ recordConditions (r .strings .count) k) (cellConditions leastCells r (length cells) (length saved)) h
+    in
+    record {
+      balanced = record { room = omega (arith, length-replicate 31 zeroFrame); depth-most = omega arith; all = refl; sum = refl; saved-most = omega arith };
+      long = leb-true 2048 (length saved) (and-right (leb (r .globals .count) (length cells)) (leb 2048 (length saved)) (last .1 .1 .0));
+      recorded = refl;
+      enough = omega (arith, length-append (k .globals) (drop (r .globals .count) cells), length-globals file);
+      in-range =
+          and-both (lengthFits r && lumpsFit r && cellsFit leastCells r) (entityFits r)
+          (and-both (lengthFits r && lumpsFit r) (cellsFit leastCells r) (and-both (lengthFits r) (lumpsFit r) (header .0) (header .1 .1 .1 .0)) (last .0))
+          (last .1 .0);
+    }
+
+-- what holds of every state that a list of calls meets
+pub record AsLoaded (file : List ℕ) (c : Config) (l : Log) : Type 0 where
+  -- check 13 does not refuse
+  pub passes : sound (programOf file) c ≡ true
+  -- what the load records stays
+  pub recorded : c .state .file ≡ fileOf file
+
+pub never-13 : (file cells saved : List ℕ) (c : Config) → load file cells saved ≡ accepted c → (calls : List Call) → Through file Any (AsLoaded file) c [] calls
+never-13 file cells saved c accepts calls =
+    through file (λ c′ l. Steady file c′) Any (steady-steps file) (AsLoaded file)
+    (λ c′ l k. record { passes = steady-sound file c′ k; recorded = k .recorded })
+    c [] calls (subst (WhenAccepted (Steady file)) accepts (loaded-steady file cells saved))

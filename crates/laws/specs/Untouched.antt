@@ -1,0 +1,195 @@
+-- What is never changed, whatever the list of calls: the number of cells, the cells from the file's count on, and saved cells outside the range that an
+-- entry newly saves.
+use Prim.Native.Nat.{ℕ, zero, suc, _+_, _-_, _≤_, _<_}
+use mathlib.Core.Path.{_≡_, refl, sym, _∙_, ap, subst}
+use mathlib.Core.List.{List, [], _∷_, _++_, append-assoc}
+use mathlib.Core.Bool.{Bool, true, false, not, _&&_}
+use native.Mathlib.Omega.{arith}
+use borrow.Author.Tests.{ltb-true, leb-true, lt-ltb}
+use lib.IntN.{ℤ}
+use lib.ListN.{length, take, drop, getD, set, length-set, length-drop, length-append}
+use lib.Seq.{paste, length-paste, drop-paste, take-at, drop-at, length-take-le, drop-set-lt, drop-drop}
+use lib.Dec.{leb, ltb}
+use Rattle.definition.specs.Checks.{Condition, Conditions, Checked, refused, accepted, guard}
+use Rattle.definition.specs.File.{negative, fileOf, contentsOf, lengthFits, lumpsFit, leastCells, cellsFit, entityFits}
+use Rattle.definition.specs.Machine.{Program, functionOf, Config, countOf, limits, present, Copy, copied, successive, argumentsOf, copiesPresent, withCells, advanced}
+use Rattle.definition.specs.Machine.{entryConditions, entered, leaveConditions, left, returnConditions, returned}
+use Rattle.definition.specs.Load.{headerConditions, recordConditions, cellConditions, loadConditions, loaded, load, programOf}
+use Rattle.definition.specs.Calls.{Call}
+use Rattle.definition.specs.Returns.{Log, Kind, entry, leaving, other, StepClaim, Through}
+use Rattle.definition.specs.CheckLaws.{All, and-left, and-right, all-back, WhenAccepted, guarded}
+use Rattle.definition.specs.Parts.{Present, present-true, present-more, present-source, length-pasted, drop-pasted, length-copied, drop-copied}
+use Rattle.definition.specs.RecordLaws.{length-globals}
+use Rattle.definition.specs.StatementLaws.{Keeps}
+use Rattle.definition.specs.Walk.{Good, Steps, through}
+use Rattle.laws.specs.Sound.{Balanced, Steady, advanced-steady, entered-steady, left-steady, returned-steady, loaded-steady}
+
+-- the saved store after a small step: an entry writes the range that it saves, and nothing else writes
+abbrev pub SavedBy : List ℕ → Kind → Config → Config → Type 0
+SavedBy file (entry f back) c c′ =
+    (length (c′ .saved) ≡ length (c .saved))
+    × (take (c .state .saved) (c′ .saved) ≡ take (c .state .saved) (c .saved))
+    × (drop (c .state .saved + functionOf (programOf file) f .locals) (c′ .saved) ≡ drop (c .state .saved + functionOf (programOf file) f .locals) (c .saved))
+SavedBy file leaving c c′ = c′ .saved ≡ c .saved
+SavedBy file other c c′ = c′ .saved ≡ c .saved
+
+pub record Touches (file : List ℕ) (κ : Kind) (c : Config) (l : Log) (c′ : Config) : Type 0 where
+  pub cells : Keeps (fileOf file .globals .count) (c .cells) (c′ .cells)
+  pub saved : SavedBy file κ c c′
+
+keeps-more : (count : ℕ) (a b c : List ℕ) → Keeps count a b → Keeps count b c → Keeps count a c
+keeps-more count a b c p q = record { same-length = q .same-length ∙ p .same-length; same-above = q .same-above ∙ p .same-above }
+
+-- steady, and the cells kept since `cells`
+record Since (file cells : List ℕ) (c : Config) : Type 0 where
+  steady : Steady file c
+  kept : Keeps (fileOf file .globals .count) cells (c .cells)
+
+module _ (file lent : List ℕ) where
+  abbrev count : ℕ
+  count = fileOf file .globals .count
+
+  abbrev P : Program
+  P = programOf file
+
+  abbrev GoodStep : Kind → Config → Log → Config → Type 0
+  GoodStep κ c l c′ = Good file (λ c l. Since file lent c) (Touches file) κ c l c′
+
+  count-is : (c : Config) → Steady file c → countOf c ≡ count
+  count-is c k = ap (λ (r : Rattle.definition.specs.declared.FileRecord.FileRecord). r .globals .count) (k .recorded)
+
+  enough : (c : Config) → Steady file c → count ≤ length (c .cells)
+  enough c k = omega (arith, count-is c k, k .enough)
+
+  -- a small step that keeps the cells and the saved store so
+  good : (κ : Kind) (c : Config) (l : Log) (c′ : Config) → Since file lent c → Keeps count (c .cells) (c′ .cells) → SavedBy file κ c c′ → Steady file c′ → GoodStep κ c l c′
+  good κ c l c′ k keeps saved steady = (
+    record { cells = keeps; saved = saved },
+    record { steady = steady; kept = keeps-more count lent (c .cells) (c′ .cells) (k .kept) keeps },
+  )
+
+  entered-touches : (c : Config) (l : Log) (f : ℕ) (back : ℤ) → Since file lent c → All (entryConditions P f c) → GoodStep (entry f back) c l (entered P f back c)
+  unfolding entryConditions entered limits
+  entered-touches c l f back k h =
+      let d = functionOf P f in
+      let s = c .state in
+      let fits : s .saved + d .locals ≤ 2048 = leb-true _ _ (and-right (not (negative (d .locals))) (leb (s .saved + d .locals) 2048) (h .1 .1 .0)) in
+      let room : s .saved + d .locals ≤ length (c .saved) = omega (arith, k .steady .long) in
+      let there : Present (d .start) (d .locals) (length (c .cells)) =
+      present-more _ _ (countOf c) _ (k .steady .enough) (present-true (d .start) (d .locals) (countOf c) (h .1 .1 .1 .0))
+      in
+      let from : List ℕ = drop (d .start) (c .cells) in
+      let source : d .locals ≤ length from = present-source (c .cells) (d .start) (d .locals) there in
+      let copies : copiesPresent count (argumentsOf d) ≡ true = (rw (count-is c (k .steady)) at (h .1 .1 .1 .1 .1 .0)) in
+      good (entry f back) c l (entered P f back c) k
+      (record { same-length = length-copied (argumentsOf d) (c .cells); same-above = drop-copied (argumentsOf d) (c .cells) count copies }) (
+        length-paste (c .saved) (s .saved) from (d .locals) room source,
+        ap (take (s .saved)) (append-assoc (take (s .saved) (c .saved)) (take (d .locals) from) (drop (s .saved + d .locals) (c .saved)))
+            ∙ take-at (take (s .saved) (c .saved)) _ (s .saved) (length-take-le (s .saved) (c .saved) (omega arith)),
+        drop-paste (c .saved) (s .saved) from (d .locals) (omega arith) source,
+      )
+      (entered-steady file c f back (k .steady) h)
+
+  -- a leaving, from cells that a Return may have copied first
+  left-keeps : (c : Config) (cells : List ℕ) → Steady file c → length cells ≡ length (c .cells) → All (leaveConditions P c) → Keeps count cells (left P (withCells c cells) .cells)
+  unfolding leaveConditions left
+  left-keeps c cells k e h =
+      let s = c .state in
+      let d = functionOf P (s .function) in
+      let fewer : d .locals ≤ s .saved = leb-true (d .locals) (s .saved) (h .1 .0) in
+      let there : Present (d .start) (d .locals) count = present-more _ _ (countOf c) _ (omega (arith, count-is c k)) (present-true (d .start) (d .locals) (countOf c) (h .1 .1 .0)) in
+      let from : List ℕ = drop (s .saved - d .locals) (c .saved) in
+      let source : d .locals ≤ length from = omega (arith, fewer, k .balanced .saved-most, k .long, length-drop (s .saved - d .locals) (c .saved)) in
+      let all : count ≤ length cells = omega (arith, enough c k, e) in
+      record {
+        same-length = length-pasted cells (d .start) from (d .locals) (present-more _ _ count _ all there) source;
+        same-above = drop-pasted cells (d .start) from (d .locals) count there all source;
+      }
+
+  least : (c : Config) → Steady file c → 36 ≤ count
+  least c k =
+      let r = fileOf file in
+      let cells-fit : cellsFit leastCells r ≡ true =
+      and-right (lengthFits r && lumpsFit r) (cellsFit leastCells r) (and-left (lengthFits r && lumpsFit r && cellsFit leastCells r) (entityFits r) (k .in-range))
+      in
+      leb-true 36 count (and-left (leb 36 count) (leb count 32768) cells-fit)
+
+  -- Return's three cells are copied below the count
+  three : (a : ℕ) (c : Config) → Steady file c → present a 3 (countOf c) ≡ true → copiesPresent count (successive 3 a 1) ≡ true
+  unfolding present successive copiesPresent
+  three a c k e =
+      let low : 36 ≤ count = least c k in
+      let below : a + 3 ≤ count = omega (arith, count-is c k, leb-true (a + 3) (countOf c) e) in
+      rw (
+        lt-ltb a count (omega arith),
+        lt-ltb 1 count (omega arith),
+        lt-ltb (a + 1) count (omega arith),
+        lt-ltb 2 count (omega arith),
+        lt-ltb (a + 1 + 1) count (omega arith),
+        lt-ltb 3 count (omega arith),
+      )
+
+  left-touches : (c : Config) (l : Log) → Since file lent c → All (leaveConditions P c) → GoodStep leaving c l (left P c)
+  unfolding left
+  left-touches c l k h = good leaving c l (left P c) k (left-keeps c (c .cells) (k .steady) refl h) refl (left-steady file c (k .steady) h)
+
+  returned-touches : (c : Config) (l : Log) (a : ℕ) → Since file lent c → All (returnConditions P a c) → GoodStep leaving c l (returned P a c)
+  unfolding left
+  returned-touches c l a k h =
+      let cells = copied (successive 3 a 1) (c .cells) in
+      let copying : Keeps count (c .cells) cells =
+      record {
+        same-length = length-copied (successive 3 a 1) (c .cells);
+        same-above = drop-copied (successive 3 a 1) (c .cells) count (three a c (k .steady) (h .0));
+      }
+      in
+      good leaving c l (returned P a c) k
+      (keeps-more count (c .cells) cells _ copying (left-keeps c cells (k .steady) (copying .same-length) (h .1)))
+      refl (returned-steady file c a (k .steady) h)
+
+  touching-steps : Steps file (λ c l. Since file lent c) (Touches file)
+  touching-steps =
+      record {
+        plain = λ c l p cells k keeps.
+            good other c l (advanced c p cells) k (subst (λ (n : ℕ). Keeps n (c .cells) cells) (length-globals file) keeps) refl
+            (advanced-steady file c p cells (keeps .same-length) (k .steady));
+        writing = λ c l a v k h.
+            good other c l (withCells c (set (c .cells) a v)) k
+            (record { same-length = length-set (c .cells) a v; same-above = drop-set-lt count (c .cells) a v (omega (arith, count-is c (k .steady), h)) })
+            refl
+            (advanced-steady file c (c .state .pc) (set (c .cells) a v) (length-set (c .cells) a v) (k .steady));
+        entering = entered-touches;
+        returning = returned-touches;
+        leave-one = left-touches;
+      }
+
+-- a load fills the lent cells from 0 and leaves those past the file's count
+loaded-keeps : (file cells saved : List ℕ) → WhenAccepted (λ (c : Config). Keeps (fileOf file .globals .count) cells (c .cells)) (load file cells saved)
+unfolding load loaded cellConditions
+loaded-keeps file cells saved =
+    guarded (λ (c : Config). Keeps (fileOf file .globals .count) cells (c .cells)) _ _ λ h.
+    let r = fileOf file in
+    let n = r .globals .count in
+    let k = contentsOf file in
+    let last : All (cellConditions leastCells r (length cells) (length saved)) =
+    all-back (headerConditions file ++ recordConditions (r .strings .count) k) (cellConditions leastCells r (length cells) (length saved)) h
+    in
+    let lent : n ≤ length cells = leb-true n (length cells) (and-left (leb n (length cells)) (leb 2048 (length saved)) (last .1 .1 .0)) in
+    record {
+      same-length = omega (arith, lent, length-append (k .globals) (drop n cells), length-globals file, length-drop n cells);
+      same-above = drop-at (k .globals) (drop n cells) n (length-globals file);
+    }
+
+since-load : (file cells : List ℕ) (x : Checked Config) → WhenAccepted (Steady file) x
+    → WhenAccepted (λ (c : Config). Keeps (fileOf file .globals .count) cells (c .cells)) x → WhenAccepted (Since file cells) x
+since-load file cells (refused n) s k = tt
+since-load file cells (accepted c) s k = record { steady = s; kept = k }
+
+-- of the cells lent to the load: their number, and those from the file's count on, stay
+pub untouched : (file cells saved : List ℕ) (c : Config) → load file cells saved ≡ accepted c → (calls : List Call)
+    → Through file (Touches file) (λ c′ l. Keeps (fileOf file .globals .count) cells (c′ .cells)) c [] calls
+untouched file cells saved c accepts calls =
+    through file (λ c′ l. Since file cells c′) (Touches file) (touching-steps file cells) (λ c′ l. Keeps (fileOf file .globals .count) cells (c′ .cells))
+    (λ c′ l k. k .kept)
+    c [] calls
+    (subst (WhenAccepted (Since file cells)) accepts (since-load file cells (load file cells saved) (loaded-steady file cells saved) (loaded-keeps file cells saved)))
