@@ -177,45 +177,46 @@ def same(a, b):
 
 # both zeros, the ends of the subnormals and of the normals, ones and their neighbours, infinities, NaNs quiet and signalling
 CORNERS = [0, SIGN, 1, 0x007FFFFF, 0x80800000, ONE, 0xBF800001, 0x7F7FFFFF, INF, SIGN | INF, NAN, 0xFF800001]
-# halves and neighbours: 0.5, 1.5, 2.5, -2.5; 2^23 + 1/2 of a step, 2^24 and past it, where steps are 2
-TIES = [0x3F000000, 0x3FC00000, 0x40200000, 0xC0200000, 0x4B000000, 0x4B000001, 0x4B800000, 0x4B800001, 0xCB7FFFFF,
-        0x33800000, 0x33800001, 0x34000000, 0xB3800000, 0x3F800001, 0x3F7FFFFF]
-# around the ends of the signed 32-bit range, and wholes whose bits tell
+# sums, products and quotients half way between two floats, and just beside
+TIES = [(ONE, 0x33800000), (0x3F800001, 0x33800000), (ONE, 0x33800001), (ONE, 0x337FFFFF), (ONE, 0xB3000000),
+        (0x3F7FFFFF, 0x33000000), (0x4B800000, ONE), (0x4B800001, ONE), (0xCB800001, 0xBF800000), (0x4B800001, 0x3FC00000),
+        (0x3F800001, 0x3FC00000), (0x3F800003, 0x3FC00000), (0x3F800800, 0x3F800800), (0x3F801800, 0x3F800800),
+        (0x00000001, 0x40000000), (0x00000003, 0x40000000), (0x00000005, 0x40000000), (0x80000003, 0x40000000),
+        (0x00000001, 0x3F000000), (0x00000003, 0x3F000000)]
+# results around the ends of the range: the least normal and subnormal numbers, overflow and just below it
+ENDS = [(0x00800000, 0x3F000000), (0x00800001, 0x3F000000), (0x1A000000, 0x25800000), (0x20000000, 0x1F800000),
+        (0x20000001, 0x1F800000), (0x80000001, 0x3EFFFFFF), (0x00000001, 0x00000003), (0x007FFFFF, 0x00800000),
+        (0x7F7FFFFF, 0x3F800001), (0x7F7FFFFF, 0x73000000), (0x7F7FFFFF, 0x72FFFFFF), (0xFF7FFFFF, 0x3F7FFFFF)]
+# around the ends of the signed 32-bit range, and numbers whose bits or fractions tell
 WHOLES = [0x4EFFFFFF, 0x4F000000, 0x4F000001, 0xCEFFFFFF, 0xCF000000, 0xCF000001, 0x4F800000, 0xDF000000, 0x3F7FFFFF,
-          0xBF7FFFFF, 0x3FFFFFFF, 0xBFFFFFFF, 0x4B7FFFFF, 0x4B800001, 0x437F0000, 0xC37F0000, 0x477FFF00, 0x4EAAAAAA]
-
-
-def draw(rng):
-    """Any pattern, or one of a size at which sums and products meet."""
-    return rng.getrandbits(32) if rng.random() < 0.5 else rng.getrandbits(1) << 31 | rng.randrange(100, 154) << 23 | rng.getrandbits(23)
-
-
-def pairs(rng):
-    yield from ((a, b) for a in CORNERS for b in CORNERS)
-    for a in TIES:
-        yield from ((a, b) for b in rng.sample(TIES, 3))
-    yield from ((draw(rng), draw(rng)) for _ in range(40))
-
-
+          0xBF7FFFFF, 0x3FFFFFFF, 0xBFFFFFFF, 0x4B7FFFFF, 0x4B800001, 0x437F0000, 0xC37F0000, 0x477FFF00, 0x4EAAAAAA,
+          0x3F000000, 0x3FC00000, 0x40200000, 0xC0200000, 0xCB7FFFFF]
 # 00ffffff, 7f000000 and 80000000 as floats: BitAnd with each shows all bits of a conversion to a whole number
 MASKS = [0x4B7FFFFF, 0x4EFE0000, 0xCF000000]
 
 
+def draw(rng):
+    """Any pattern, or one of a size at which sums and products meet."""
+    if rng.random() < 0.5:
+        return rng.getrandbits(32)
+    return rng.getrandbits(1) << 31 | rng.randrange(100, 154) << 23 | rng.getrandbits(23)
+
+
+def pairs(rng):
+    yield from ((a, b) for a in CORNERS for b in CORNERS)
+    yield from TIES + ENDS
+    yield from ((draw(rng), draw(rng)) for _ in range(40))
+
+
 def masked(rng):
-    for a in CORNERS + TIES + WHOLES + [draw(rng) for _ in range(40)]:
+    for a in CORNERS + WHOLES + [draw(rng) for _ in range(40)]:
         yield from ((a, b) for b in MASKS)
-
-
-# tiny products, and quotients between two subnormals
-SMALL = [(0x00800000, 0x3F000000), (0x00800001, 0x3F000000), (0x00000003, 0x3F000000), (0x1A000000, 0x25800000),
-         (0x20000000, 0x1F800000), (0x20000001, 0x1F800000), (0x80000001, 0x3EFFFFFF), (0x7F7FFFFF, 0x3F800001),
-         (0x7F7FFFFF, 0x73000000), (0x7F7FFFFF, 0x72FFFFFF), (0x00000001, 0x00000003), (0x007FFFFF, 0x00800000)]
 
 
 def vectors(rng):
     corners = [0, SIGN, ONE, 0xBF800000, INF, NAN, 0x7F7FFFFF, 1]
     yield [SIGN] * 3, [ONE] * 3
-    # the middle product is lost unless the order is kept
+    # the order of the sums tells
     yield [0x7F7FFFFF, 0xFF7FFFFF, ONE], [ONE, ONE, ONE]
     yield [0x4B800000, ONE, 0xCB800000], [ONE, ONE, ONE]
     yield [ONE, 0x4B800000, 0xCB800000], [ONE, ONE, ONE]
@@ -241,8 +242,11 @@ def line(op, a, b, r):
 def main():
     rng = random.Random(5927)
     for op, f in FLOATS.items():
-        for a, b in list(pairs(rng)) + (SMALL if op < 10 else list(masked(rng)) if op >= 64 else []):
+        for a, b in pairs(rng):
             line(op, [a], [b], f(a, b))
+    for op in (64, 65):
+        for a, b in masked(rng):
+            line(op, [a], [b], FLOATS[op](a, b))
     for op, f in COMPONENTS.items():
         for a, b in list(pairs(rng))[-60:]:
             line(op, [a], [b], f(a, b))
@@ -254,7 +258,7 @@ def main():
     for op, equal in NUMBERS.items():
         for a, b in ((0, 0), (0, SIGN), (7, 7), (7, 8), (NAN, NAN), (0xFFFFFFFF, 0x7FFFFFFF)):
             line(op, [a], [b], flag((a == b) == equal))
-    for a in CORNERS + TIES:
+    for a in CORNERS + WHOLES:
         line(44, [a], [], flag(zero(a)))
         line(47, [a], [], flag(a == 0))
         line(48, [a], [], flag(a == 0))
