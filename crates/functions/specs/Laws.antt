@@ -13,8 +13,10 @@ use Rattle.definition.specs.declared.Lump.{Lump}
 use Rattle.definition.specs.declared.FileRecord.{FileRecord}
 use Rattle.definition.specs.declared.Statement.{Statement}
 use Rattle.definition.specs.Checks.{Conditions, _otherwise_, judge}
-use Rattle.definition.specs.File.{records, negative, Contents, fileOf, lengthFits, lumpFits, lumpsFit, leastCells, cellsFit, entityFits}
-use Rattle.definition.specs.Load.{sameLump, sameFile, recordedIn}
+use Rattle.definition.specs.File.{records, recordsIn, readStatement, readFunction, noFunction, negative, Contents, contentsAt, contentsOf}
+use Rattle.definition.specs.File.{fileOf, lengthFits, lumpFits, lumpsFit, leastCells, cellsFit, entityFits}
+use Rattle.definition.specs.Load.{sameLump, sameFile, recordedIn, programAt, programOf}
+use Rattle.definition.specs.Machine.{Program, functionOf}
 use Rattle.definition.specs.Statements.{Does, refuses, orRefused, placeOf, statementAt, fetchConditions, execute, doesAt}
 use Rattle.functions.specs.declared.FunctionId.the-variants as function
 use Rattle.functions.specs.declared.string_table.StringId.the-variants as string
@@ -178,6 +180,21 @@ short-file file r lent h = by (sameFile r (fileOf file)) refl
         let size : r .length ≡ length file = ap (λ (x : FileRecord). x .length) (same-file _ _ e) in
         rw (lt-leb 60 (r .length) (omega arith))
     by false e = refl
+
+-- ---- the functions and statements of a file's program are those of its lumps
+
+module _ (file : List ℕ) where
+  pub function-of : (f : ℕ) → getD (recordsIn (readFunction file) 36 (fileOf file .functions)) f noFunction ≡ functionOf (programOf file) f
+  unfolding programAt contentsAt
+  function-of f = refl
+
+  pub count-functions : length (programOf file .functions) ≡ fileOf file .functions .count
+  unfolding programAt contentsAt
+  count-functions = length-records _ _ _ _
+
+  pub statements-of : recordsIn (readStatement file) 8 (fileOf file .statements) ≡ contentsOf file .statements
+  unfolding contentsAt
+  statements-of = refl
 
 -- ---- numbers of functions and strings
 

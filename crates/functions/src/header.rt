@@ -8,6 +8,9 @@ use crate::reads;
 use definition::FileRecord;
 use definition::Lump;
 
+// A file has at least so many cells.
+pub const LEAST_CELLS: usize = 36;
+
 fn lump_at(file: &[u8], at: usize) -> Lump
     requires { ⌜ at + 8 ≤ length (now file) ⌝ }
     ensures { λ r. ⌜ r ≡ lumpAt (now (file .entry)) at ⌝ }
@@ -116,7 +119,7 @@ pub fn recorded_in(file: &[u8], r: FileRecord, lent: usize) -> bool
     same_file(r, file_of(file))
         & length_fits(r)
         & lumps_fit(r)
-        & cells_fit(36, r)
+        & cells_fit(LEAST_CELLS, r)
         & entity_fits(r)
         & (globals.count <= lent)
 }

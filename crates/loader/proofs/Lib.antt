@@ -1,0 +1,4 @@
+pub mod Each
+pub mod Header
+pub mod Filling
+pub mod Rows

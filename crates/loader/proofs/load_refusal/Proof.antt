@@ -1,0 +1,49 @@
+use mathlib.Core.Path.{ap, _∙_}
+use Rattle.definition.specs.File.{lumpsFit, fileOf}
+use Rattle.definition.specs.declared.FileRecord.{FileRecord}
+use Rattle.loader.proofs.Rows.{header-passed, header-refuses, records-refuse, cells-decide}
+use borrow.Author.Needs.{needs}
+use Rattle.loader.proofs.load_refusal.Statement.{statement}
+use Rattle.loader.proofs.load_refusal.Tie as tie
+
+header-refusal-requires : tie.Need-header-refusal-requires
+header-refusal-requires c κs = search needs
+
+returns : tie.Need-returns
+returns c = header-refuses _ _ _ _ (c .before .header-refusal .ensures) (c .if1 .taken)
+
+file-of-requires : tie.Need-file-of-requires
+file-of-requires c κs = header-passed _ _ (c .if1 .left) (c .before .header-refusal .ensures) .header
+
+records-refusal-requires : tie.Need-records-refusal-requires
+unfolding fileOf
+records-refusal-requires c κs =
+    let p = header-passed _ _ (c .before .if1 .left) (c .before .before .header-refusal .ensures) in
+    (ap lumpsFit (c .file-of .ensures) ∙ p .lumps, ap (λ (r : FileRecord). r .length) (c .file-of .ensures))
+
+returns-2 : tie.Need-returns-2
+returns-2 c =
+    let f = c .before .before in
+    records-refuse _ _ _ _ (f .before .before .header-refusal .ensures) (f .before .if1 .left) _ (f .file-of .ensures) _ (c .before .records-refusal .ensures) (c .if2 .taken)
+
+cells-refusal-requires : tie.Need-cells-refusal-requires
+cells-refusal-requires c κs = search needs
+
+returns-3 : tie.Need-returns-3
+returns-3 c =
+    let n = c .before .before in
+    let f = n .before in
+    cells-decide _ _ _ _ (f .before .before .header-refusal .ensures) (f .before .if1 .left) _ (f .file-of .ensures) _ (n .records-refusal .ensures) (c .before .if2 .left) _
+    (c .cells-refusal .ensures)
+
+pub load-refusal-spec : {M : Type 1} → statement M
+load-refusal-spec =
+    tie.close
+    (tie.spec
+    header-refusal-requires
+    returns
+    file-of-requires
+    records-refusal-requires
+    returns-2
+    cells-refusal-requires
+    returns-3)
