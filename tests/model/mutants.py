@@ -145,6 +145,7 @@ MUTANTS = [
      "operation = {\"AddV\": float_add, \"SubV\": float_sub}[name]\n            for i in range(3):\n                x, y = self._get_typed(a + i, FLOAT), self._get_typed(b + i, FLOAT)\n                self._put_typed(c + i, FLOAT, operation(x, y))"),
     ("statement = self._program.statement(self.state.position)", "statement = self._program.statement(self.state.position % 65536)"),
     ("            if definition.cell == cell:\n", "            if index < program.count(FIELD_DEFS) and program.definition(FIELD_DEFS, index).cell == cell:\n                definition = program.definition(FIELD_DEFS, index)\n            if definition.cell == cell:\n"),
+    ("        for index in range(program.count(GLOBAL_DEFS)):\n            definition = program.definition(GLOBAL_DEFS, index)\n", "        for number in range(program.count(GLOBAL_DEFS) + program.count(FIELD_DEFS)):\n            lump = GLOBAL_DEFS if number < program.count(GLOBAL_DEFS) else FIELD_DEFS\n            definition = program.definition(lump, number - (lump - GLOBAL_DEFS) * program.count(GLOBAL_DEFS))\n"),
     # calls
     ("raise HandedOver(\"builtin\", -first)", "check(self.state.depth < DEEPEST, 22)\n            raise HandedOver(\"builtin\", -first)"),
     ("        check(number != 0, 19)\n        check(number < self._program.count(FUNCTIONS), 20)  #", "        check(number < self._program.count(FUNCTIONS), 20)\n        check(number != 0, 19)  #"),

@@ -572,7 +572,8 @@ def statement_vectors():
     call_vectors(v)
     return_vectors(v)
     host_vectors(v)
-    v.file("64 cells, definitions of every type", definitions=TYPED_DEFINITIONS)
+    fields = [(FLOAT, 29), (STRING, 30), (ENTITY, 36)]
+    v.file("64 cells, definitions of every type", definitions=TYPED_DEFINITIONS, fields=fields)
     refusal_vectors(v)
     type_vectors(v)
     v.file("36 cells, the fewest; lumps in another order", cell_count=36, layout=(5, 4, 3, 2, 1, 0))
