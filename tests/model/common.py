@@ -1,0 +1,142 @@
+"""What the case makers share: chance numbers, patterns, programs."""
+
+import struct
+
+from model import (
+    FLOAT, HOST_OPCODES, INFINITY, ONE, QUIET_NAN, SAVE_FLAG, SIGN, VECTOR, Assembly, function,
+)
+
+
+class Xorshift:
+    """Marsaglia's 32-bit xorshift with shifts 13, 17, 5."""
+
+    def __init__(self, seed):
+        self.state = seed
+
+    def draw(self):
+        s = self.state
+        s ^= (s << 13) & 0xFFFFFFFF
+        s ^= s >> 17
+        s ^= (s << 5) & 0xFFFFFFFF
+        self.state = s
+        return s
+
+    def below(self, count):
+        return self.draw() % count
+
+    def pick(self, items):
+        return items[self.below(len(items))]
+
+
+def flt(value):
+    """The pattern of a float that is exact in 32 bits."""
+    pattern = struct.unpack("<I", struct.pack("<f", value))[0]
+    assert struct.unpack("<f", struct.pack("<I", pattern))[0] == value
+    return pattern
+
+
+def hex_of(file):
+    """Length, and the bytes in hexadecimal without the zeros at the end; `-` for none."""
+    return f"{len(file)} {bytes(file).rstrip(bytes(1)).hex() or '-'}"
+
+
+MINUS_ZERO = SIGN
+MINUS_INFINITY = SIGN | INFINITY
+SIGNALLING_NAN = 0x7F800001
+NEGATIVE_NAN = 0xFFC12345
+LEAST = 0x00000001  # the least subnormal
+GREATEST_SUBNORMAL = 0x007FFFFF
+LEAST_NORMAL = 0x00800000
+GREATEST = 0x7F7FFFFF
+HALF, TWO, THREE = flt(0.5), flt(2.0), flt(3.0)
+MINUS_ONE = flt(-1.0)
+
+def flat(pairs):
+    return [number for pair in pairs for number in pair]
+
+
+def numbers(items):
+    return " ".join(map(str, items))
+
+
+def triple(first, values):
+    return {first + i: value for i, value in enumerate(values)}
+
+
+FLOAT_ARITHMETIC = ["AddF", "SubF", "MulF", "Div"]
+FLOAT_COMPARISONS = ["EqF", "NeF", "Le", "Ge", "Lt", "Gt", "And", "Or"]
+
+def program(*statements, functions=(function(1),), **parts):
+    """Statement 0 is Done, function 0 all zeros; the given ones begin at number 1."""
+    return Assembly(
+        statements=[("Done",), *statements], functions=[function(), *functions], **parts
+    )
+
+
+# floats at 28 to 39, function numbers at 40 to 43, small numbers at 44 to 47, locals from 48
+CHANCE_FLOATS = [0, MINUS_ZERO, ONE, MINUS_ONE, TWO, HALF, flt(100.25), flt(16777216.0), QUIET_NAN]
+CHANCE_FLOATS += [INFINITY, 0x3DCCCCCD, LEAST]
+
+
+def random_program(chance, hosts=False):
+    cells = {cell: chance.pick(CHANCE_FLOATS) for cell in range(28, 40)}
+    functions = []
+    count = 30 + chance.below(20)
+    for _ in range(5):
+        sizes = tuple(chance.below(4) for _ in range(chance.below(4)))
+        first = 1 + chance.below(count)
+        functions.append(function(first, 48 + chance.below(8), chance.below(8), sizes))
+    functions.append(function(-(1 + chance.below(4)), arguments=-1))
+    for cell in range(40, 44):
+        cells[cell] = 2 + chance.below(4)
+    if hosts:
+        cells[43] = 6
+    for cell in range(44, 48):
+        cells[cell] = chance.below(3)
+    definitions = [
+        (chance.pick([FLOAT, VECTOR, FLOAT | SAVE_FLAG]), 28 + chance.below(12)) for _ in range(4)
+    ]
+    if chance.below(4) == 0:
+        definitions.append((chance.below(8), 28 + chance.below(28)))
+    statements = [random_statement(chance, hosts) for _ in range(count)]
+    statements += [("Return", 28 + chance.below(30))]
+    return program(*statements, functions=functions, cells=cells, definitions=definitions)
+
+
+def random_statement(chance, hosts):
+    def place():
+        return chance.pick((28, 48)) + chance.below(12) if chance.below(60) else chance.below(70) - 3
+
+    def written():
+        return chance.pick((28, 48, 48)) + chance.below(12) if chance.below(60) else chance.below(70) - 3
+
+    kind = chance.below(100)
+    if kind < 35:
+        name = chance.pick(FLOAT_ARITHMETIC + FLOAT_COMPARISONS + ["BitAnd", "BitOr"])
+        return (name, place(), place(), written())
+    if kind < 50:
+        name = chance.pick(["AddV", "SubV", "MulV", "MulFV", "MulVF", "EqV", "NeV"])
+        return (name, place(), place(), written())
+    if kind < 62:
+        return (chance.pick(["StoreF", "StoreV"]), place(), chance.pick([written(), 4 + chance.below(20)]))
+    if kind < 66:
+        name = chance.pick(["EqS", "NeS", "EqEnt", "NeEnt", "EqFnc", "NeFnc"])
+        return (name, 44 + chance.below(4), 44 + chance.below(4), written())
+    if kind < 70:
+        return (chance.pick(["NotF", "NotV"]), place(), 0, written())
+    if kind < 73:
+        return (chance.pick(["NotS", "NotEnt", "NotFnc"]), 44 + chance.below(4), 0, written())
+    if kind < 76:
+        name = chance.pick(["StoreS", "StoreEnt", "StoreFld", "StoreFnc"])
+        return (name, 44 + chance.below(4), 44 + chance.below(4))
+    if kind < 82:
+        return (chance.pick(["If", "IfNot"]), place(), chance.below(7) - 2 or 1)
+    if kind < 84:
+        return ("Goto", 1 + chance.below(4))
+    if kind < 90:
+        return (f"Call{chance.below(9)}", 40 + chance.below(4))
+    if kind < 94:
+        return (chance.pick(["Return", "Done"]), place())
+    if hosts and kind < 98:
+        return (chance.pick(sorted(HOST_OPCODES)), place(), place(), place())
+    return ("AddF", place(), place(), written())

@@ -1,0 +1,33 @@
+"""Writes the case files cases/statements.txt, cases/files.txt and cases/calls.txt.
+
+What is expected in them is what model.py answers.  README.md says how to read them.  The same
+files come out every time: the only chance numbers are those of a xorshift with fixed seeds.
+"""
+
+import os
+
+from call_cases import call_cases
+from file_cases import file_cases
+from statement_cases import statement_vectors
+
+FOLDER = os.path.join(os.path.dirname(os.path.abspath(__file__)), "cases")
+
+
+def make():
+    """The three case files' texts, by name, and the makers that know what they hold."""
+    makers = {"statements.txt": statement_vectors(), "files.txt": file_cases(), "calls.txt": call_cases()}
+    texts = {name: "\n".join(maker.lines) + "\n" for name, maker in makers.items()}
+    return texts, makers
+
+
+def main():
+    texts, makers = make()
+    os.makedirs(FOLDER, exist_ok=True)
+    for name, text in texts.items():
+        with open(os.path.join(FOLDER, name), "w", encoding="ascii", newline="\n") as out:
+            out.write(text)
+        print(f"{name}: {len(makers[name].seen)} answers, {len(text)} bytes")
+
+
+if __name__ == "__main__":
+    main()

@@ -1,0 +1,834 @@
+"""A model of the QuakeC program machine, written from document 01 alone.
+
+Quotations in comments are 01's words.  The model works the way 01 tells it: it goes through a
+statement step by step, writing as it goes, and a refusal undoes what was written.  It is meant to
+be read beside 01 and to be run, not to be fast.
+
+    python3 model.py < FILE     prints the show program's line for FILE
+"""
+
+import struct
+import sys
+from collections import namedtuple
+from dataclasses import dataclass, replace
+from fractions import Fraction
+
+# ---------------------------------------------------------------------------------------------
+# Floats: "IEEE 754 single, rounded once per operation".  A float is its 32-bit pattern; values
+# are exact fractions.
+# ---------------------------------------------------------------------------------------------
+
+QUIET_NAN = 0x7FC00000  # "a NaN made by arithmetic is stored as 7fc00000"
+INFINITY = 0x7F800000
+SIGN = 0x80000000
+ONE = 0x3F800000
+ZERO = 0x00000000
+
+
+def is_nan(x):
+    return x & 0x7FFFFFFF > INFINITY
+
+
+def is_infinite(x):
+    return x & 0x7FFFFFFF == INFINITY
+
+
+def is_zero(x):
+    return x & 0x7FFFFFFF == 0
+
+
+def sign_of(x):
+    return x & SIGN
+
+
+def times_power(value, exponent):
+    """value * 2**exponent"""
+    return value * (1 << exponent) if exponent >= 0 else value / (1 << -exponent)
+
+
+def value_of(x):
+    """The exact value of a finite pattern; both zeros give 0."""
+    exponent, fraction = (x >> 23) & 0xFF, x & 0x7FFFFF
+    if exponent == 0:
+        exponent, whole = 1, fraction  # subnormal
+    else:
+        whole = fraction + 0x800000
+    magnitude = times_power(Fraction(whole), exponent - 150)
+    return -magnitude if x & SIGN else magnitude
+
+
+def nearest(value):
+    """The pattern nearest to an exact value other than 0, ties to even."""
+    sign, size = (SIGN, -value) if value < 0 else (0, value)
+    # 2**exponent <= size < 2**(exponent + 1), but never below the subnormal range
+    exponent = size.numerator.bit_length() - size.denominator.bit_length()
+    if times_power(size, -exponent) < 1:
+        exponent -= 1
+    exponent = max(exponent, -126)
+    scaled = times_power(size, 23 - exponent)
+    whole = scaled.numerator // scaled.denominator
+    rest = scaled - whole
+    if rest > Fraction(1, 2) or (rest == Fraction(1, 2) and whole % 2 == 1):
+        whole += 1
+    # a whole of 2**24 carries into the exponent; a subnormal has exponent field 0
+    pattern = ((exponent + 126) << 23) + whole
+    return sign | min(pattern, INFINITY)
+
+
+def float_add(x, y):
+    if is_nan(x) or is_nan(y):
+        return QUIET_NAN
+    if is_infinite(x) and is_infinite(y):
+        return x if x == y else QUIET_NAN
+    if is_infinite(x):
+        return x
+    if is_infinite(y):
+        return y
+    if is_zero(x) and is_zero(y):
+        return x & y  # -0 only from two -0
+    total = value_of(x) + value_of(y)
+    return nearest(total) if total != 0 else ZERO
+
+
+def float_sub(x, y):
+    return float_add(x, y if is_nan(y) else y ^ SIGN)
+
+
+def float_mul(x, y):
+    if is_nan(x) or is_nan(y):
+        return QUIET_NAN
+    sign = sign_of(x) ^ sign_of(y)
+    if is_infinite(x) or is_infinite(y):
+        return QUIET_NAN if is_zero(x) or is_zero(y) else sign | INFINITY
+    if is_zero(x) or is_zero(y):
+        return sign
+    return nearest(value_of(x) * value_of(y))
+
+
+def float_div(x, y):
+    if is_nan(x) or is_nan(y):
+        return QUIET_NAN
+    sign = sign_of(x) ^ sign_of(y)
+    if is_infinite(x):
+        return QUIET_NAN if is_infinite(y) else sign | INFINITY
+    if is_infinite(y):
+        return sign
+    if is_zero(y):
+        return QUIET_NAN if is_zero(x) else sign | INFINITY
+    if is_zero(x):
+        return sign
+    return nearest(value_of(x) / value_of(y))
+
+
+def order(x):
+    """A number that orders all patterns but NaN as their floats."""
+    if is_infinite(x):
+        return -(1 << 200) if x & SIGN else 1 << 200
+    return value_of(x)
+
+
+def float_eq(x, y):
+    return not is_nan(x) and not is_nan(y) and order(x) == order(y)
+
+
+def float_lt(x, y):
+    return not is_nan(x) and not is_nan(y) and order(x) < order(y)
+
+
+def float_le(x, y):
+    return not is_nan(x) and not is_nan(y) and order(x) <= order(y)
+
+
+def truth(flag):
+    """ "Comparisons give 1.0 or 0.0." """
+    return ONE if flag else ZERO
+
+
+def whole_of(x):
+    """ "toward zero into a signed 32-bit whole number, saturating, NaN to 0" """
+    if is_nan(x):
+        return 0
+    if is_infinite(x):
+        return -0x80000000 if x & SIGN else 0x7FFFFFFF
+    value = value_of(x)
+    whole = abs(value.numerator) // value.denominator
+    whole = -whole if value < 0 else whole
+    return max(-0x80000000, min(0x7FFFFFFF, whole))
+
+
+def float_of(whole):
+    """ "the result back to the nearest float, ties to even" """
+    return nearest(Fraction(whole)) if whole else ZERO
+
+
+# ---------------------------------------------------------------------------------------------
+# File
+# ---------------------------------------------------------------------------------------------
+
+VERSION = 6
+CHECK_NUMBER = 5927
+HEADER_SIZE = 60
+LARGEST_FILE = 1_048_576
+FEWEST_CELLS = 36
+MOST_CELLS = 32_768
+FEWEST_ENTITY_CELLS = 105
+DEEPEST = 31
+MOST_SAVED = 2_048
+MOST_STATEMENTS = 99_999
+
+# "offset and count of statements, global definitions, field definitions, functions, strings, cells"
+STATEMENTS, GLOBAL_DEFS, FIELD_DEFS, FUNCTIONS, STRINGS, CELLS = range(6)
+RECORD_SIZES = (8, 8, 8, 36, 1, 4)
+
+VOID, STRING, FLOAT, VECTOR, ENTITY, FIELD, FUNCTION, POINTER = range(8)
+SAVE_FLAG = 0x8000
+
+OPCODES = (
+    "Done MulF MulV MulFV MulVF Div AddF AddV SubF SubV EqF EqV EqS EqEnt EqFnc NeF NeV NeS NeEnt "
+    "NeFnc Le Ge Lt Gt LoadF LoadV LoadS LoadEnt LoadFld LoadFnc Address StoreF StoreV StoreS "
+    "StoreEnt StoreFld StoreFnc StorePF StorePV StorePS StorePEnt StorePFld StorePFnc Return NotF "
+    "NotV NotS NotEnt NotFnc If IfNot Call0 Call1 Call2 Call3 Call4 Call5 Call6 Call7 Call8 State "
+    "Goto And Or BitAnd BitOr"
+).split()
+OPCODE_NUMBER = {name: number for number, name in enumerate(OPCODES)}
+
+# "minus 1-4, 6-32, 34-38, 40-41, 43-49, 51-59, 67-70, 72-78"
+BUILTINS = {
+    number
+    for low, high in ((1, 4), (6, 32), (34, 38), (40, 41), (43, 49), (51, 59), (67, 70), (72, 78))
+    for number in range(low, high + 1)
+}
+# "24 to 30, 37 to 42 and 60 go to the host"
+HOST_OPCODES = {*range(24, 31), *range(37, 43), 60}
+
+Statement = namedtuple("Statement", "opcode a b c")
+Definition = namedtuple("Definition", "type cell name")
+Function = namedtuple("Function", "first local locals profile name source arguments sizes")
+
+
+def read_header(file):
+    """Fifteen signed 32-bit numbers: version, check number, six lumps, cells per entity."""
+    numbers = struct.unpack_from("<15i", file, 0)
+    return numbers[0], numbers[1], numbers[2:14], numbers[14]
+
+
+class Program:
+    """The records of a file, found by twelve lump numbers: offset and count of each lump."""
+
+    def __init__(self, file, lumps):
+        self.file, self.lumps = file, lumps
+
+    def count(self, lump):
+        return self.lumps[2 * lump + 1]
+
+    def _unpack(self, shape, lump, index):
+        return struct.unpack_from(shape, self.file, self.lumps[2 * lump] + RECORD_SIZES[lump] * index)
+
+    def statement(self, index):
+        return Statement(*self._unpack("<4h", STATEMENTS, index))
+
+    def definition(self, lump, index):
+        return Definition(*self._unpack("<HHi", lump, index))
+
+    def function(self, index):
+        numbers = self._unpack("<7i8B", FUNCTIONS, index)
+        return Function(*numbers[:7], numbers[7:])
+
+    def cell(self, index):
+        return self._unpack("<I", CELLS, index)[0]
+
+
+# ---------------------------------------------------------------------------------------------
+# State and answers
+# ---------------------------------------------------------------------------------------------
+
+
+class Refused(Exception):
+    def __init__(self, number):
+        super().__init__(number)
+        self.number = number
+
+
+class HandedOver(Exception):
+    def __init__(self, word, number):
+        super().__init__(word, number)
+        self.word, self.number = word, number
+
+
+def check(fine, number):
+    if not fine:
+        raise Refused(number)
+
+
+Frame = namedtuple("Frame", "position function")
+
+# word: accepted, ended, spent, refused, builtin or opcode; detail: the refusal's, builtin's or
+# opcode's number, or the cell that a raw read gives; count: completed statements of a run
+Answer = namedtuple("Answer", "word detail count", defaults=(0, 0))
+
+
+@dataclass(frozen=True)
+class State:
+    # what the state records of the file, for check 13
+    length: int = 0
+    lumps: tuple = (0,) * 12
+    entity_cells: int = 0
+    # "Position, function and depths start at 0. Frames start as zeros"
+    position: int = 0
+    function: int = 0
+    depth: int = 0
+    saved: int = 0
+    frames: tuple = (Frame(0, 0),) * DEEPEST
+
+
+def lumps_fit(lumps, length):
+    """Refusal 4's condition: "an empty lump may have any non-negative offset"."""
+    for lump, size in enumerate(RECORD_SIZES):
+        offset, count = lumps[2 * lump], lumps[2 * lump + 1]
+        if offset < 0 or count < 0:
+            return False
+        if count > 0 and offset + count * size > length:
+            return False
+    return True
+
+
+class Machine:
+    """Lent file bytes, cells and saved store, and the state."""
+
+    def __init__(self, file, cells, saved_store):
+        self.file, self.cells, self.saved_store = file, cells, saved_store
+        self.state = State()
+        self._written = []  # (buffer, index, what stood there), to undo a refusal
+
+    # -- the operations ------------------------------------------------------------------------
+
+    def load(self):
+        try:
+            state, program = self._checked_file()
+        except Refused as refusal:
+            self.state = State()  # a refused load gives back a state of zeros
+            return Answer("refused", refusal.number)
+        # "A load fills the lent cells from 0 and leaves those past the file's count."
+        for index in range(program.count(CELLS)):
+            self.cells[index] = program.cell(index)
+        self.state = state
+        return Answer("accepted")
+
+    def enter(self, function):
+        return self._operation(lambda: self._enter(function, self.state.position))
+
+    def statement(self):
+        return self._operation(self._statement)
+
+    def run(self, target, limit):
+        return self._operation(lambda: self._run(target, limit))
+
+    def carry_on(self):
+        return self._operation(self._carry_on)
+
+    def abandon(self, target):
+        return self._operation(lambda: self._abandon(target))
+
+    def read(self, cell):
+        return self._operation(lambda: Answer("accepted", self._get(cell)))
+
+    def write(self, cell, value):
+        return self._operation(lambda: self._put(cell, value))
+
+    # -- load ----------------------------------------------------------------------------------
+
+    def _checked_file(self):
+        file = self.file
+        check(HEADER_SIZE <= len(file) <= LARGEST_FILE, 1)
+        version, check_number, lumps, entity_cells = read_header(file)
+        check(version == VERSION, 2)
+        check(check_number == CHECK_NUMBER, 3)
+        check(lumps_fit(lumps, len(file)), 4)
+        program = Program(file, lumps)
+
+        def check_name(name):
+            check(0 <= name < program.count(STRINGS), 6)
+
+        for index in range(program.count(FUNCTIONS)):
+            function = program.function(index)
+            check(function.first >= 0 or -function.first in BUILTINS, 5)
+            check_name(function.name)
+            check_name(function.source)
+        for index in range(program.count(STATEMENTS)):
+            check(0 <= program.statement(index).opcode < len(OPCODES), 7)
+        for lump in (GLOBAL_DEFS, FIELD_DEFS):
+            for index in range(program.count(lump)):
+                definition = program.definition(lump, index)
+                check_name(definition.name)
+                check(lump == GLOBAL_DEFS or not definition.type & SAVE_FLAG, 9)
+                check(definition.type & ~SAVE_FLAG <= POINTER, 8)
+        cell_count = program.count(CELLS)
+        check(FEWEST_CELLS <= cell_count <= MOST_CELLS, 10)
+        check(entity_cells >= FEWEST_ENTITY_CELLS, 11)
+        check(len(self.cells) >= cell_count and len(self.saved_store) >= MOST_SAVED, 12)
+        return State(length=len(file), lumps=lumps, entity_cells=entity_cells), program
+
+    # -- check 13, and undoing -----------------------------------------------------------------
+
+    def _operation(self, body):
+        """Checks 13, then does the body; "a refusal gives its number and leaves state and buffers"."""
+        try:
+            check(self._coherent(), 13)
+            return self._undoing(body) or Answer("accepted")
+        except Refused as refusal:
+            return Answer("refused", refusal.number)
+        except HandedOver as over:
+            return Answer(over.word, over.number)
+
+    def _undoing(self, body):
+        before, self._written = self.state, []
+        try:
+            return body()
+        except (Refused, HandedOver):
+            self.state = before
+            for buffer, index, old in reversed(self._written):
+                buffer[index] = old
+            raise
+
+    def _coherent(self):
+        state, file = self.state, self.file
+        # "file length, header lumps or cells per entity not as the state records, or outside 1, 4, 10 or 11"
+        if len(file) != state.length or not HEADER_SIZE <= len(file) <= LARGEST_FILE:
+            return False
+        _, _, lumps, entity_cells = read_header(file)
+        if lumps != state.lumps or not lumps_fit(lumps, len(file)):
+            return False
+        cell_count = lumps[2 * CELLS + 1]
+        if not FEWEST_CELLS <= cell_count <= MOST_CELLS:
+            return False
+        if entity_cells != state.entity_cells or entity_cells < FEWEST_ENTITY_CELLS:
+            return False
+        # "lent cells fewer than the file's, or saved store under 2,048; depth over 31"
+        if len(self.cells) < cell_count or len(self.saved_store) < MOST_SAVED:
+            return False
+        if state.depth > DEEPEST:
+            return False
+        # "an entered function (at depth above 0 the current one and every frame's but the lowest)
+        # absent or of negative local count; saved count over 2,048 or not the sum"
+        entered = []
+        if state.depth > 0:
+            entered = [frame.function for frame in state.frames[1 : state.depth]] + [state.function]
+        total = 0
+        for number in entered:
+            if not 0 <= number < self._program.count(FUNCTIONS):
+                return False
+            locals_ = self._program.function(number).locals
+            if locals_ < 0:
+                return False
+            total += locals_
+        return state.saved <= MOST_SAVED and state.saved == total
+
+    # -- cells ---------------------------------------------------------------------------------
+
+    @property
+    def _program(self):
+        return Program(self.file, self.state.lumps)
+
+    def _store(self, buffer, index, value):
+        self._written.append((buffer, index, buffer[index]))
+        buffer[index] = value
+
+    def _check_address(self, cell):
+        check(0 <= cell < self._program.count(CELLS), 15)
+
+    def _check_range(self, first, count):
+        """An empty range has no cell to miss."""
+        if count > 0:
+            self._check_address(first)
+            self._check_address(first + count - 1)
+
+    def _get(self, cell):
+        self._check_address(cell)
+        return self.cells[cell]
+
+    def _put(self, cell, value):
+        self._check_address(cell)
+        self._store(self.cells, cell, value)
+
+    def _check_type(self, cell, wanted):
+        """ "the first global definition, in file order, with that cell" """
+        program = self._program
+        for index in range(program.count(GLOBAL_DEFS)):
+            definition = program.definition(GLOBAL_DEFS, index)
+            if definition.cell == cell:
+                found = definition.type & ~SAVE_FLAG
+                # "Float and vector pass for each other; otherwise types must match"
+                check(found == wanted or {found, wanted} == {FLOAT, VECTOR}, 16)
+                return
+
+    def _get_typed(self, cell, wanted):
+        """ "A typed access checks type, then address." """
+        self._check_type(cell, wanted)
+        value = self._get(cell)
+        # "Entity and field values must not be negative."
+        check(wanted not in (ENTITY, FIELD) or value < SIGN, 17)
+        return value
+
+    def _put_typed(self, cell, wanted, value):
+        self._check_type(cell, wanted)
+        self._put(cell, value)
+
+    def _get_vector(self, cell):
+        """ "A vector checks its first cell as vector, then each of its three as float." """
+        self._check_type(cell, VECTOR)
+        return [self._get_typed(cell + i, FLOAT) for i in range(3)]
+
+    def _put_vector(self, cell, values):
+        self._check_type(cell, VECTOR)
+        for i in range(3):
+            self._put_typed(cell + i, FLOAT, values[i])
+
+    # -- statements ----------------------------------------------------------------------------
+
+    def _fetch(self):
+        check(0 <= self.state.position < self._program.count(STATEMENTS), 14)
+        statement = self._program.statement(self.state.position)
+        check(0 <= statement.opcode < len(OPCODES), 7)
+        return statement
+
+    def _statement(self):
+        opcode, a, b, c = self._fetch()
+        if opcode in HOST_OPCODES:
+            raise HandedOver("opcode", opcode)
+        name = OPCODES[opcode]
+        if name in ("Done", "Return"):
+            self._return(a)
+        elif name.startswith("Call"):
+            self._enter(self._called(a), self.state.position + 1)
+        elif name == "Goto":
+            self._advance(a)
+        elif name in ("If", "IfNot"):
+            zero = is_zero(self._get_typed(a, FLOAT))
+            # "If jumps unless the float is +0 or -0 (so on NaN); IfNot jumps on those two."
+            self._advance(b if zero == (name == "IfNot") else 1)
+        else:
+            self._call_free(name, a, b, c)
+            self._advance(1)
+
+    def _advance(self, by):
+        self.state = replace(self.state, position=self.state.position + by)
+
+    def _call_free(self, name, a, b, c):
+        # "18: third operand of a Store (31 to 36) or second of a Not isn't 0"
+        if name.startswith("Store"):
+            check(c == 0, 18)
+            self._store_statement(name, a, b)
+        elif name.startswith("Not"):
+            check(b == 0, 18)
+            self._put_typed(c, FLOAT, truth(self._is_null(name, a)))
+        elif name in FLOAT_STATEMENTS:
+            x, y = self._get_typed(a, FLOAT), self._get_typed(b, FLOAT)
+            self._put_typed(c, FLOAT, FLOAT_STATEMENTS[name](x, y))
+        elif name.startswith(("Eq", "Ne")):
+            self._put_typed(c, FLOAT, truth(self._is_equal(name, a, b) == name.startswith("Eq")))
+        else:
+            self._vector_statement(name, a, b, c)
+
+    def _vector_statement(self, name, a, b, c):
+        """AddV, SubV, MulV, MulFV, MulVF: "Vector arithmetic reads all before writing." """
+        v = self._get_typed(a, FLOAT) if name == "MulFV" else self._get_vector(a)
+        w = self._get_typed(b, FLOAT) if name == "MulVF" else self._get_vector(b)
+        if name == "MulFV":
+            self._put_vector(c, [float_mul(y, v) for y in w])
+        elif name == "MulVF":
+            self._put_vector(c, [float_mul(x, w) for x in v])
+        elif name == "MulV":
+            # "MulV starts from +0 and adds three products in order."
+            total = ZERO
+            for x, y in zip(v, w):
+                total = float_add(total, float_mul(x, y))
+            self._put_typed(c, FLOAT, total)
+        else:
+            operation = {"AddV": float_add, "SubV": float_sub}[name]
+            self._put_vector(c, [operation(x, y) for x, y in zip(v, w)])
+
+    def _is_equal(self, name, a, b):
+        """Eq and Ne of vectors, strings, entities and functions."""
+        if name.endswith("V"):
+            v, w = self._get_vector(a), self._get_vector(b)
+            return all(float_eq(x, y) for x, y in zip(v, w))
+        if name.endswith("S"):
+            # "EqS, NeS and NotS refuse negative operands 15 before any type check."
+            check(a >= 0 and b >= 0, 15)
+            # "equal operands are neither read nor checked further and count as equal"
+            return a == b or self._get_typed(a, STRING) == self._get_typed(b, STRING)
+        wanted = ENTITY if name.endswith("Ent") else FUNCTION
+        return self._get_typed(a, wanted) == self._get_typed(b, wanted)
+
+    def _is_null(self, name, a):
+        """What a Not asks of its operand.  Each writes one float, NotV too, by pr_exec.c."""
+        if name == "NotF":
+            return is_zero(self._get_typed(a, FLOAT))
+        if name == "NotV":
+            return all(is_zero(x) for x in self._get_vector(a))
+        if name == "NotS":
+            check(a >= 0, 15)
+            number = self._get_typed(a, STRING)
+            # "1.0 for operand 0, as the Rust does, or string number 0; operand 0 is still checked"
+            return a == 0 or number == 0
+        return self._get_typed(a, ENTITY if name == "NotEnt" else FUNCTION) == 0
+
+    def _store_statement(self, name, a, b):
+        if name == "StoreV":
+            self._store_v(a, b)
+            return
+        wanted = STORED_TYPES[name]
+        value = self._get_typed(a, wanted)
+        # "negative string in StoreS", in the access of the source
+        check(name != "StoreS" or value < SIGN, 17)
+        self._put_typed(b, wanted, value)
+
+    def _store_v(self, source, destination):
+        """ "StoreV goes cell by cell, source before destination, each typed as float; where the
+        destination is 1 to 27 all three, source and destination, are checked by address alone." """
+        for i in range(3):
+            if 1 <= destination <= 27:
+                self._put(destination + i, self._get(source + i))
+            else:
+                self._put_typed(destination + i, FLOAT, self._get_typed(source + i, FLOAT))
+
+    # -- calls ---------------------------------------------------------------------------------
+
+    def _called(self, operand):
+        """The Call row: the function to be entered; a builtin is handed over."""
+        number = self._get_typed(operand, FUNCTION)
+        check(number != 0, 19)
+        check(number < self._program.count(FUNCTIONS), 20)  # a negative one is a great one here
+        first = self._program.function(number).first
+        if first < 0:
+            check(-first in BUILTINS, 5)
+            raise HandedOver("builtin", -first)
+        return number
+
+    def _enter(self, number, recorded):
+        state = self.state
+        check(0 <= number < self._program.count(FUNCTIONS), 20)
+        function = self._program.function(number)
+        check(state.depth < DEEPEST, 22)
+        check(function.locals >= 0 and state.saved + function.locals <= MOST_SAVED, 23)
+        self._check_range(function.local, function.locals)
+        check(0 <= function.arguments <= 8, 24)
+        # "Entry saves the local range onto the saved store, then copies arguments"
+        for i in range(function.locals):
+            self._store(self.saved_store, state.saved + i, self.cells[function.local + i])
+        # "argument i, component j comes from cell 4+3i+j, to successive cells from the first local
+        # cell, one at a time"
+        destination = function.local
+        for i in range(function.arguments):
+            for j in range(function.sizes[i]):
+                self._put(destination, self._get(4 + 3 * i + j))
+                destination += 1
+        check(function.first >= 0, 21)
+        frames = list(state.frames)
+        frames[state.depth] = Frame(recorded, state.function)
+        self.state = replace(
+            state,
+            position=function.first,
+            function=number,
+            depth=state.depth + 1,
+            saved=state.saved + function.locals,
+            frames=tuple(frames),
+        )
+
+    def _return(self, operand):
+        for i in range(3):
+            self._check_address(operand + i)
+        check(self.state.depth > 0, 25)
+        function = self._program.function(self.state.function)
+        check(self.state.saved >= function.locals, 26)
+        self._check_range(function.local, function.locals)
+        # "copy three cells from the first operand to cells 1, 2, 3, one at a time, then restore
+        # the locals and the recorded position"
+        for i in range(3):
+            self._put(1 + i, self._get(operand + i))
+        self._leave()
+
+    def _leave(self):
+        state = self.state
+        function = self._program.function(state.function)
+        self._check_range(function.local, function.locals)
+        saved = state.saved - function.locals
+        for i in range(function.locals):
+            self._put(function.local + i, self.saved_store[saved + i])
+        frames = list(state.frames)
+        frame = frames[state.depth - 1]
+        frames[state.depth - 1] = Frame(0, 0)  # "a frame that is left becomes zeros again"
+        self.state = replace(
+            state,
+            position=frame.position,
+            function=frame.function,
+            depth=state.depth - 1,
+            saved=saved,
+            frames=tuple(frames),
+        )
+
+    # -- run, carry on, abandon ----------------------------------------------------------------
+
+    def _run(self, target, limit):
+        check(1 <= limit <= MOST_STATEMENTS, 28)
+        check(0 <= target < self.state.depth, 29)
+        count = 0
+        while True:
+            try:
+                self._undoing(self._statement)
+            except Refused as refusal:
+                return Answer("refused", refusal.number, count)
+            except HandedOver as over:
+                return Answer(over.word, over.number, count)
+            count += 1  # "The count is of completed statements."
+            if self.state.depth == target:
+                return Answer("ended", 0, count)
+            if count == limit:
+                return Answer("spent", 0, count)
+
+    def _carry_on(self):
+        statement = self._fetch()
+        over = statement.opcode in HOST_OPCODES
+        if OPCODES[statement.opcode].startswith("Call"):
+            try:
+                self._called(statement.a)
+            except HandedOver:
+                over = True
+            except Refused:
+                pass
+        check(over, 27)  # "that statement, with the cells as they now are, would not be handed over"
+        self._advance(1)
+
+    def _abandon(self, target):
+        check(0 <= target <= self.state.depth, 29)
+        while self.state.depth > target:  # "leaving innermost first, no return value"
+            self._leave()
+
+
+STORED_TYPES = {
+    "StoreF": FLOAT,
+    "StoreS": STRING,
+    "StoreEnt": ENTITY,
+    "StoreFld": FIELD,
+    "StoreFnc": FUNCTION,
+}
+
+FLOAT_STATEMENTS = {
+    "MulF": float_mul,
+    "Div": float_div,
+    "AddF": float_add,
+    "SubF": float_sub,
+    "EqF": lambda x, y: truth(float_eq(x, y)),
+    "NeF": lambda x, y: truth(not float_eq(x, y)),
+    "Le": lambda x, y: truth(float_le(x, y)),
+    "Ge": lambda x, y: truth(float_le(y, x)),
+    "Lt": lambda x, y: truth(float_lt(x, y)),
+    "Gt": lambda x, y: truth(float_lt(y, x)),
+    "And": lambda x, y: truth(not is_zero(x) and not is_zero(y)),
+    "Or": lambda x, y: truth(not is_zero(x) or not is_zero(y)),
+    "BitAnd": lambda x, y: float_of(whole_of(x) & whole_of(y)),
+    "BitOr": lambda x, y: float_of(whole_of(x) | whole_of(y)),
+}
+
+
+# ---------------------------------------------------------------------------------------------
+# The show program
+# ---------------------------------------------------------------------------------------------
+
+LARGEST_SHOWN = 65_536
+
+
+def show(file):
+    """The line that the show program prints for a file, without its line end."""
+    if len(file) > LARGEST_SHOWN:
+        return "refused,1"
+    machine = Machine(file, [0] * MOST_CELLS, [0] * MOST_SAVED)
+    answer = machine.load()
+    if answer.word == "refused":
+        return f"refused,{answer.detail}"
+    answer = machine.enter(1)
+    if answer.word != "refused":
+        answer = machine.run(0, MOST_STATEMENTS)
+    state = machine.state
+    numbers = (answer.detail, answer.count, state.position, state.function, state.depth, state.saved)
+    cells = [f"{machine.cells[cell]:08x}" for cell in (1, 2, 3)]
+    return ",".join([answer.word, *map(str, numbers), *cells])
+
+
+# ---------------------------------------------------------------------------------------------
+# An assembler of program files
+# ---------------------------------------------------------------------------------------------
+
+
+def function(first=0, local=0, locals=0, sizes=(), arguments=None, name=0, source=0, profile=0):
+    """A function record; the argument count is the number of sizes unless it is given."""
+    count = len(sizes) if arguments is None else arguments
+    return Function(first, local, locals, profile, name, source, count, (*sizes, *[0] * (8 - len(sizes))))
+
+
+def pack_statement(statement):
+    opcode, a, b, c = (*statement, 0, 0, 0)[:4]
+    return struct.pack("<4h", OPCODE_NUMBER.get(opcode, opcode), a, b, c)
+
+
+def pack_definition(definition):
+    type_, cell, name = (*definition, 0)[:3]
+    return struct.pack("<HHi", type_, cell, name)
+
+
+def pack_function(record):
+    return struct.pack("<7i8B", *record[:7], *record.sizes)
+
+
+class Assembly:
+    """A file in the making: `lumps` are the header's twelve numbers, `bytes()` the whole file.
+
+    Lumps stand after the header in the order given by `layout`, `gap` zero bytes before each.
+    """
+
+    def __init__(
+        self,
+        statements=(),
+        functions=(),
+        definitions=(),
+        fields=(),
+        strings=b"\0",
+        cells=None,
+        cell_count=64,
+        entity_cells=FEWEST_ENTITY_CELLS,
+        layout=(STATEMENTS, GLOBAL_DEFS, FIELD_DEFS, FUNCTIONS, STRINGS, CELLS),
+        gap=0,
+    ):
+        values = [0] * cell_count
+        for cell, value in (cells or {}).items():
+            values[cell] = value
+        records = [
+            [pack_statement(s) for s in statements],
+            [pack_definition(d) for d in definitions],
+            [pack_definition(d) for d in fields],
+            [pack_function(f) for f in functions],
+            [bytes([byte]) for byte in strings],
+            [struct.pack("<I", value) for value in values],
+        ]
+        self.version, self.check_number, self.entity_cells = VERSION, CHECK_NUMBER, entity_cells
+        self.lumps = [0] * 12
+        self.body = b""
+        for lump in layout:
+            self.body += bytes(gap)
+            self.lumps[2 * lump] = HEADER_SIZE + len(self.body)
+            self.lumps[2 * lump + 1] = len(records[lump])
+            self.body += b"".join(records[lump])
+
+    def header(self):
+        return struct.pack("<15i", self.version, self.check_number, *self.lumps, self.entity_cells)
+
+    def bytes(self):
+        return bytearray(self.header() + self.body)
+
+    def place(self, lump, index=0):
+        """Where a record begins in the file."""
+        return self.lumps[2 * lump] + RECORD_SIZES[lump] * index
+
+
+if __name__ == "__main__":
+    print(show(sys.stdin.buffer.read()))

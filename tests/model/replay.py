@@ -1,0 +1,148 @@
+"""Reads the case files as README.md describes them and holds a model against them.
+
+    python3 replay.py            exits 1 if any case differs
+    python3 replay.py --first    stops at the first difference
+
+It shares no code with the case makers, so it also shows that the formats can be read.
+"""
+
+import importlib
+import os
+import struct
+import sys
+
+FOLDER = os.path.join(os.path.dirname(os.path.abspath(__file__)), "cases")
+FNV_BASIS, FNV_PRIME = 14695981039346656037, 1099511628211
+
+
+def lines_of(name):
+    with open(os.path.join(FOLDER, name), encoding="ascii") as file:
+        for line in file:
+            if not line.startswith("#"):
+                yield line.rstrip("\n")
+
+
+def bytes_of(length, text):
+    start = b"" if text == "-" else bytes.fromhex(text)
+    return bytearray(start + bytes(int(length) - len(start)))
+
+
+class Numbers:
+    """Takes decimal numbers one after another."""
+
+    def __init__(self, words):
+        self.words = iter(words)
+
+    def next(self):
+        return int(next(self.words))
+
+    def pairs(self):
+        return [(self.next(), self.next()) for _ in range(self.next())]
+
+
+def replay_statements(model):
+    """Yields a line, what it expects and what the model gives."""
+    for line in lines_of("statements.txt"):
+        kind, *words = line.split(" ")
+        if kind == "file":
+            statements, cell_count = int(words[0]), int(words[1])
+            file = bytes_of(words[2], words[3])
+            continue
+        at = words.index("=")
+        given, word, expected = Numbers(words[:at]), words[at + 1], words[at + 2 :]
+        machine = model.Machine(bytearray(file), [0] * cell_count, [0] * 2048)
+        assert machine.load().word == "accepted"
+        function = given.next()
+        if function >= 0:
+            assert machine.enter(function).word == "accepted"
+        statement = [given.next() for _ in range(4)]
+        for offset, byte in given.pairs():
+            machine.file[offset] = byte
+        struct.pack_into("<4h", machine.file, statements, *statement)
+        for cell, value in given.pairs():
+            machine.cells[cell] = value
+        before = list(machine.cells)
+        answer, state = machine.statement(), machine.state
+        changed = [(i, new) for i, new in enumerate(machine.cells) if new != before[i]]
+        got = [answer.detail, state.position, state.function, state.depth, state.saved]
+        got += [len(changed)] + [number for pair in changed for number in pair]
+        yield line, [word, *expected], [answer.word, *map(str, got)]
+
+
+def replay_files(model):
+    for line in lines_of("files.txt"):
+        _, length, text, expected = line.split(" ")
+        yield line, expected, model.show(bytes_of(length, text))
+
+
+def set_number(model, machine, field, value):
+    """Sets one number of the state, counted as README.md counts them."""
+    state = machine.state
+    flat = [state.length, *state.lumps, state.entity_cells]
+    flat += [state.position, state.function, state.depth, state.saved]
+    flat += [number for frame in state.frames for number in frame]
+    flat[field] = value
+    frames = tuple(model.Frame(*flat[i : i + 2]) for i in range(18, 80, 2))
+    machine.state = model.State(flat[0], tuple(flat[1:13]), *flat[13:18], frames)
+    return model.Answer("accepted")
+
+
+def set_byte(model, machine, offset, value):
+    machine.file[offset] = value
+    return model.Answer("accepted")
+
+
+def digest(machine):
+    text = "".join(f"{position},{function};" for position, function in machine.state.frames)
+    numbers = machine.cells + machine.saved_store
+    result = FNV_BASIS
+    for byte in text.encode("ascii") + struct.pack(f"<{len(numbers)}I", *numbers):
+        result = (result ^ byte) * FNV_PRIME % 2**64
+    return f"{result:016x}"
+
+
+def replay_calls(model):
+    for line in lines_of("calls.txt"):
+        kind, *words = line.split(" ")
+        if kind == "new":
+            cells = [0xDEAD0000 + i for i in range(int(words[0]))]
+            saved = [0xBEEF0000 + i for i in range(int(words[1]))]
+            machine = model.Machine(bytes_of(words[2], words[3]), cells, saved)
+            continue
+        at = words.index("=")
+        given = [int(word) for word in words[:at]]
+        operations = dict(load="load", enter="enter", statement="statement", run="run")
+        operations |= dict(carry="carry_on", abandon="abandon", get="read", put="write")
+        if kind in operations:
+            answer = getattr(machine, operations[kind])(*given)
+        else:
+            answer = {"field": set_number, "byte": set_byte}[kind](model, machine, *given)
+        state = machine.state
+        got = [answer.detail, answer.count, state.position, state.function, state.depth, state.saved]
+        yield line, words[at + 1 :], [answer.word, *map(str, got), digest(machine)]
+
+
+REPLAYS = (replay_statements, replay_calls, replay_files)
+
+
+def differences(model):
+    """Yields (line, expected, got) for every case that the model answers otherwise."""
+    for replay in REPLAYS:
+        for line, expected, got in replay(model):
+            if expected != got:
+                yield line, expected, got
+
+
+def main():
+    found = 0
+    for line, expected, got in differences(importlib.import_module("model")):
+        found += 1
+        print(f"{line[:200]}\n  expected {expected}\n  got      {got}")
+        if "--first" in sys.argv:
+            break
+    print(f"{found} differences")
+    return 1 if found else 0
+
+
+if __name__ == "__main__":
+    sys.exit(main())
