@@ -1,0 +1,106 @@
+// The header, and what it may say: the conditions of refusals 1, 4, 10, 11 and 13.
+ghost use mathlib.Core.Path.{_≡_};
+ghost use Prim.Native.Nat.{_+_, _≤_};
+ghost use lib.ListN.{length};
+ghost use Rattle.definition.specs.File.{lumpAt, fileOf, lengthFits, lumpFits, lumpsFit, cellsFit, entityFits};
+ghost use Rattle.definition.specs.Load.{sameLump, sameFile};
+use crate::reads;
+use definition::FileRecord;
+use definition::Lump;
+
+fn lump_at(file: &[u8], at: usize) -> Lump
+    requires { ⌜ at + 8 ≤ length (now file) ⌝ }
+    ensures { λ r. ⌜ r ≡ lumpAt (now (file .entry)) at ⌝ }
+{
+    Lump {
+        offset: reads::wide(reads::u32_at(file, at)),
+        count: reads::wide(reads::u32_at(file, at + 4)),
+    }
+}
+
+// The header of a file that isn't too short to have one: refusals 1 and 13 come first.
+pub fn file_of(file: &[u8]) -> FileRecord
+    requires { ⌜ 60 ≤ length (now file) ⌝ }
+    ensures { λ r. ⌜ r ≡ fileOf (now (file .entry)) ⌝ }
+{
+    let statements = lump_at(file, 8);
+    let globaldefs = lump_at(file, 16);
+    let fielddefs = lump_at(file, 24);
+    let functions = lump_at(file, 32);
+    let strings = lump_at(file, 40);
+    let globals = lump_at(file, 48);
+    FileRecord {
+        length: file.len(),
+        statements,
+        globaldefs,
+        fielddefs,
+        functions,
+        strings,
+        globals,
+        entityfields: reads::wide(reads::u32_at(file, 56)),
+    }
+}
+
+pub fn length_fits(r: FileRecord) -> bool
+    ensures { λ b. ⌜ b ≡ lengthFits r ⌝ }
+{
+    (60 <= r.length) & (r.length <= 1048576)
+}
+
+// The sum can't wrap: both numbers are below 2^31 where it is made.
+pub fn lump_fits(size: usize, end: usize, lump: Lump) -> bool
+    requires { ⌜ size ≤ 36 ⌝ }
+    ensures { λ b. ⌜ b ≡ lumpFits size end lump ⌝ }
+{
+    if 2147483648 <= lump.offset {
+        return false;
+    }
+    if 2147483648 <= lump.count {
+        return false;
+    }
+    (lump.count == 0) | (lump.offset + size * lump.count <= end)
+}
+
+pub fn lumps_fit(r: FileRecord) -> bool
+    ensures { λ b. ⌜ b ≡ lumpsFit r ⌝ }
+{
+    let end = r.length;
+    lump_fits(8, end, r.statements)
+        & lump_fits(8, end, r.globaldefs)
+        & lump_fits(8, end, r.fielddefs)
+        & lump_fits(36, end, r.functions)
+        & lump_fits(1, end, r.strings)
+        & lump_fits(4, end, r.globals)
+}
+
+pub fn cells_fit(least: usize, r: FileRecord) -> bool
+    ensures { λ b. ⌜ b ≡ cellsFit least r ⌝ }
+{
+    let globals = r.globals;
+    (least <= globals.count) & (globals.count <= 32768)
+}
+
+pub fn entity_fits(r: FileRecord) -> bool
+    ensures { λ b. ⌜ b ≡ entityFits r ⌝ }
+{
+    (105 <= r.entityfields) & !(2147483648 <= r.entityfields)
+}
+
+fn same_lump(a: Lump, b: Lump) -> bool
+    ensures { λ r. ⌜ r ≡ sameLump a b ⌝ }
+{
+    (a.offset == b.offset) & (a.count == b.count)
+}
+
+pub fn same_file(a: FileRecord, b: FileRecord) -> bool
+    ensures { λ r. ⌜ r ≡ sameFile a b ⌝ }
+{
+    (a.length == b.length)
+        & same_lump(a.statements, b.statements)
+        & same_lump(a.globaldefs, b.globaldefs)
+        & same_lump(a.fielddefs, b.fielddefs)
+        & same_lump(a.functions, b.functions)
+        & same_lump(a.strings, b.strings)
+        & same_lump(a.globals, b.globals)
+        & (a.entityfields == b.entityfields)
+}
