@@ -1,0 +1,4 @@
+-- What the proofs of `floats` share.
+pub mod Cells
+pub mod Whole
+pub mod Opcodes

@@ -1,0 +1,3 @@
+-- What the contracts of `floats` cite besides the definition.
+pub mod Scaled
+pub mod Opcodes
