@@ -1,0 +1,2 @@
+// Typed cells and the statements (globals.rs).
+pub mod typed;
