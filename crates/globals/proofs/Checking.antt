@@ -2,12 +2,15 @@
 use Prim.Native.Nat.{ℕ, zero, suc, _+_, _<_, _≤_}
 use mathlib.Core.Path.{_≡_, refl, sym, ap, _∙_}
 use mathlib.Core.List.{List, [], _∷_, _++_}
-use mathlib.Core.Bool.{Bool, true, false, cond}
+use mathlib.Core.Bool.{Bool, true, false, not, _&&_, cond}
+use lib.ListN.{getD}
 use native.Mathlib.Omega.{arith}
 use borrow.Author.Tests.{eq-eqb, ne-eqb, eqb-true, eqb-false, lt-ltb, le-ltb, ltb-true}
 use lib.Dec.{eqb, ltb}
 use Rattle.definition.specs.Checks.{Condition, Conditions, _otherwise_, judge}
-use Rattle.definition.specs.Cells.{Typing, lookup, scalar, passes, cellAccess, vectorAccess, access}
+use Rattle.definition.specs.File.{negative}
+use Rattle.definition.specs.Cells.{Typing, lookup, scalar, passes, cellAccess, vectorAccess, access, readAccess}
+use Rattle.definition.specs.Statements.{component}
 use Rattle.definition.specs.CheckLaws.{judge-append}
 use Rattle.globals.specs.declared.typed.TypeCheck.the-variants.{Passed, Failed}
 use Rattle.globals.specs.Typed.{typeCheck}
@@ -49,6 +52,10 @@ judge-three cs ds es = judge-both (cs ++ ds) es ∙ rw (judge-both cs ds) (first
 
 -- ---- one condition before others
 
+pub nothing : 0 ≡ judge []
+unfolding judge
+nothing = refl
+
 module _ (x : Condition) (cs : Conditions) where
   pub fails : x .holds ≡ false → suc (x .number-1) ≡ judge (x ∷ cs)
   unfolding judge
@@ -57,6 +64,14 @@ module _ (x : Condition) (cs : Conditions) where
   pub holds : (r : ℕ) → x .holds ≡ true → r ≡ judge cs → r ≡ judge (x ∷ cs)
   unfolding judge
   holds r h e = rw h e
+
+  pub all-held : judge (x ∷ cs) ≡ 0 → judge cs ≡ 0
+  unfolding judge
+  all-held e = go (x .holds) e
+    where
+      go : (t : Bool) → cond t (judge cs) (suc (x .number-1)) ≡ 0 → judge cs ≡ 0
+      go true e = e
+      go false e = absurd (omega arith)
 
 -- ---- a typed access
 
@@ -121,3 +136,42 @@ access-vector g r want cell h e = rw h e
 pub access-cell : (g : Typing) (r want cell : ℕ) → (want ≡ 3 → ⊥) → r ≡ judge (cellAccess g want cell) → r ≡ judge (access g want cell)
 unfolding access
 access-cell g r want cell h e = rw (ne-eqb want 3 h) e
+
+-- ---- how far an accepted access reaches
+
+pub access-last : (g : Typing) (want cell : ℕ) → judge (access g want cell) ≡ 0 → component want cell 2 < g .count
+unfolding access vectorAccess
+access-last g want cell e = go (eqb want 3) e
+  where
+    go : (t : Bool) → judge (cond t (vectorAccess g cell) (cellAccess g want cell)) ≡ 0 → cond t (cell + 2) cell < g .count
+    go true e = cell-reach g 2 (cell + 2) (neither _ _ (neither _ _ (sym (judge-three (cellAccess g 2 cell) (cellAccess g 2 (cell + 1)) (cellAccess g 2 (cell + 2))) ∙ all-held _ _ e) .1) .1)
+    go false e = cell-reach g want cell e
+
+pub component-first : (t cell n : ℕ) → component t cell 2 < n → cell < n
+component-first t cell n h = go (eqb t 3) h
+  where
+    go : (b : Bool) → cond b (cell + 2) cell < n → cell < n
+    go true h = omega arith
+    go false h = h
+
+pub access-first : (g : Typing) (want cell : ℕ) → judge (access g want cell) ≡ 0 → cell < g .count
+access-first g want cell e = component-first want cell _ (access-last g want cell e)
+
+-- ---- a read of a value
+
+module _ (g : Typing) (must : Bool) (t cell : ℕ) (cells : List ℕ) where
+  read-firsts : judge (readAccess g must t cell cells) ≡ first (judge (access g t cell)) (judge ((not (must && negative (getD cells cell 0)) otherwise 17) ∷ []))
+  unfolding readAccess
+  read-firsts = judge-both (access g t cell) _
+
+  pub read-stops : (r : ℕ) → (r ≡ 0 → ⊥) → r ≡ judge (access g t cell) → r ≡ judge (readAccess g must t cell cells)
+  read-stops r h e = rw read-firsts (stop r _ _ h e)
+
+  pub read-refused : judge (access g t cell) ≡ 0 → (must && negative (getD cells cell 0)) ≡ true → 17 ≡ judge (readAccess g must t cell cells)
+  read-refused h e = rw read-firsts (go-on 17 _ _ h (fails _ _ (ap not e)))
+
+  pub read-accepted : judge (access g t cell) ≡ 0 → (must && negative (getD cells cell 0)) ≡ false → 0 ≡ judge (readAccess g must t cell cells)
+  read-accepted h e = rw read-firsts (go-on 0 _ _ h (holds _ [] 0 (ap not e) nothing))
+
+  pub read-access : judge (readAccess g must t cell cells) ≡ 0 → judge (access g t cell) ≡ 0
+  read-access e = neither _ _ (sym read-firsts ∙ e) .0

@@ -1,2 +1,3 @@
 // Typed cells and the statements (globals.rs).
+pub mod ops;
 pub mod typed;

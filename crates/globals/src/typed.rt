@@ -4,8 +4,9 @@ ghost use Prim.Native.Nat.{_+_, _-_, _*_, _≤_, _<_};
 ghost use lib.ListN.{length};
 ghost use Rattle.definition.specs.Checks.{judge};
 ghost use Rattle.definition.specs.File.{records, readDefinition};
-ghost use Rattle.definition.specs.Cells.{lookup, scalar, passes, cellAccess, vectorAccess, access};
+ghost use Rattle.definition.specs.Cells.{lookup, scalar, passes, cellAccess, vectorAccess, access, mustBePositive, readAccess};
 ghost use Rattle.globals.specs.Typed.{typing, definitionsIn, typeCheck};
+ghost use Rattle.globals.specs.Checking.{first};
 use functions::reads;
 
 // The types of definitions and operands.
@@ -115,4 +116,54 @@ pub fn check_access(file: &[u8], defs: usize, ndefs: usize, count: usize, want: 
         return check_vector(file, defs, ndefs, count, cell);
     }
     check_cell(file, defs, ndefs, count, want, cell)
+}
+
+// Three typed accesses in order.
+pub fn check_three(file: &[u8], defs: usize, ndefs: usize, count: usize, ta: u16, a: usize, tb: u16, b: usize, tc: u16, c: usize) -> u8
+    requires { ⌜ 8 * ndefs ≤ length (now file) - defs ⌝ }
+    ensures { λ r. ⌜ r ≡ first (judge (access (typing (now (file .entry)) defs ndefs count) ta a)) (first (judge (access (typing (now (file .entry)) defs ndefs count) tb b)) (judge (access (typing (now (file .entry)) defs ndefs count) tc c))) ⌝ }
+{
+    let x = check_access(file, defs, ndefs, count, ta, a);
+    if x != 0 {
+        return x;
+    }
+    let y = check_access(file, defs, ndefs, count, tb, b);
+    if y != 0 {
+        return y;
+    }
+    check_access(file, defs, ndefs, count, tc, c)
+}
+
+// Entity and field numbers must not be negative when they are read.
+pub fn must_be_positive(t: u16) -> bool
+    ensures { λ r. ⌜ r ≡ mustBePositive t ⌝ }
+{
+    (t == ENTITY) | (t == FIELD)
+}
+
+// A read of a value: refused 17 if it is negative and must not be.
+pub fn check_read(file: &[u8], defs: usize, ndefs: usize, count: usize, cells: &[u32], positive: bool, t: u16, cell: usize) -> u8
+    requires { ⌜ (8 * ndefs ≤ length (now file) - defs) × (count ≤ length (now cells)) ⌝ }
+    ensures { λ r. ⌜ r ≡ judge (readAccess (typing (now (file .entry)) defs ndefs count) positive t cell (now (cells .entry))) ⌝ }
+{
+    let r = check_access(file, defs, ndefs, count, t, cell);
+    if r != 0 {
+        return r;
+    }
+    if positive & (0x8000_0000 <= cells[cell]) {
+        return 17;
+    }
+    0
+}
+
+// A read of a value, then an access of the cell that the statement writes.
+pub fn check_move(file: &[u8], defs: usize, ndefs: usize, count: usize, cells: &[u32], positive: bool, ta: u16, a: usize, tb: u16, b: usize) -> u8
+    requires { ⌜ (8 * ndefs ≤ length (now file) - defs) × (count ≤ length (now cells)) ⌝ }
+    ensures { λ r. ⌜ r ≡ first (judge (readAccess (typing (now (file .entry)) defs ndefs count) positive ta a (now (cells .entry)))) (judge (access (typing (now (file .entry)) defs ndefs count) tb b)) ⌝ }
+{
+    let r = check_read(file, defs, ndefs, count, cells, positive, ta, a);
+    if r != 0 {
+        return r;
+    }
+    check_access(file, defs, ndefs, count, tb, b)
 }
