@@ -14,7 +14,7 @@ use Rattle.definition.specs.Statements.{component}
 use Rattle.definition.specs.CheckLaws.{judge-append}
 use Rattle.globals.specs.declared.typed.TypeCheck.the-variants.{Passed, Failed}
 use Rattle.globals.specs.Typed.{typeCheck}
-use Rattle.globals.specs.Checking.{first}
+use Rattle.globals.specs.Checking.{first, Reaches}
 
 -- ---- one refusal after another
 
@@ -47,8 +47,19 @@ first-first a b c = go (eqb a 0) refl
     go true p = refl
     go false p = rw p
 
+first-none : (a : ℕ) → first a 0 ≡ a
+unfolding first
+first-none a = go (eqb a 0) refl
+  where
+    go : (t : Bool) → eqb a 0 ≡ t → cond t 0 a ≡ a
+    go true p = sym (eqb-true a 0 p)
+    go false p = refl
+
 pub judge-three : (cs ds es : Conditions) → judge (cs ++ ds ++ es) ≡ first (judge cs) (first (judge ds) (judge es))
 judge-three cs ds es = judge-both (cs ++ ds) es ∙ rw (judge-both cs ds) (first-first _ _ _)
+
+pub judge-four : (cs ds es fs : Conditions) → judge (cs ++ ds ++ es ++ fs) ≡ first (judge cs) (first (judge ds) (first (judge es) (judge fs)))
+judge-four cs ds es fs = judge-both (cs ++ ds ++ es) fs ∙ rw (judge-three cs ds es) (first-first _ _ _ ∙ ap (first (judge cs)) (first-first _ _ _))
 
 -- ---- one condition before others
 
@@ -139,23 +150,41 @@ access-cell g r want cell h e = rw (ne-eqb want 3 h) e
 
 -- ---- how far an accepted access reaches
 
-pub access-last : (g : Typing) (want cell : ℕ) → judge (access g want cell) ≡ 0 → component want cell 2 < g .count
+access-last : (g : Typing) (want cell : ℕ) → judge (access g want cell) ≡ 0 → component want cell 2 < g .count
 unfolding access vectorAccess
 access-last g want cell e = go (eqb want 3) e
   where
     go : (t : Bool) → judge (cond t (vectorAccess g cell) (cellAccess g want cell)) ≡ 0 → cond t (cell + 2) cell < g .count
-    go true e = cell-reach g 2 (cell + 2) (neither _ _ (neither _ _ (sym (judge-three (cellAccess g 2 cell) (cellAccess g 2 (cell + 1)) (cellAccess g 2 (cell + 2))) ∙ all-held _ _ e) .1) .1)
+    go true e =
+        let three = sym (judge-three (cellAccess g 2 cell) (cellAccess g 2 (cell + 1)) (cellAccess g 2 (cell + 2))) ∙ all-held _ _ e in
+        cell-reach g 2 (cell + 2) (neither _ _ (neither _ _ three .1) .1)
     go false e = cell-reach g want cell e
 
-pub component-first : (t cell n : ℕ) → component t cell 2 < n → cell < n
-component-first t cell n h = go (eqb t 3) h
+pub reach : (g : Typing) (t cell : ℕ) → judge (access g t cell) ≡ 0 → Reaches t cell (g .count)
+reach g t cell e = go (eqb t 3) refl (access-last g t cell e)
   where
-    go : (b : Bool) → cond b (cell + 2) cell < n → cell < n
-    go true h = omega arith
-    go false h = h
+    go : (b : Bool) → eqb t 3 ≡ b → cond b (cell + 2) cell < g .count → Reaches t cell (g .count)
+    go true p h = record { first-below = omega arith; second-below = rw p (omega arith); third-below = rw p h }
+    go false p h = record { first-below = h; second-below = rw p h; third-below = rw p h }
+
+pub widen : {t cell m n : ℕ} → Reaches t cell m → m ≤ n → Reaches t cell n
+widen h k =
+    record {
+      first-below = omega (arith, h .first-below);
+      second-below = omega (arith, h .second-below);
+      third-below = omega (arith, h .third-below);
+    }
 
 pub access-first : (g : Typing) (want cell : ℕ) → judge (access g want cell) ≡ 0 → cell < g .count
-access-first g want cell e = component-first want cell _ (access-last g want cell e)
+access-first g want cell e = reach g want cell e .first-below
+
+-- the cell of a component, by the type of its operand
+module _ (t cell i : ℕ) where
+  pub component-vector : t ≡ 3 → component t cell i ≡ cell + i
+  component-vector h = rw (eq-eqb t 3 h)
+
+  pub component-float : (t ≡ 3 → ⊥) → component t cell i ≡ cell
+  component-float h = rw (ne-eqb t 3 h)
 
 -- ---- a read of a value
 
@@ -173,5 +202,10 @@ module _ (g : Typing) (must : Bool) (t cell : ℕ) (cells : List ℕ) where
   pub read-accepted : judge (access g t cell) ≡ 0 → (must && negative (getD cells cell 0)) ≡ false → 0 ≡ judge (readAccess g must t cell cells)
   read-accepted h e = rw read-firsts (go-on 0 _ _ h (holds _ [] 0 (ap not e) nothing))
 
-  pub read-access : judge (readAccess g must t cell cells) ≡ 0 → judge (access g t cell) ≡ 0
-  read-access e = neither _ _ (sym read-firsts ∙ e) .0
+  pub read-reach : judge (readAccess g must t cell cells) ≡ 0 → Reaches t cell (g .count)
+  read-reach e = reach g t cell (neither _ _ (sym read-firsts ∙ e) .0)
+
+-- a read that 17 can't refuse is an access
+pub read-plain : (g : Typing) (t cell : ℕ) (cells : List ℕ) → judge (readAccess g false t cell cells) ≡ judge (access g t cell)
+unfolding judge
+read-plain g t cell cells = read-firsts g false t cell cells ∙ first-none _

@@ -6,7 +6,7 @@ ghost use Rattle.definition.specs.Checks.{judge};
 ghost use Rattle.definition.specs.File.{records, readDefinition};
 ghost use Rattle.definition.specs.Cells.{lookup, scalar, passes, cellAccess, vectorAccess, access, mustBePositive, readAccess};
 ghost use Rattle.globals.specs.Typed.{typing, definitionsIn, typeCheck};
-ghost use Rattle.globals.specs.Checking.{first};
+ghost use Rattle.globals.specs.Checking.{threeRefusal, moveRefusal};
 use functions::reads;
 
 // The types of definitions and operands.
@@ -121,7 +121,7 @@ pub fn check_access(file: &[u8], defs: usize, ndefs: usize, count: usize, want: 
 // Three typed accesses in order.
 pub fn check_three(file: &[u8], defs: usize, ndefs: usize, count: usize, ta: u16, a: usize, tb: u16, b: usize, tc: u16, c: usize) -> u8
     requires { ⌜ 8 * ndefs ≤ length (now file) - defs ⌝ }
-    ensures { λ r. ⌜ r ≡ first (judge (access (typing (now (file .entry)) defs ndefs count) ta a)) (first (judge (access (typing (now (file .entry)) defs ndefs count) tb b)) (judge (access (typing (now (file .entry)) defs ndefs count) tc c))) ⌝ }
+    ensures { λ r. ⌜ r ≡ threeRefusal (typing (now (file .entry)) defs ndefs count) ta a tb b tc c ⌝ }
 {
     let x = check_access(file, defs, ndefs, count, ta, a);
     if x != 0 {
@@ -159,7 +159,7 @@ pub fn check_read(file: &[u8], defs: usize, ndefs: usize, count: usize, cells: &
 // A read of a value, then an access of the cell that the statement writes.
 pub fn check_move(file: &[u8], defs: usize, ndefs: usize, count: usize, cells: &[u32], positive: bool, ta: u16, a: usize, tb: u16, b: usize) -> u8
     requires { ⌜ (8 * ndefs ≤ length (now file) - defs) × (count ≤ length (now cells)) ⌝ }
-    ensures { λ r. ⌜ r ≡ first (judge (readAccess (typing (now (file .entry)) defs ndefs count) positive ta a (now (cells .entry)))) (judge (access (typing (now (file .entry)) defs ndefs count) tb b)) ⌝ }
+    ensures { λ r. ⌜ r ≡ moveRefusal (typing (now (file .entry)) defs ndefs count) positive ta a tb b (now (cells .entry)) ⌝ }
 {
     let r = check_read(file, defs, ndefs, count, cells, positive, ta, a);
     if r != 0 {
