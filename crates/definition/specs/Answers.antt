@@ -75,10 +75,19 @@ statementOutcome c (completed c′) = record { answer = statement.Completed; con
 statementOutcome c (refusedStep n) = record { answer = statement.Refused n; config = c }
 statementOutcome c (handedStep h) = record { answer = statement.HandedOver h; config = c }
 
+-- what was read, 0 where it was refused; and the number of the refusal, 0 where there is none
+abbrev pub readValue : ReadAnswer → ℕ
+readValue (read.Value v) = v
+readValue (read.Refused n) = 0
+
+abbrev pub readRefusal : ReadAnswer → ℕ
+readRefusal (read.Value v) = 0
+readRefusal (read.Refused n) = n
+
 -- ---- a run: "outcome (ended, spent, refused, builtin or opcode), detail (a number, else 0)"
 
 pub data Word : Type 0 where
-  ended spent refusedWord builtin opcode : Word
+  ended spent completedWord refusedWord builtin opcode : Word
 
 abbrev pub handoverWord : Handover → Word
 handoverWord (Builtin n) = builtin
@@ -100,10 +109,21 @@ outcomeDetail run.Spent = 0
 outcomeDetail (run.Refused n) = n
 outcomeDetail (run.HandedOver h) = handoverNumber h
 
+abbrev pub statementWord : StatementAnswer → Word
+statementWord statement.Completed = completedWord
+statementWord (statement.Refused n) = refusedWord
+statementWord (statement.HandedOver h) = handoverWord h
+
+abbrev pub statementDetail : StatementAnswer → ℕ
+statementDetail statement.Completed = 0
+statementDetail (statement.Refused n) = n
+statementDetail (statement.HandedOver h) = handoverNumber h
+
 -- the words in ASCII
 abbrev pub letters : Word → List ℕ
 letters ended = 101 ∷ 110 ∷ 100 ∷ 101 ∷ 100 ∷ []
 letters spent = 115 ∷ 112 ∷ 101 ∷ 110 ∷ 116 ∷ []
+letters completedWord = 99 ∷ 111 ∷ 109 ∷ 112 ∷ 108 ∷ 101 ∷ 116 ∷ 101 ∷ 100 ∷ []
 letters refusedWord = 114 ∷ 101 ∷ 102 ∷ 117 ∷ 115 ∷ 101 ∷ 100 ∷ []
 letters builtin = 98 ∷ 117 ∷ 105 ∷ 108 ∷ 116 ∷ 105 ∷ 110 ∷ []
 letters opcode = 111 ∷ 112 ∷ 99 ∷ 111 ∷ 100 ∷ 101 ∷ []

@@ -2,7 +2,7 @@
 use Prim.Native.Nat.{ℕ, zero, suc, _+_, _-_, _*_}
 use mathlib.Core.List.{List, [], _∷_}
 use mathlib.Core.Bool.{Bool, true, false, not, _&&_, _||_}
-use lib.ListN.{length, getD}
+use lib.ListN.{length, getD, replicate}
 use lib.Dec.{leb, ltb, eqb}
 use Rattle.definition.specs.declared.Lump.{Lump}
 use Rattle.definition.specs.declared.FileRecord.{FileRecord}
@@ -144,7 +144,7 @@ contentsOf file = contentsAt (fileOf file) file
 -- ---- functions and builtins
 
 abbrev pub noFunction : FunctionDef
-noFunction = record { first = 0; start = 0; locals = 0; name = 0; srcfile = 0; argc = 0; argsz = [] }
+noFunction = record { first = 0; start = 0; locals = 0; name = 0; srcfile = 0; argc = 0; argsz = replicate 8 0 }
 
 abbrev pub between : ℕ → ℕ → ℕ → Bool
 between low high n = leb low n && leb n high

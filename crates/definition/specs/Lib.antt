@@ -8,6 +8,7 @@ pub mod Machine
 pub mod Load
 pub mod Operations
 pub mod Answers
+pub mod Starred
 pub mod Calls
 pub mod Returns
 pub mod CheckLaws

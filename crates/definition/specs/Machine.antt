@@ -114,8 +114,8 @@ entryConditions P f c =
     ∷ (not (isBuiltin d) otherwise 21)
     ∷ []
 
--- "Entry saves the local range onto the saved store, then copies arguments; then the function is current, at its first statement". `back` is the
--- position that it records: "A Call records the position after itself, a host entry the present one"
+-- "Entry saves the local range (first local cell, local count) onto the saved store, then copies arguments"; "then the function is current, at its first
+-- statement". `back` is the position that it records: "A Call records the position after itself, a host entry the present one"
 unfoldable pub entered : Program → ℕ → ℤ → Config → Config
 entered P f back c =
     let d = functionOf P f in

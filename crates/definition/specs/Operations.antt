@@ -124,7 +124,8 @@ leavingsConditions P (suc n) c = leaveConditions P c ++ leavingsConditions P n (
 abbrev pub leavingsTo : ℤ → Config → ℕ
 leavingsTo target c = c .state .depth - natural target
 
--- "29: target below 0, or above the depth"; "15 if any local cell to be restored is missing"
+-- "29: target below 0, or not below the depth (abandon: above it)"; "15 if any local cell to be restored is missing". (25 and 26, which leaving has too,
+-- can't be met after 13 and 29.)
 unfoldable pub abandonConditions : Program → ℤ → Config → Conditions
 abandonConditions P target c =
     (sound P c otherwise 13)

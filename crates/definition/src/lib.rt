@@ -2,12 +2,14 @@
 // A number of the file is kept as its unsigned bits; a signed one is negative where its top bit is set.
 
 // A lump of the header: where its records start, and how many there are.
+#[repr(C)]
 pub struct Lump {
     pub offset: usize,
     pub count: usize,
 }
 
 // What a state records of the file that it was loaded from: the length, the header's six lumps, the cells per entity.
+#[repr(C)]
 pub struct FileRecord {
     pub length: usize,
     pub statements: Lump,
@@ -20,6 +22,7 @@ pub struct FileRecord {
 }
 
 // A statement record. Signed 16 bits each.
+#[repr(C)]
 pub struct Statement {
     pub opcode: u16,
     pub arg1: u16,
@@ -28,6 +31,7 @@ pub struct Statement {
 }
 
 // A global or field definition record: the type with its save flag, the cell, the name's offset.
+#[repr(C)]
 pub struct Definition {
     pub kind: u16,
     pub offset: u16,
@@ -35,6 +39,7 @@ pub struct Definition {
 }
 
 // A function record without its profile number: first statement, first local cell, local count, name, source file, argument count, argument sizes.
+#[repr(C)]
 pub struct FunctionDef {
     pub first: u32,
     pub start: u32,
@@ -46,6 +51,7 @@ pub struct FunctionDef {
 }
 
 // A call that waits: the position to go back to, and the function to go back into.
+#[repr(C)]
 pub struct StackFrame {
     pub instr_id: i64,
     pub func_id: usize,

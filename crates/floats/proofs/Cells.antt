@@ -56,5 +56,8 @@ pub on-flags : (test : Float → Float → Bool) (a b r : ℕ) (x y : Float) →
 on-flags test a b r x y p q h = cc
 
 -- the products of three pairs, added up from +0
-pub on-products : (a0 a1 a2 b0 b1 b2 r : ℕ) (x0 x1 x2 y0 y1 y2 : Float) → x0 ≡ value a0 → y0 ≡ value b0 → x1 ≡ value a1 → y1 ≡ value b1 → x2 ≡ value a2 → y2 ≡ value b2 → r ≡ cell (add binary32 (add binary32 (add binary32 (value 0) (mul binary32 x0 y0)) (mul binary32 x1 y1)) (mul binary32 x2 y2)) → r ≡ mulV a0 a1 a2 b0 b1 b2
+pub on-products : (a0 a1 a2 b0 b1 b2 r : ℕ) (x0 x1 x2 y0 y1 y2 : Float) →
+    x0 ≡ value a0 → y0 ≡ value b0 → x1 ≡ value a1 → y1 ≡ value b1 → x2 ≡ value a2 → y2 ≡ value b2 →
+    r ≡ cell (add binary32 (add binary32 (add binary32 (value 0) (mul binary32 x0 y0)) (mul binary32 x1 y1)) (mul binary32 x2 y2)) →
+    r ≡ mulV a0 a1 a2 b0 b1 b2
 on-products a0 a1 a2 b0 b1 b2 r x0 x1 x2 y0 y1 y2 p0 q0 p1 q1 p2 q2 h = cc

@@ -1,4 +1,5 @@
--- The functions that `match` on an opcode: the rows of the definition's table, and that the arms are all the opcodes of their shape. Assumes nothing.
+-- What the functions that `match` on an opcode share: an arm, and the last one, where the arms before it are shown to be all rows of the shape in
+-- the definition's table. Assumes nothing.
 use Prim.Native.Nat.{ℕ, zero, suc}
 use mathlib.Core.Path.{_≡_, refl, sym, ap, _∙_, subst}
 use mathlib.Core.Bool.{Bool, true, false, _&&_, _||_}
@@ -41,17 +42,17 @@ module _ {A : Type 0} (read : Shape → Option A) where
   onlyListed listed [] = isNone (read host)
   onlyListed listed (s ∷ ss) = (isNone (read s) || listed 0) && onlyListed (λ n. listed (suc n)) ss
 
-  row : (o : Option A) (b : Bool) → T (isNone o || b) → b ≡ false → o ≡ none
-  row none b t e = refl
-  row (some f) b t e = absurd (subst T e t)
+  ended : (o : Option A) → T (isNone o) → o ≡ none
+  ended none t = refl
+  ended (some f) t = absurd t
+
+  one : (o : Option A) (b : Bool) → T (isNone o || b) → b ≡ false → o ≡ none
+  one none b t e = refl
+  one (some f) b t e = absurd (subst T e t)
 
   rows : (listed : ℕ → Bool) (ss : List Shape) → T (onlyListed listed ss) → (n : ℕ) → listed n ≡ false → read (getD ss n host) ≡ none
-  rows listed [] t n e = row (read host) false (ended (read host) t) refl
-    where
-      ended : (o : Option A) → T (isNone o) → T (isNone o || false)
-      ended none u = tt
-      ended (some f) u = u
-  rows listed (s ∷ ss) t zero e = row (read s) (listed 0) (and-yes (isNone (read s) || listed 0) (onlyListed (λ n. listed (suc n)) ss) t .0) e
+  rows listed [] t n e = ended (read host) t
+  rows listed (s ∷ ss) t zero e = one (read s) (listed 0) (and-yes (isNone (read s) || listed 0) (onlyListed (λ n. listed (suc n)) ss) t .0) e
   rows listed (s ∷ ss) t (suc n) e = rows (λ i. listed (suc i)) ss (and-yes (isNone (read s) || listed 0) (onlyListed (λ i. listed (suc i)) ss) t .1) n e
 
   -- z stands for no row: what is made of it is what is made of the opcode's row

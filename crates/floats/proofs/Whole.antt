@@ -1,9 +1,9 @@
 -- The whole part of a cell's float, from the fields of its pattern. Assumes nothing.
 use Prim.Native.Nat.{ℕ, zero, suc, _+_, _-_, _*_, _/_, _%_, _^_, _≤_, _<_, min}
 use mathlib.Core.Path.{_≡_, refl, sym, ap, _∙_, subst}
-use mathlib.Core.Logic.{_⊎_, inl, inr}
+use mathlib.Core.Logic.{inl, inr}
 use mathlib.Core.Bool.{Bool, true, false, not, cond}
-use native.Mathlib.Nat.{mul-assoc, mul-comm, mul-right-comm, eq-of-mul-eq-mul-right, lt-of-lt-of-le, le-trans, le-of-eq, mod-lt, mod-eq-of-lt, div-eq-of-lt, le-div-iff-mul-le, mul-le-mul-right, mul-le-mul-left, le-add-right, eq-or-lt-of-le}
+use native.Mathlib.Nat.{mul-assoc, mul-right-comm, eq-of-mul-eq-mul-right, lt-of-lt-of-le, le-trans, mod-lt, mod-eq-of-lt, div-eq-of-lt, le-div-iff-mul-le, mul-le-mul-right, mul-le-mul-left, le-add-right, eq-or-lt-of-le}
 use native.Mathlib.Omega.{arith}
 use lib.Dec.{T, leb, ltb, eqb, lit≤}
 use lib.IntN.{ℤ, pos, negsuc, negℤ, _-ℤ_}

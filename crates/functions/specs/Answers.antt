@@ -20,12 +20,12 @@ use Rattle.functions.specs.declared.fetch.Fetched.the-variants as fetch
 abbrev pub lump : ℕ → ℕ → Lump
 lump offset count = record { offset = offset; count = count }
 
--- the test of refusal 20
-abbrev pub functionId : ℕ → ℕ → FunctionId
+-- the function that a number names, by the test of refusal 20
+unfoldable pub functionId : ℕ → ℕ → FunctionId
 functionId value count = cond (ltb value count) (function.Id value) function.NoFunction
 
--- the test of refusal 6
-abbrev pub stringId : ℕ → ℕ → StringId
+-- the string that a number names, by the test of refusal 6
+unfoldable pub stringId : ℕ → ℕ → StringId
 stringId value length = cond (ltb value length) (string.Id value) string.NoString
 
 abbrev pub fetchedOr : ℕ → Fetched → Fetched

@@ -8,12 +8,20 @@ use native.Mathlib.Omega.{arith}
 use lib.ListN.{length, getD}
 use lib.Dec.{leb, ltb, eqb}
 use lib.IntN.{ℤ, pos, negsuc}
-use borrow.Author.Tests.{lt-ltb, le-ltb, ltb-true, ltb-false, leb-true, leb-false, eqb-true, ne-eqb, not-true}
+use borrow.Author.Tests.{lt-ltb, le-ltb, ltb-true, ltb-false, leb-true, leb-false, lt-leb, eqb-true, ne-eqb, not-true}
 use Rattle.definition.specs.declared.Lump.{Lump}
 use Rattle.definition.specs.declared.FileRecord.{FileRecord}
 use Rattle.definition.specs.declared.Statement.{Statement}
-use Rattle.definition.specs.File.{records, negative, lumpFits, lumpsFit}
-use Rattle.definition.specs.Load.{sameLump, sameFile}
+use Rattle.definition.specs.Checks.{Conditions, _otherwise_, judge}
+use Rattle.definition.specs.File.{records, recordsIn, readStatement, readFunction, noFunction, negative, Contents, contentsAt, contentsOf}
+use Rattle.definition.specs.File.{fileOf, lengthFits, lumpFits, lumpsFit, leastCells, cellsFit, entityFits}
+use Rattle.definition.specs.Load.{sameLump, sameFile, recordedIn, programAt, programOf}
+use Rattle.definition.specs.Machine.{Program, functionOf}
+use Rattle.definition.specs.Statements.{Does, refuses, orRefused, placeOf, statementAt, fetchConditions, execute, doesAt}
+use Rattle.functions.specs.declared.FunctionId.the-variants as function
+use Rattle.functions.specs.declared.string_table.StringId.the-variants as string
+use Rattle.functions.specs.declared.fetch.Fetched.the-variants.{At, Refused}
+use Rattle.functions.specs.Answers.{functionId, stringId, fetchedOr, fetched}
 
 -- ---- tests
 
@@ -64,18 +72,18 @@ lump-fitting size end l e =
 pub lump-at : (size end i : ℕ) (l : Lump) → lumpFits size end l ≡ true → i < l .count → l .offset + size * i + size ≤ end
 lump-at size end i l e h = lump-fitting size end l e .record-at i h
 
--- the six lumps of a file whose header may say what it says
-pub record AllFitting (r : FileRecord) : Type 0 where
-  pub statements : lumpFits 8 (r .length) (r .statements) ≡ true
-  pub globaldefs : lumpFits 8 (r .length) (r .globaldefs) ≡ true
-  pub fielddefs : lumpFits 8 (r .length) (r .fielddefs) ≡ true
-  pub functions : lumpFits 36 (r .length) (r .functions) ≡ true
-  pub strings : lumpFits 1 (r .length) (r .strings) ≡ true
-  pub globals : lumpFits 4 (r .length) (r .globals) ≡ true
+-- the six lumps that a record of a file has, in a file of that length
+pub record AllFit (end : ℕ) (r : FileRecord) : Type 0 where
+  pub statements : lumpFits 8 end (r .statements) ≡ true
+  pub globaldefs : lumpFits 8 end (r .globaldefs) ≡ true
+  pub fielddefs : lumpFits 8 end (r .fielddefs) ≡ true
+  pub functions : lumpFits 36 end (r .functions) ≡ true
+  pub strings : lumpFits 1 end (r .strings) ≡ true
+  pub globals : lumpFits 4 end (r .globals) ≡ true
 
-pub all-fitting : (r : FileRecord) → lumpsFit r ≡ true → AllFitting r
+pub all-fit : (r : FileRecord) → lumpsFit r ≡ true → AllFit (r .length) r
 unfolding lumpsFit
-all-fitting r e =
+all-fit r e =
     let e5 = both _ _ e in
     let e4 = both _ _ (e5 .0) in
     let e3 = both _ _ (e4 .0) in
@@ -129,3 +137,163 @@ same-file a b e =
     let entities : a .entityfields ≡ b .entityfields = eqb-true _ _ (e7 .1) in
     let fields : fieldsOfFile a ≡ fieldsOfFile b = cc in
     fields
+
+-- what it is for a file to be as a state records, the first of 13's conditions
+pub record Recorded (file : List ℕ) (r : FileRecord) (lent : ℕ) : Type 0 where
+  pub same : r ≡ fileOf file
+  pub longest : length file ≤ 1048576
+  pub lumps : AllFit (length file) r
+  pub least : 36 ≤ r .globals .count
+  pub most : r .globals .count ≤ 32768
+  pub lends : r .globals .count ≤ lent
+
+pub recorded : (file : List ℕ) (r : FileRecord) (lent : ℕ) → recordedIn file r lent ≡ true → Recorded file r lent
+unfolding recordedIn fileOf
+recorded file r lent e =
+    let e5 = both _ _ e in
+    let e4 = both _ _ (e5 .0) in
+    let e3 = both _ _ (e4 .0) in
+    let e2 = both _ _ (e3 .0) in
+    let e1 = both _ _ (e2 .0) in
+    let same = same-file _ _ (e1 .0) in
+    let size : r .length ≡ length file = ap (λ (x : FileRecord). x .length) same in
+    let lengths = both (leb 60 (r .length)) (leb (r .length) 1048576) (e1 .1) in
+    let counts = both (leb leastCells (r .globals .count)) (leb (r .globals .count) 32768) (e3 .1) in
+    record {
+      same = same;
+      longest = rw (← size) (leb-true _ _ (lengths .1));
+      lumps = rw (← size) (all-fit r (e2 .1));
+      least = leb-true _ _ (counts .0);
+      most = leb-true _ _ (counts .1);
+      lends = leb-true _ _ (e5 .1);
+    }
+
+-- a file that is too short for a header is as no state records
+pub short-file : (file : List ℕ) (r : FileRecord) (lent : ℕ) → length file < 60 → false ≡ recordedIn file r lent
+unfolding recordedIn fileOf
+short-file file r lent h = by (sameFile r (fileOf file)) refl
+  where
+    by : (t : Bool)
+        → sameFile r (fileOf file) ≡ t
+        → false ≡ (t && lengthFits r && lumpsFit r && cellsFit leastCells r && entityFits r && leb (r .globals .count) lent)
+    by true e =
+        let size : r .length ≡ length file = ap (λ (x : FileRecord). x .length) (same-file _ _ e) in
+        rw (lt-leb 60 (r .length) (omega arith))
+    by false e = refl
+
+-- ---- the functions and statements of a file's program are those of its lumps
+
+module _ (file : List ℕ) where
+  pub function-of : (f : ℕ) → getD (recordsIn (readFunction file) 36 (fileOf file .functions)) f noFunction ≡ functionOf (programOf file) f
+  unfolding programAt contentsAt
+  function-of f = refl
+
+  pub count-functions : length (programOf file .functions) ≡ fileOf file .functions .count
+  unfolding programAt contentsAt
+  count-functions = length-records _ _ _ _
+
+  pub statements-of : recordsIn (readStatement file) 8 (fileOf file .statements) ≡ contentsOf file .statements
+  unfolding contentsAt
+  statements-of = refl
+
+-- ---- numbers of functions and strings
+
+-- the bits of a negative number are above every count that fits
+pub negative-above : (value count : ℕ) → count ≤ 2147483648 → negative value ≡ true → ltb value count ≡ false
+negative-above value count h e = let l : 2147483648 ≤ value = leb-true _ _ e in le-ltb value count (omega arith)
+
+module _ {A : Type 0} (id : ℕ → A) (none : A) (same : (i j : ℕ) → id i ≡ id j → i ≡ j) (apart : (i : ℕ) → id i ≡ none → ⊥) (value count : ℕ) where
+  found : (i : ℕ) (t : Bool) → ltb value count ≡ t → id i ≡ cond t (id value) none → (i ≡ value) × (i < count)
+  found i true q e = let h : i ≡ value = same i value e in (h, rw h (ltb-true _ _ q))
+  found i false q e = absurd (apart i e)
+
+  missing : (t : Bool) → ltb value count ≡ t → none ≡ cond t (id value) none → count ≤ value
+  missing true q e = absurd (apart value (sym e))
+  missing false q e = ltb-false _ _ q
+
+no-equation : _≡_ {A = ℕ} 0 1 → ⊥
+no-equation e = omega arith
+
+pub function-found : (value count f : ℕ) → function.Id f ≡ functionId value count → (f ≡ value) × (f < count)
+unfolding functionId
+function-found value count f e = found function.Id function.NoFunction (λ i j h. cc) (λ i h. no-equation (cc)) value count f (ltb value count) refl e
+
+pub function-missing : (value count : ℕ) → function.NoFunction ≡ functionId value count → count ≤ value
+unfolding functionId
+function-missing value count e = missing function.Id function.NoFunction (λ i j h. cc) (λ i h. no-equation (cc)) value count (ltb value count) refl e
+
+pub string-found : (value length s : ℕ) → string.Id s ≡ stringId value length → (s ≡ value) × (s < length)
+unfolding stringId
+string-found value length s e = found string.Id string.NoString (λ i j h. cc) (λ i h. no-equation (cc)) value length s (ltb value length) refl e
+
+pub string-missing : (value length : ℕ) → string.NoString ≡ stringId value length → length ≤ value
+unfolding stringId
+string-missing value length e = missing string.Id string.NoString (λ i j h. cc) (λ i h. no-equation (cc)) value length (ltb value length) refl e
+
+-- ---- the fetch
+
+-- where the first of some conditions holds, and no other refuses
+holding : (b : Bool) (n : ℕ) (cs : Conditions) → judge ((b otherwise suc n) ∷ cs) ≡ 0 → (b ≡ true) × (judge cs ≡ 0)
+unfolding judge
+holding true n cs e = (refl, e)
+holding false n cs e = absurd (omega arith)
+
+-- what it is to fetch the statement st at the index k
+pub record FetchedAt (statements : List Statement) (p : ℤ) (k : ℕ) (st : Statement) : Type 0 where
+  pub position : p ≡ pos k
+  pub there : k < length statements
+  pub statement : statementAt statements p ≡ st
+  pub opcode : st .opcode < 66
+  pub conditions : judge (fetchConditions statements p) ≡ 0
+
+at-place : (n k : ℕ) (p : ℤ) → k ≡ placeOf n p → k < n → p ≡ pos k
+at-place n k (pos i) e h = ap pos (sym e)
+at-place n k (negsuc i) e h = absurd (omega arith)
+
+pub fetch-accepts : (statements : List Statement) (p : ℤ) (k : ℕ) (st : Statement) → At k st ≡ fetched statements p → FetchedAt statements p k st
+unfolding fetched fetchConditions
+fetch-accepts statements p k st e = by (judge (fetchConditions statements p)) refl e
+  where
+    by : (j : ℕ)
+        → judge (fetchConditions statements p) ≡ j
+        → At k st ≡ fetchedOr j (At (placeOf (length statements) p) (statementAt statements p))
+        → FetchedAt statements p k st
+    by zero c f =
+        let same : k ≡ placeOf (length statements) p = cc in
+        let read : st ≡ statementAt statements p = cc in
+        let t = holding _ 13 _ c in
+        let u = holding _ 6 _ (t .1) in
+        let h : k < length statements = rw same (ltb-true _ _ (t .0)) in
+        record {
+          position = at-place (length statements) k p same h;
+          there = h;
+          statement = sym read;
+          opcode = rw read (ltb-true _ _ (u .0));
+          conditions = c;
+        }
+    by (suc j) c f = let z : _≡_ {A = ℕ} 0 1 = cc in absurd (omega arith)
+
+pub fetch-refuses : (statements : List Statement) (p : ℤ) (n : ℕ) → Refused n ≡ fetched statements p → (n ≡ judge (fetchConditions statements p)) × (0 < n)
+unfolding fetched
+fetch-refuses statements p n e = by (judge (fetchConditions statements p)) e
+  where
+    by : (j : ℕ) → Refused n ≡ fetchedOr j (At (placeOf (length statements) p) (statementAt statements p)) → (n ≡ j) × (0 < n)
+    by zero f = let z : _≡_ {A = ℕ} 0 1 = cc in absurd (omega arith)
+    by (suc j) f = let h : n ≡ suc j = cc in (h, omega arith)
+
+-- what the statement at a position does is what the fetched one does
+pub does-fetched : (k : Contents) (p : ℤ) (i : ℕ) (st : Statement) (cells : List ℕ) → At i st ≡ fetched (k .statements) p → execute k p st cells ≡ doesAt k p cells
+unfolding doesAt
+does-fetched k p i st cells e =
+    let f = fetch-accepts _ _ _ _ e in
+    rw (f .conditions, f .statement)
+
+refuses-it : (n : ℕ) (d : Does) → 0 < n → refuses n ≡ orRefused n d
+refuses-it zero d h = absurd (omega arith)
+refuses-it (suc n) d h = refl
+
+pub does-refused : (k : Contents) (p : ℤ) (n : ℕ) (cells : List ℕ) → Refused n ≡ fetched (k .statements) p → refuses n ≡ doesAt k p cells
+unfolding doesAt
+does-refused k p n cells e =
+    let f = fetch-refuses _ _ _ e in
+    rw (← f .0) (refuses-it n _ (f .1))

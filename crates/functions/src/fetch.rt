@@ -52,13 +52,14 @@ pub fn cell_of(x: u16) -> usize
     }
 }
 
-pub fn signed(x: u16) -> i64
-    ensures { λ r. ⌜ r ≡ signed x ⌝ }
+// The signed value of an operand.
+pub fn signed(bits: u16) -> i64
+    ensures { λ r. ⌜ r ≡ signed bits ⌝ }
 {
-    if x < 32768 {
-        x as i64
+    if bits < 32768 {
+        bits as i64
     } else {
-        x as i64 - 65536
+        bits as i64 - 65536
     }
 }
 

@@ -3,10 +3,13 @@ ghost use mathlib.Core.Path.{_≡_};
 ghost use Prim.Native.Nat.{_+_, _≤_};
 ghost use lib.ListN.{length};
 ghost use Rattle.definition.specs.File.{lumpAt, fileOf, lengthFits, lumpFits, lumpsFit, cellsFit, entityFits};
-ghost use Rattle.definition.specs.Load.{sameLump, sameFile};
+ghost use Rattle.definition.specs.Load.{sameLump, sameFile, recordedIn};
 use crate::reads;
 use definition::FileRecord;
 use definition::Lump;
+
+// A file has at least so many cells.
+pub const LEAST_CELLS: usize = 36;
 
 fn lump_at(file: &[u8], at: usize) -> Lump
     requires { ⌜ at + 8 ≤ length (now file) ⌝ }
@@ -103,4 +106,20 @@ pub fn same_file(a: FileRecord, b: FileRecord) -> bool
         & same_lump(a.strings, b.strings)
         & same_lump(a.globals, b.globals)
         & (a.entityfields == b.entityfields)
+}
+
+// The first of 13's conditions. A state can record no file that is too short for a header.
+pub fn recorded_in(file: &[u8], r: FileRecord, lent: usize) -> bool
+    ensures { λ b. ⌜ b ≡ recordedIn (now (file .entry)) r lent ⌝ }
+{
+    if file.len() < 60 {
+        return false;
+    }
+    let globals = r.globals;
+    same_file(r, file_of(file))
+        & length_fits(r)
+        & lumps_fit(r)
+        & cells_fit(LEAST_CELLS, r)
+        & entity_fits(r)
+        & (globals.count <= lent)
 }

@@ -10,9 +10,9 @@ use Rattle.definition.specs.declared.Handover.{Handover}
 use Rattle.definition.specs.Checks.{Condition, Conditions, judge, Checked, refused, accepted, decided, guard}
 use Rattle.definition.specs.File.{contentsOf}
 use Rattle.definition.specs.Statements.{Does, next, calls, returns, refuses, handsOver}
-use Rattle.definition.specs.Machine.{Program, Config, advanced, entryConditions, entered, returnConditions, returned, Stepped, completed, refusedStep, handedStep, asStep, stepAs, step}
+use Rattle.definition.specs.Machine.{Program, Config, advanced, entryConditions, entered, returnConditions, returned, Stepped, completed, refusedStep, handedStep, asStep, stepAs, step, Ran, runAs, runFor}
 use Rattle.definition.specs.Load.{programOf}
-use Rattle.definition.specs.Operations.{hostEnter, statement, run, carryOn, abandon, rawRead, rawWrite}
+use Rattle.definition.specs.Operations.{natural, hostEnter, statement, runConditions, runAfter, run, carryOn, abandon, rawRead, rawWrite}
 use Rattle.definition.specs.Answers.{statementOutcome}
 use Rattle.definition.specs.Calls.{Call, enters, steps, runs, carries, abandons, reads, writes, after}
 use Rattle.definition.specs.Returns.{Kind, entry, leaving, other, statementKind}
@@ -48,22 +48,37 @@ completed-is file c c′ e =
 
 -- ---- what calls leave
 
--- a call is refused, or a statement is handed over
+-- a call is refused; of a run: it completes nothing
 abbrev pub NotDone : Program → Call → Config → Type 0
 NotDone P (enters f) c = (n : ℕ) × (hostEnter P f c ≡ refused n)
 NotDone P steps c = (n : ℕ) × (statement P c ≡ refusedStep n)
-NotDone P (runs target limit) c = run P target limit c .config ≡ c
+NotDone P (runs target limit) c = run P target limit c .count ≡ 0
 NotDone P carries c = (n : ℕ) × (carryOn P c ≡ refused n)
 NotDone P (abandons target) c = (n : ℕ) × (abandon P target c ≡ refused n)
 NotDone P (reads a) c = Unit {0}
 NotDone P (writes a v) c = (n : ℕ) × (rawWrite P a v c ≡ refused n)
 
--- a refusal leaves state, cells and saved store; of a run, those after its last completed statement (run-exactly, and the claim of demand 3)
+-- a run that completed no statement changed nothing
+nothing-step : (s : Stepped) (target : ℕ) (c : Config) (rest : Config → Ran) → runAs s target c rest .count ≡ 0 → runAs s target c rest .config ≡ c
+nothing-step (completed c′) target c rest e = absurd (omega arith)
+nothing-step (refusedStep n) target c rest e = refl
+nothing-step (handedStep h) target c rest e = refl
+
+nothing-run : (P : Program) (n target : ℕ) (c : Config) → runFor P n target c .count ≡ 0 → runFor P n target c .config ≡ c
+unfolding runFor
+nothing-run P zero target c e = refl
+nothing-run P (suc n) target c e = nothing-step (step P c) target c (λ c′. runFor P n target c′) e
+
+nothing-after : (m : ℕ) (P : Program) (target limit : ℕ) (c : Config) → runAfter m P target limit c .count ≡ 0 → runAfter m P target limit c .config ≡ c
+nothing-after zero P target limit c e = nothing-run P limit target c e
+nothing-after (suc m) P target limit c e = refl
+
+-- a refusal leaves state, cells and saved store; of a run, those after its last completed statement, which the claim of demand 3 walks to
 pub refusal-leaves : (P : Program) (k : Call) (c : Config) → NotDone P k c → after P k c ≡ c
-unfolding after
+unfolding after run
 refusal-leaves P (enters f) c (n, e) = rw e
 refusal-leaves P steps c (n, e) = ap (λ (s : Stepped). statementOutcome c s .config) e
-refusal-leaves P (runs target limit) c e = e
+refusal-leaves P (runs target limit) c e = nothing-after (judge (runConditions P target limit c)) P (natural target) (natural limit) c e
 refusal-leaves P carries c (n, e) = rw e
 refusal-leaves P (abandons target) c (n, e) = rw e
 refusal-leaves P (reads a) c u = refl

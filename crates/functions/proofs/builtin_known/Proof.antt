@@ -2,29 +2,19 @@ use Rattle.functions.proofs.Tests.{builtin-known, statement-known}
 use borrow.Author.Needs.{needs}
 use Rattle.functions.proofs.builtin_known.Statement.{statement}
 use Rattle.functions.proofs.builtin_known.Tie as tie
-use Rattle.functions.proofs.builtin_known.Reads as reads
-use Rattle.functions.proofs.builtin_known.Lts as lts
-use Rattle.functions.proofs.builtin_number.Reads as builtin-number-reads
-use Rattle.functions.proofs.builtin_of.Reads as builtin-of-reads
-use Rattle.functions.proofs.is_builtin.Reads as is-builtin-reads
 
--- src/lib.rt:82:8
 is-builtin-requires : tie.Need-is-builtin-requires
 is-builtin-requires c κs = search needs
 
--- src/lib.rt:83:24
 builtin-of-requires : tie.Need-builtin-of-requires
 builtin-of-requires c κs = cc
 
--- src/lib.rt:83:9
 builtin-number-requires : tie.Need-builtin-number-requires
 builtin-number-requires c κs = search needs
 
--- src/lib.rt:79:1
 returns : tie.Need-returns
 returns c = builtin-known (c .before .before .before .before .args .def) _ (cc) (cc)
 
--- src/lib.rt:79:1
 returns-2 : tie.Need-returns-2
 returns-2 c = statement-known (c .before .before .args .def) (cc)
 

@@ -2,43 +2,31 @@ use Rattle.definition.specs.File.{builtinNumber}
 use borrow.Author.Needs.{needs}
 use Rattle.functions.proofs.builtin_number.Statement.{statement}
 use Rattle.functions.proofs.builtin_number.Tie as tie
-use Rattle.functions.proofs.builtin_number.Reads as reads
-use Rattle.functions.proofs.builtin_number.Lts as lts
-use Rattle.functions.proofs.between.Reads as between-reads
 
--- src/lib.rt:54:5
 between-requires : tie.Need-between-requires
 between-requires c κs = search needs
 
--- src/lib.rt:55:11
 between-requires-2 : tie.Need-between-requires-2
 between-requires-2 c κs = search needs
 
--- src/lib.rt:56:11
 between-requires-3 : tie.Need-between-requires-3
 between-requires-3 c κs = search needs
 
--- src/lib.rt:57:11
 between-requires-4 : tie.Need-between-requires-4
 between-requires-4 c κs = search needs
 
--- src/lib.rt:58:11
 between-requires-5 : tie.Need-between-requires-5
 between-requires-5 c κs = search needs
 
--- src/lib.rt:59:11
 between-requires-6 : tie.Need-between-requires-6
 between-requires-6 c κs = search needs
 
--- src/lib.rt:60:11
 between-requires-7 : tie.Need-between-requires-7
 between-requires-7 c κs = search needs
 
--- src/lib.rt:61:11
 between-requires-8 : tie.Need-between-requires-8
 between-requires-8 c κs = search needs
 
--- src/lib.rt:51:1
 returns : tie.Need-returns
 unfolding builtinNumber
 returns c = cc

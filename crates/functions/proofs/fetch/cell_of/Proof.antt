@@ -3,19 +3,14 @@ use Rattle.definition.specs.Cells.{cellOf}
 use borrow.Author.Needs.{needs}
 use Rattle.functions.proofs.fetch.cell_of.Statement.{statement}
 use Rattle.functions.proofs.fetch.cell_of.Tie as tie
-use Rattle.functions.proofs.fetch.cell_of.Reads as reads
-use Rattle.functions.proofs.fetch.cell_of.Lts as lts
 
--- src/fetch.rt:46:9
 add-result : tie.Need-add-result
 add-result c = search needs
 
--- src/fetch.rt:40:1
 returns : tie.Need-returns
 unfolding cellOf
 returns c = simp (lt-ltb _ _ (c .if1 .taken))
 
--- src/fetch.rt:40:1
 returns-2 : tie.Need-returns-2
 unfolding cellOf
 returns-2 c = simp (le-ltb _ _ (c .if1 .left))

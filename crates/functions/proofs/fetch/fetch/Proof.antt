@@ -9,11 +9,6 @@ use Rattle.functions.specs.Laws.{lump-at}
 use Rattle.functions.proofs.Fetching.{none-there, bad-opcode, fetched-at}
 use Rattle.functions.proofs.fetch.fetch.Statement.{statement}
 use Rattle.functions.proofs.fetch.fetch.Tie as tie
-use Rattle.functions.proofs.fetch.fetch.Reads as reads
-use Rattle.functions.proofs.fetch.fetch.Lts as lts
-use Rattle.functions.proofs.fetch.place_of.Reads as place-of-reads
-use Rattle.functions.proofs.ops.is_opcode.Reads as is-opcode-reads
-use Rattle.functions.proofs.reads.read_statement.Reads as read-statement-reads
 
 place-of-requires : tie.Need-place-of-requires
 place-of-requires c κs = search needs

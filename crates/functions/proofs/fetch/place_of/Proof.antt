@@ -2,18 +2,13 @@ use mir.Facts.{toZ-ofZ}
 use Rattle.functions.proofs.Signs.{cast-ok, no-place, place}
 use Rattle.functions.proofs.fetch.place_of.Statement.{statement}
 use Rattle.functions.proofs.fetch.place_of.Tie as tie
-use Rattle.functions.proofs.fetch.place_of.Reads as reads
-use Rattle.functions.proofs.fetch.place_of.Lts as lts
 
--- src/fetch.rt:25:27
 cast-result : tie.Need-cast-result
 cast-result c = let e = toZ-ofZ (c .before .fits .p) in rw e (cast-ok _ (c .before .fits .p) (rw e at (c .if1 .left)))
 
--- src/fetch.rt:22:1
 returns : tie.Need-returns
 returns c = no-place _ (c .before .args .p) (rw (toZ-ofZ (c .before .fits .p)) at (c .if1 .taken))
 
--- src/fetch.rt:22:1
 returns-2 : tie.Need-returns-2
 returns-2 c = let e = toZ-ofZ (c .before .fits .p) in rw e (place _ (c .before .args .p) (rw e at (c .if1 .left)))
 

@@ -3,26 +3,19 @@ use native.Mathlib.Omega.{arith}
 use borrow.Author.Tests.{le-leb, lt-leb}
 use Rattle.functions.proofs.header.lump_fits.Statement.{statement}
 use Rattle.functions.proofs.header.lump_fits.Tie as tie
-use Rattle.functions.proofs.header.lump_fits.Reads as reads
-use Rattle.functions.proofs.header.lump_fits.Lts as lts
 
--- src/header.rt:56:9
 returns : tie.Need-returns
 returns c = simp (le-leb _ _ (c .if1 .taken))
 
--- src/header.rt:59:9
 returns-2 : tie.Need-returns-2
 returns-2 c = simp (lt-leb _ _ (c .before .before .if1 .left), le-leb _ _ (c .if2 .taken))
 
--- src/header.rt:61:40
 mul-result : tie.Need-mul-result
 mul-result c = record { fits = omega (arith, short-product _ _ (c .before .before .before .before .before .before .pre) (c .before .before .if2 .left)) }
 
--- src/header.rt:61:26
 add-result : tie.Need-add-result
 add-result c = record { fits = omega (arith, short-product _ _ (c .before .before .before .before .before .before .before .pre) (c .before .before .before .if2 .left)) }
 
--- src/header.rt:51:1
 returns-3 : tie.Need-returns-3
 returns-3 c = simp (lt-leb _ _ (c .before .before .before .before .before .if1 .left), lt-leb _ _ (c .before .before .before .if2 .left))
 

@@ -2,35 +2,25 @@ use Rattle.definition.specs.File.{lumpsFit}
 use borrow.Author.Needs.{needs}
 use Rattle.functions.proofs.header.lumps_fit.Statement.{statement}
 use Rattle.functions.proofs.header.lumps_fit.Tie as tie
-use Rattle.functions.proofs.header.lumps_fit.Reads as reads
-use Rattle.functions.proofs.header.lumps_fit.Lts as lts
-use Rattle.functions.proofs.header.lump_fits.Reads as lump-fits-reads
 
--- src/header.rt:68:5
 lump-fits-requires : tie.Need-lump-fits-requires
 lump-fits-requires c κs = search needs
 
--- src/header.rt:69:11
 lump-fits-requires-2 : tie.Need-lump-fits-requires-2
 lump-fits-requires-2 c κs = search needs
 
--- src/header.rt:70:11
 lump-fits-requires-3 : tie.Need-lump-fits-requires-3
 lump-fits-requires-3 c κs = search needs
 
--- src/header.rt:71:11
 lump-fits-requires-4 : tie.Need-lump-fits-requires-4
 lump-fits-requires-4 c κs = search needs
 
--- src/header.rt:72:11
 lump-fits-requires-5 : tie.Need-lump-fits-requires-5
 lump-fits-requires-5 c κs = search needs
 
--- src/header.rt:73:11
 lump-fits-requires-6 : tie.Need-lump-fits-requires-6
 lump-fits-requires-6 c κs = search needs
 
--- src/header.rt:64:1
 returns : tie.Need-returns
 unfolding lumpsFit
 returns c = cc

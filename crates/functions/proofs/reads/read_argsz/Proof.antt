@@ -3,70 +3,52 @@ use Rattle.definition.specs.File.{byteAt, records}
 use borrow.Author.Needs.{needs}
 use Rattle.functions.proofs.reads.read_argsz.Statement.{statement}
 use Rattle.functions.proofs.reads.read_argsz.Tie as tie
-use Rattle.functions.proofs.reads.read_argsz.Reads as reads
-use Rattle.functions.proofs.reads.read_argsz.Lts as lts
 
--- src/reads.rt:67:9
 shared-slice-read-t4 : tie.Need-shared-slice-read-t4
 shared-slice-read-t4 c = search needs
 
--- src/reads.rt:68:14
 add-t5 : tie.Need-add-t5
 add-t5 c = search needs
 
--- src/reads.rt:68:9
 shared-slice-read-t7 : tie.Need-shared-slice-read-t7
 shared-slice-read-t7 c = search needs
 
--- src/reads.rt:69:14
 add-t8 : tie.Need-add-t8
 add-t8 c = search needs
 
--- src/reads.rt:69:9
 shared-slice-read-t10 : tie.Need-shared-slice-read-t10
 shared-slice-read-t10 c = search needs
 
--- src/reads.rt:70:14
 add-t11 : tie.Need-add-t11
 add-t11 c = search needs
 
--- src/reads.rt:70:9
 shared-slice-read-t13 : tie.Need-shared-slice-read-t13
 shared-slice-read-t13 c = search needs
 
--- src/reads.rt:71:14
 add-t14 : tie.Need-add-t14
 add-t14 c = search needs
 
--- src/reads.rt:71:9
 shared-slice-read-t16 : tie.Need-shared-slice-read-t16
 shared-slice-read-t16 c = search needs
 
--- src/reads.rt:72:14
 add-t17 : tie.Need-add-t17
 add-t17 c = search needs
 
--- src/reads.rt:72:9
 shared-slice-read-t19 : tie.Need-shared-slice-read-t19
 shared-slice-read-t19 c = search needs
 
--- src/reads.rt:73:14
 add-t20 : tie.Need-add-t20
 add-t20 c = search needs
 
--- src/reads.rt:73:9
 shared-slice-read-t22 : tie.Need-shared-slice-read-t22
 shared-slice-read-t22 c = search needs
 
--- src/reads.rt:74:14
 add-t23 : tie.Need-add-t23
 add-t23 c = search needs
 
--- src/reads.rt:74:9
 shared-slice-read-t25 : tie.Need-shared-slice-read-t25
 shared-slice-read-t25 c = search needs
 
--- src/reads.rt:62:1
 returns : tie.Need-returns
 unfolding records byteAt
 returns c = simp add-assoc

@@ -1,64 +1,46 @@
 use borrow.Author.Needs.{needs}
 use Rattle.functions.proofs.reads.read_function.Statement.{statement}
 use Rattle.functions.proofs.reads.read_function.Tie as tie
-use Rattle.functions.proofs.reads.read_function.Reads as reads
-use Rattle.functions.proofs.reads.read_function.Lts as lts
-use Rattle.functions.proofs.reads.read_argsz.Reads as read-argsz-reads
-use Rattle.functions.proofs.reads.u32_at.Reads as u32-at-reads
 
--- src/reads.rt:83:34
 add-read-argsz : tie.Need-add-read-argsz
 add-read-argsz c = search needs
 
--- src/reads.rt:83:9
 read-argsz-requires : tie.Need-read-argsz-requires
 read-argsz-requires c κs = search needs
 
--- src/reads.rt:85:16
 u32-at-requires : tie.Need-u32-at-requires
 u32-at-requires c κs = search needs
 
--- src/reads.rt:86:29
 add-u32-at : tie.Need-add-u32-at
 add-u32-at c = search needs
 
--- src/reads.rt:86:16
 u32-at-requires-2 : tie.Need-u32-at-requires-2
 u32-at-requires-2 c κs = search needs
 
--- src/reads.rt:87:30
 add-u32-at-2 : tie.Need-add-u32-at-2
 add-u32-at-2 c = search needs
 
--- src/reads.rt:87:17
 u32-at-requires-3 : tie.Need-u32-at-requires-3
 u32-at-requires-3 c κs = search needs
 
--- src/reads.rt:88:28
 add-u32-at-3 : tie.Need-add-u32-at-3
 add-u32-at-3 c = search needs
 
--- src/reads.rt:88:15
 u32-at-requires-4 : tie.Need-u32-at-requires-4
 u32-at-requires-4 c κs = search needs
 
--- src/reads.rt:89:31
 add-u32-at-4 : tie.Need-add-u32-at-4
 add-u32-at-4 c = search needs
 
--- src/reads.rt:89:18
 u32-at-requires-5 : tie.Need-u32-at-requires-5
 u32-at-requires-5 c κs = search needs
 
--- src/reads.rt:90:28
 add-u32-at-5 : tie.Need-add-u32-at-5
 add-u32-at-5 c = search needs
 
--- src/reads.rt:90:15
 u32-at-requires-6 : tie.Need-u32-at-requires-6
 u32-at-requires-6 c κs = search needs
 
--- src/reads.rt:79:1
 returns : tie.Need-returns
 returns c = cc
 

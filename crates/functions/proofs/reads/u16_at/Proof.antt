@@ -2,39 +2,28 @@ use Rattle.definition.specs.File.{byteAt, u16At}
 use borrow.Author.Needs.{needs}
 use Rattle.functions.proofs.reads.u16_at.Statement.{statement}
 use Rattle.functions.proofs.reads.u16_at.Tie as tie
-use Rattle.functions.proofs.reads.u16_at.Reads as reads
-use Rattle.functions.proofs.reads.u16_at.Lts as lts
-use Rattle.functions.proofs.reads.wide16.Reads as wide16-reads
 
--- src/reads.rt:27:12
 shared-slice-read-wide16 : tie.Need-shared-slice-read-wide16
 shared-slice-read-wide16 c = search needs
 
--- src/reads.rt:27:5
 wide16-requires : tie.Need-wide16-requires
 wide16-requires c κs = search needs
 
--- src/reads.rt:27:42
 add-wide16 : tie.Need-add-wide16
 add-wide16 c = search needs
 
--- src/reads.rt:27:37
 shared-slice-read-wide16-2 : tie.Need-shared-slice-read-wide16-2
 shared-slice-read-wide16-2 c = search needs
 
--- src/reads.rt:27:30
 wide16-requires-2 : tie.Need-wide16-requires-2
 wide16-requires-2 c κs = search needs
 
--- src/reads.rt:27:24
 mul-result : tie.Need-mul-result
 mul-result c = search needs
 
--- src/reads.rt:27:5
 add-result : tie.Need-add-result
 add-result c = search needs
 
--- src/reads.rt:23:1
 returns : tie.Need-returns
 unfolding byteAt u16At
 returns c = search needs

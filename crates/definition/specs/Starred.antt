@@ -1,0 +1,355 @@
+-- THE STARRED SITUATIONS of document 01, as rows of one table that is computed from the definition, with some of its other sentences. Each row starts
+-- from the bytes of a file, and goes on by the operations that a host calls, with check 13 in each.
+use Prim.Native.Nat.{ℕ, zero, suc, _+_, _*_, _/_, _%_}
+use Prim.Native.String.{String}
+use mathlib.Core.List.{List, [], _∷_, _++_}
+use mathlib.Core.Bool.{Bool, true, false, _&&_}
+use lib.IntN.{ℤ, pos, negsuc}
+use lib.ListN.{length, getD, set, take, drop, replicate}
+use lib.Dec.{T, eqb}
+use lib.Ieee as Ieee
+use Rattle.definition.specs.declared.Statement.{Statement}
+use Rattle.definition.specs.declared.Definition.{Definition}
+use Rattle.definition.specs.declared.FunctionDef.{FunctionDef}
+use Rattle.definition.specs.Checks.{judge, Checked, refused, accepted, guard}
+use Rattle.definition.specs.File.{byteAt, u16At, u32At, fileOf, lumpsFit, records, Contents, contentsAt, builtinNumber}
+use Rattle.definition.specs.Cells.{float, entity, lookup, scalar, passes, signed, cellOf, cellAccess, vectorAccess, access, readAccess}
+use Rattle.definition.specs.Statements.{shapeOf, floatsEffect, vectorResult, vectorsEffect, dotsEffect, negatesVEffect, storesEffect, storesVEffect, branchesDo}
+use Rattle.definition.specs.Statements.{fetchConditions, execute, doesAt}
+use Rattle.definition.specs.Machine.{Program, Config, limits, zeroFrame, present, copied, successive, arguments, copiesPresent}
+use Rattle.definition.specs.Machine.{entryConditions, entered, leaveConditions, left, Stepped, completed, refusedStep, handedStep, stepAs, step, runFor}
+use Rattle.definition.specs.Load.{each, headerConditions, recordConditions, cellConditions, loaded, load, sameFile, recordedIn, programAt, programOf}
+use Rattle.definition.specs.Operations.{frameFunctions, enteredFunctions, allPresent, localsOf, sound}
+use Rattle.definition.specs.Operations.{hostEnter, statement, runConditions, run, rawRead, rawWrite}
+use Rattle.definition.specs.Answers.{outcome, refusalNumber, outcomeWord, outcomeDetail, letters}
+
+-- ---- an assembler: the bytes of a file with these contents
+
+abbrev u16 : ℕ → List ℕ
+u16 x = x % 256 ∷ x / 256 % 256 ∷ []
+
+abbrev u32 : ℕ → List ℕ
+u32 x = u16 (x % 65536) ++ u16 (x / 65536)
+
+abbrev bytes : {A : Type 0} → (A → List ℕ) → List A → List ℕ
+bytes write [] = []
+bytes write (x ∷ xs) = write x ++ bytes write xs
+
+abbrev statementBytes : Statement → List ℕ
+statementBytes st = bytes u16 (st .opcode ∷ st .arg1 ∷ st .arg2 ∷ st .arg3 ∷ [])
+
+abbrev definitionBytes : Definition → List ℕ
+definitionBytes d = bytes u16 (d .kind ∷ d .offset ∷ []) ++ u32 (d .name)
+
+-- with the profile number 0
+abbrev functionBytes : FunctionDef → List ℕ
+functionBytes d = bytes u32 (d .first ∷ d .start ∷ d .locals ∷ 0 ∷ d .name ∷ d .srcfile ∷ d .argc ∷ []) ++ d .argsz
+
+-- the lumps one behind the other, the cells first: to read a byte costs by its place
+abbrev assembled : Contents → List ℕ
+assembled k =
+    let cells : ℕ = 60 in
+    let statements = cells + 4 * length (k .globals) in
+    let globaldefs = statements + 8 * length (k .statements) in
+    let fielddefs = globaldefs + 8 * length (k .globaldefs) in
+    let functions = fielddefs + 8 * length (k .fielddefs) in
+    let strings = functions + 36 * length (k .functions) in
+    bytes u32 (6 ∷ 5927 ∷ [])
+    ++ bytes u32 (statements ∷ length (k .statements) ∷ globaldefs ∷ length (k .globaldefs) ∷ fielddefs ∷ length (k .fielddefs) ∷ [])
+    ++ bytes u32 (functions ∷ length (k .functions) ∷ strings ∷ length (k .strings) ∷ cells ∷ length (k .globals) ∷ k .entityfields ∷ [])
+    ++ bytes u32 (k .globals)
+    ++ bytes statementBytes (k .statements)
+    ++ bytes definitionBytes (k .globaldefs)
+    ++ bytes definitionBytes (k .fielddefs)
+    ++ bytes functionBytes (k .functions)
+    ++ k .strings
+
+-- ---- contents
+
+abbrev op : ℕ → ℕ → ℕ → ℕ → Statement
+op opcode a b c = record { opcode = opcode; arg1 = a; arg2 = b; arg3 = c }
+
+abbrev mulV : ℕ → ℕ → ℕ → Statement
+mulV = op 2
+
+abbrev div : ℕ → ℕ → ℕ → Statement
+div = op 5
+
+abbrev addF : ℕ → ℕ → ℕ → Statement
+addF = op 6
+
+abbrev addV : ℕ → ℕ → ℕ → Statement
+addV = op 7
+
+abbrev storeF : ℕ → ℕ → ℕ → Statement
+storeF = op 31
+
+abbrev storeV : ℕ → ℕ → ℕ → Statement
+storeV = op 32
+
+abbrev return : ℕ → ℕ → ℕ → Statement
+return = op 43
+
+abbrev notV : ℕ → ℕ → ℕ → Statement
+notV = op 45
+
+abbrev if : ℕ → ℕ → ℕ → Statement
+if = op 49
+
+abbrev bitAnd : ℕ → ℕ → ℕ → Statement
+bitAnd = op 64
+
+abbrev bitOr : ℕ → ℕ → ℕ → Statement
+bitOr = op 65
+
+-- first statement, first local cell, local count, argument count, argument sizes
+abbrev fn : ℕ → ℕ → ℕ → ℕ → List ℕ → FunctionDef
+fn first start locals argc sizes =
+    record { first = first; start = start; locals = locals; name = 0; srcfile = 0; argc = argc; argsz = take 8 (sizes ++ replicate 8 0) }
+
+abbrev define : ℕ → ℕ → Definition
+define kind cell = record { kind = kind; offset = cell; name = 0 }
+
+-- from statement 1 and function 1 on; statement 0 is Done 0 0 0, function 0 is all 0
+abbrev typedProgram : List Definition → List Statement → List FunctionDef → List ℕ → Contents
+typedProgram definitions statements functions cells =
+    record {
+      statements = op 0 0 0 0 ∷ statements;
+      globaldefs = definitions;
+      fielddefs = [];
+      functions = fn 0 0 0 0 [] ∷ functions;
+      strings = 0 ∷ [];
+      globals = cells;
+      entityfields = 105;
+    }
+
+abbrev program : List Statement → List FunctionDef → List ℕ → Contents
+program = typedProgram []
+
+abbrev numbers : ℕ → ℕ → List ℕ
+numbers zero a = []
+numbers (suc n) a = a ∷ numbers n (a + 1)
+
+-- 64 cells, each with its own number in it
+abbrev numbered : List ℕ
+numbered = numbers 64 0
+
+-- the numbered cells, but these from cell a on
+abbrev cellsWith : ℕ → List ℕ → List ℕ
+cellsWith a [] = numbered
+cellsWith a (x ∷ xs) = set (cellsWith (a + 1) xs) a x
+
+-- ---- what is seen: numbers, or the number of the refusal at which it ends
+
+abbrev Seen : Type 0
+Seen = Checked (List ℕ)
+
+abbrev andThen : {A B : Type 0} → Checked A → (A → Checked B) → Checked B
+andThen (refused n) rest = refused n
+andThen (accepted a) rest = rest a
+
+abbrev also : List ℕ → Seen → Seen
+also xs seen = andThen seen (λ ys. accepted (xs ++ ys))
+
+-- a negative position is seen as no number
+abbrev position : ℤ → List ℕ
+position (pos n) = n ∷ []
+position (negsuc n) = []
+
+-- ---- scenarios: what is seen from a configuration on
+
+abbrev Scenario : Type 0
+Scenario = Program → Config → Seen
+
+infixr 5 _and_
+abbrev _and_ : Scenario → Scenario → Scenario
+_and_ first second P c = andThen (first P c) (λ xs. also xs (second P c))
+
+-- position, function, depth, saved
+abbrev state : Scenario
+state P c = accepted (position (c .state .pc) ++ (c .state .function ∷ c .state .depth ∷ c .state .saved ∷ []))
+
+-- the function and the position of a frame
+abbrev frame : ℕ → Scenario
+frame i P c = let f = getD (c .state .frames) i zeroFrame in accepted (f .«func_id» ∷ position (f .«instr_id»))
+
+-- the lent cells from a on, those past the file's count too
+abbrev lent : ℕ → Scenario
+lent a P c = accepted (drop a (c .cells))
+
+-- the first n cells of the saved store
+abbrev store : ℕ → Scenario
+store n P c = accepted (take n (c .saved))
+
+-- n cells from a on
+abbrev cells : ℕ → ℕ → Scenario
+cells zero a P c = accepted []
+cells (suc n) a P c = andThen (rawRead P (pos a) c) (λ x. also (x ∷ []) (cells n (a + 1) P c))
+
+abbrev write : ℕ → ℕ → Scenario → Scenario
+write a x rest P c = andThen (rawWrite P (pos a) x c) (rest P)
+
+abbrev enter : ℕ → Scenario → Scenario
+enter f rest P c = andThen (hostEnter P (pos f) c) (rest P)
+
+abbrev enterTimes : ℕ → ℕ → Scenario → Scenario
+enterTimes zero f rest = rest
+enterTimes (suc n) f rest = enter f (enterTimes n f rest)
+
+-- an entry that may be refused: its number, 0 where there is none, and what is seen after it
+abbrev tryToEnter : ℕ → Scenario → Scenario
+tryToEnter f rest P c =
+    let o = outcome c (hostEnter P (pos f) c) in
+    also (refusalNumber (o .answer) ∷ []) (rest P (o .config))
+
+-- nothing here is handed over, and 0 is no refusal's number
+abbrev completion : Stepped → Checked Config
+completion (completed c) = accepted c
+completion (refusedStep n) = refused n
+completion (handedStep h) = refused 0
+
+abbrev complete : Scenario → Scenario
+complete rest P c = andThen (completion (statement P c)) (rest P)
+
+-- a run to depth 0 with limit 99,999: the letters of the outcome, the detail, the statements, and what is seen after it
+abbrev runToEnd : Scenario → Scenario
+runToEnd rest P c =
+    let r = run P (pos 0) (pos 99999) c in
+    also (letters (outcomeWord (r .answer)) ++ (outcomeDetail (r .answer) ∷ r .count ∷ [])) (rest P (r .config))
+
+-- a load of the file with these contents, which is lent two cells more than it has, and what is seen after it
+abbrev from : Contents → Scenario → Seen
+from k scenario =
+    let file = assembled k in
+    let P = programOf file in
+    andThen (load file (replicate (length (k .globals) + 2) 0xffffffff) (replicate 2048 0)) (scenario P)
+
+-- ---- what several rows share
+
+-- a function with no locals and no arguments, at statement 1
+abbrev plain : FunctionDef
+plain = fn 1 0 0 0 []
+
+-- statement 1, in function 1, with these cells from 28 on
+abbrev after : Statement → List ℕ → Scenario → Seen
+after st xs rest = from (program (st ∷ []) (plain ∷ []) (cellsWith 28 xs)) (enter 1 (complete rest))
+
+-- function 1 alone
+abbrev entering : FunctionDef → Scenario → Seen
+entering d rest = from (program [] (d ∷ []) numbered) (enter 1 rest)
+
+-- n entries of a function with one local
+abbrev atDepth : ℕ → Scenario → Seen
+atDepth n rest = from (program [] (fn 1 30 1 0 [] ∷ []) numbered) (enterTimes n 1 rest)
+
+-- 20 entries of a function with 100 locals; functions 2 and 3 have 48 and 49
+abbrev saved2000 : Scenario → Seen
+saved2000 rest = from (program [] (fn 1 0 100 0 [] ∷ fn 1 0 48 0 [] ∷ fn 1 0 49 0 [] ∷ []) (numbers 100 0)) (enterTimes 20 1 rest)
+
+-- a float read of cell 28, with these definitions
+abbrev reading : List Definition → Seen
+reading definitions = from (typedProgram definitions (storeF 28 30 0 ∷ []) (plain ∷ []) numbered) (enter 1 (complete (cells 1 30)))
+
+-- "64 cells, cell 28 3fc00000, 29 40100000, others 0": the file that the show program's line is given for
+abbrev show : Scenario → Seen
+show = from (program (addF 28 29 30 ∷ return 30 0 0 ∷ []) (fn 1 30 1 0 [] ∷ []) (set (set (replicate 64 0) 28 0x3fc00000) 29 0x40100000))
+
+-- ---- the table
+
+-- words of the paper, what the definition gives, what the paper says
+pub data Row : Type 0 where
+  row : String → Seen → Seen → Row
+
+abbrev sameNumbers : List ℕ → List ℕ → Bool
+sameNumbers [] [] = true
+sameNumbers [] (y ∷ ys) = false
+sameNumbers (x ∷ xs) [] = false
+sameNumbers (x ∷ xs) (y ∷ ys) = eqb x y && sameNumbers xs ys
+
+abbrev same : Seen → Seen → Bool
+same (refused m) (refused n) = eqb m n
+same (refused m) (accepted ys) = false
+same (accepted xs) (refused n) = false
+same (accepted xs) (accepted ys) = sameNumbers xs ys
+
+abbrev pub all : List Row → Bool
+all [] = true
+all (row words gives says ∷ rows) = same gives says && all rows
+
+abbrev pub rows : List Row
+rows =
+    -- the starred situations
+    row "BitAnd 2147483648.0, 1.0: 1.0" (after (bitAnd 28 29 30) (0x4f000000 ∷ 0x3f800000 ∷ []) (cells 1 30)) (accepted (0x3f800000 ∷ []))
+    ∷ row "BitOr 16777216.0, 1.0: 16777216.0" (after (bitOr 28 29 30) (0x4b800000 ∷ 0x3f800000 ∷ []) (cells 1 30)) (accepted (0x4b800000 ∷ []))
+    ∷ row "BitOr -1.5, 0.0: -1.0" (after (bitOr 28 29 30) (0xbfc00000 ∷ 0 ∷ []) (cells 1 30)) (accepted (0xbf800000 ∷ []))
+    ∷ row "MulV of three -0 and three 1.0: +0"
+    (after (mulV 28 31 34) (0x80000000 ∷ 0x80000000 ∷ 0x80000000 ∷ 0x3f800000 ∷ 0x3f800000 ∷ 0x3f800000 ∷ []) (cells 1 34)) (accepted (0 ∷ []))
+    ∷ row "1.0/0.0: 7f800000" (after (div 28 29 30) (0x3f800000 ∷ 0 ∷ []) (cells 1 30)) (accepted (0x7f800000 ∷ []))
+    ∷ row "0.0/0.0: 7fc00000" (after (div 28 29 30) (0 ∷ 0 ∷ []) (cells 1 30)) (accepted (0x7fc00000 ∷ []))
+    ∷ row "If on NaN jumps" (after (if 28 5 0) (0x7fc00000 ∷ []) (state and cells 1 28)) (accepted (6 ∷ 1 ∷ 1 ∷ 0 ∷ 0x7fc00000 ∷ []))
+    ∷ row "on -0 it doesn't" (after (if 28 5 0) (0x80000000 ∷ []) (state and cells 1 28)) (accepted (2 ∷ 1 ∷ 1 ∷ 0 ∷ 0x80000000 ∷ []))
+    ∷ row "Return 0: cells 1, 2, 3 become cell 0"
+    (from (program (return 0 0 0 ∷ []) (plain ∷ []) (numbers 64 100)) (enter 1 (complete (cells 4 0)))) (accepted (100 ∷ 100 ∷ 100 ∷ 100 ∷ []))
+    ∷ row "64 cells: 63 is read" (from (program [] [] numbered) (cells 1 63)) (accepted (63 ∷ []))
+    ∷ row "64 refused 15" (from (program [] [] numbered) (cells 1 64)) (refused 15)
+    ∷ row "Entry at depth 30 accepted" (atDepth 30 (enter 1 state)) (accepted (1 ∷ 1 ∷ 31 ∷ 31 ∷ []))
+    ∷ row "at 31 refused 22" (atDepth 31 (enter 1 state)) (refused 22)
+    ∷ row "2,000 saved: 48 locals accepted" (saved2000 (enter 2 state)) (accepted (1 ∷ 2 ∷ 21 ∷ 2048 ∷ []))
+    ∷ row "49 refused 23" (saved2000 (enter 3 state)) (refused 23)
+    ∷ row "Sizes 1 and 3, first local 40: cell 40 from 4; 41, 42, 43 from 7, 8, 9"
+    (entering (fn 1 40 4 2 (1 ∷ 3 ∷ [])) (cells 4 40)) (accepted (4 ∷ 7 ∷ 8 ∷ 9 ∷ []))
+    ∷ row "StoreV 40 to 41, untyped cells: 41 to 43 become cell 40"
+    (after (storeV 40 41 0) [] (cells 4 40)) (accepted (40 ∷ 40 ∷ 40 ∷ 40 ∷ []))
+    -- the show program's line, in which 101 110 100 101 100 is "ended"
+    ∷ row "ended,0,2,0,0,0,0,40700000,00000000,00000000"
+    (show (enter 1 (runToEnd (state and cells 3 1))))
+    (accepted (101 ∷ 110 ∷ 100 ∷ 101 ∷ 100 ∷ 0 ∷ 2 ∷ 0 ∷ 0 ∷ 0 ∷ 0 ∷ 0x40700000 ∷ 0 ∷ 0 ∷ []))
+    -- a load
+    ∷ row "Position, function and depths start at 0" (show state) (accepted (0 ∷ 0 ∷ 0 ∷ 0 ∷ []))
+    ∷ row "A load fills the lent cells from 0 and leaves those past the file's count"
+    (from (program [] [] numbered) (lent 62)) (accepted (62 ∷ 63 ∷ 0xffffffff ∷ 0xffffffff ∷ []))
+    -- the host enters a builtin
+    ∷ row "21: builtin" (entering (fn 0xffffffff 0 0 0 []) state) (refused 21)
+    ∷ row "24: argument count outside 0 to 8" (entering (fn 0xffffffff 0 0 0xffffffff []) state) (refused 24)
+    -- "Tempting"; 114 101 102 117 115 101 100 is "refused"
+    ∷ row "counting the refused statement"
+    (from (program (storeF 28 30 0 ∷ storeF 64 30 0 ∷ []) (plain ∷ []) numbered) (enter 1 (runToEnd state)))
+    (accepted (114 ∷ 101 ∷ 102 ∷ 117 ∷ 115 ∷ 101 ∷ 100 ∷ 15 ∷ 1 ∷ 2 ∷ 1 ∷ 1 ∷ 0 ∷ []))
+    ∷ row "restoring locals before copying the return"
+    (from (program (storeF 28 30 0 ∷ return 30 0 0 ∷ []) (fn 1 30 1 0 [] ∷ []) numbered) (enter 1 (complete (complete (cells 3 1 and cells 1 30)))))
+    (accepted (28 ∷ 31 ∷ 32 ∷ 30 ∷ []))
+    ∷ row "taking the last definition: a float cell" (reading (define float 28 ∷ define entity 28 ∷ [])) (accepted (28 ∷ []))
+    ∷ row "taking the last definition: an entity cell" (reading (define entity 28 ∷ define float 28 ∷ [])) (refused 16)
+    ∷ row "address equal to the count: a source, one less" (after (storeF 63 30 0) [] (cells 1 30)) (accepted (63 ∷ []))
+    ∷ row "address equal to the count: a source" (after (storeF 64 30 0) [] state) (refused 15)
+    ∷ row "address equal to the count: a destination, one less" (after (storeF 28 63 0) [] (cells 1 63)) (accepted (28 ∷ []))
+    ∷ row "address equal to the count: a destination" (after (storeF 28 64 0) [] state) (refused 15)
+    ∷ row "address equal to the count: a raw write, one less"
+    (from (program [] [] numbered) (write 63 7 (lent 63))) (accepted (7 ∷ 0xffffffff ∷ 0xffffffff ∷ []))
+    ∷ row "address equal to the count: a raw write" (from (program [] [] numbered) (write 64 7 state)) (refused 15)
+    ∷ row "address equal to the count: Return's third cell, one less" (after (return 61 0 0) [] (cells 3 1)) (accepted (61 ∷ 62 ∷ 63 ∷ []))
+    ∷ row "address equal to the count: Return's third cell" (after (return 62 0 0) [] state) (refused 15)
+    ∷ row "address equal to the count: a local cell, one less" (entering (fn 1 62 2 0 []) state) (accepted (1 ∷ 1 ∷ 1 ∷ 2 ∷ []))
+    ∷ row "address equal to the count: a local cell" (entering (fn 1 63 2 0 []) state) (refused 15)
+    ∷ row "address equal to the count: an argument cell, one less" (entering (fn 1 63 0 1 (1 ∷ [])) (cells 1 63)) (accepted (4 ∷ []))
+    ∷ row "address equal to the count: an argument cell" (entering (fn 1 64 0 1 (1 ∷ [])) state) (refused 15)
+    -- other sentences
+    ∷ row "A refusal gives its number and leaves state and buffers"
+    (from (program [] (fn 1 30 1 0 [] ∷ fn 0xffffffff 40 1 1 (1 ∷ []) ∷ []) numbered)
+    (enter 1 (tryToEnter 2 (state and frame 1 and cells 1 40 and store 2))))
+    (accepted (21 ∷ 1 ∷ 1 ∷ 1 ∷ 1 ∷ 0 ∷ 0 ∷ 40 ∷ 30 ∷ 0 ∷ []))
+    ∷ row "Vector arithmetic reads all before writing"
+    (after (addV 28 31 29) (0x3f800000 ∷ 0 ∷ 0 ∷ 0 ∷ 0 ∷ 0 ∷ []) (cells 4 28)) (accepted (0x3f800000 ∷ 0x3f800000 ∷ 0 ∷ 0 ∷ []))
+    ∷ row "NotV writing one float" (after (notV 28 0 31) (0 ∷ 0 ∷ 0 ∷ []) (cells 3 31)) (accepted (0x3f800000 ∷ 32 ∷ 33 ∷ []))
+    ∷ []
+
+pub starred : T (all rows)
+unfolding judge guard
+    byteAt u16At u32At fileOf lumpsFit records contentsAt builtinNumber
+    Ieee.ofBits Ieee.toBits Ieee.add Ieee.mul Ieee.div Ieee.eq Ieee.toSigned Ieee.ofInt
+    lookup scalar passes signed cellOf cellAccess vectorAccess access readAccess
+    shapeOf floatsEffect vectorResult vectorsEffect dotsEffect negatesVEffect storesEffect storesVEffect branchesDo fetchConditions execute doesAt
+    limits present copied successive arguments copiesPresent entryConditions entered leaveConditions left stepAs step runFor
+    each headerConditions recordConditions cellConditions loaded load sameFile recordedIn programAt
+    frameFunctions enteredFunctions allPresent localsOf sound hostEnter statement runConditions run rawRead rawWrite
+starred = tt

@@ -1,0 +1,104 @@
+// Runs the cases on standard input through the compiled functions of `floats`, and compares each result with the case's own.
+// A case is a line of eight hexadecimal numbers: the opcode, three cells of the first operand, three of the second, the result.
+// tools/float_vectors.py writes them, from a model of its own.
+ghost use Prim.Native.Nat.{_+_, _≤_, _<_};
+use libc::STDIN_FILENO;
+use libc::STDOUT_FILENO;
+
+enum Outcome {
+    Same,
+    Differs,
+    End,
+}
+
+// A hexadecimal digit in lower case.
+fn digit(b: u8) -> u32
+    ensures { λ r. ⌜ r < 16 ⌝ }
+{
+    if b < b'a' {
+        return (b % 16) as u32;
+    }
+    ((b % 16 + 9) % 16) as u32
+}
+
+// The number that the `n` digits from `at` on spell.
+fn number(line: &[u8; 66], at: usize, n: usize) -> u32
+    requires { ⌜ at + n ≤ 66 ⌝ }
+{
+    let mut x: u32 = 0;
+    let mut i: usize = 0;
+    while i < n {
+        x = x % 0x1000_0000 * 16 + digit(line[at + i]);
+        i += 1;
+    }
+    x
+}
+
+// Each function by opcode gives 0 for the opcodes of the others. NotV is in none of them.
+fn result(op: u16, a0: u32, a1: u32, a2: u32, b0: u32, b1: u32, b2: u32) -> u32 {
+    if op == 45 {
+        return floats::not_v(a0, a1, a2);
+    }
+    let scalar = floats::float_op(op, a0, b0)
+        | floats::component_op(op, a0, b0)
+        | floats::value_op(op, a0, b0);
+    scalar | floats::not_op(op, a0) | floats::dot_op(op, a0, a1, a2, b0, b1, b2)
+}
+
+fn report(got: u32, line: &[u8; 66]) {
+    io::print_hex(STDOUT_FILENO, got as u64, 8);
+    io::write_all(STDOUT_FILENO, b" is the result of ");
+    io::write_all(STDOUT_FILENO, line);
+}
+
+fn run_case() -> Outcome {
+    let mut line = [0u8; 66];
+    if io::read_full(STDIN_FILENO, &mut line) < 66 {
+        return Outcome::End;
+    }
+    let op = (number(&line, 0, 2) % 65536) as u16;
+    let got = result(
+        op,
+        number(&line, 3, 8),
+        number(&line, 12, 8),
+        number(&line, 21, 8),
+        number(&line, 30, 8),
+        number(&line, 39, 8),
+        number(&line, 48, 8),
+    );
+    if got == number(&line, 57, 8) {
+        return Outcome::Same;
+    }
+    report(got, &line);
+    Outcome::Differs
+}
+
+struct Counts {
+    cases: u64,
+    differ: u64,
+}
+
+// A proved loop has to end, and nothing says that the input does: it ends after a million cases.
+fn run_cases() -> Counts {
+    let mut cases: u64 = 0;
+    let mut differ: u64 = 0;
+    while cases < 1000000 {
+        match run_case() {
+            Outcome::Same => cases += 1,
+            Outcome::Differs => {
+                cases += 1;
+                differ += 1;
+            }
+            Outcome::End => break,
+        }
+    }
+    Counts { cases, differ }
+}
+
+fn main() {
+    let c = run_cases();
+    io::print_decimal(STDOUT_FILENO, c.cases);
+    io::write_all(STDOUT_FILENO, b" cases, ");
+    io::print_decimal(STDOUT_FILENO, c.differ);
+    io::write_all(STDOUT_FILENO, b" differ\n");
+}
