@@ -1,3 +1,5 @@
 pub mod Lookup
 pub mod Checking
-pub mod Shapes
+pub mod Statements
+pub mod Opcodes
+pub mod Transfers

@@ -1,4 +1,4 @@
-use Rattle.globals.proofs.Shapes.{operand-given, operand-negative}
+use Rattle.globals.proofs.Statements.{operand-given, operand-negative}
 use Rattle.globals.proofs.ops.check_operand.Statement.{statement}
 use Rattle.globals.proofs.ops.check_operand.Tie as tie
 use Rattle.globals.proofs.ops.check_operand.Reads as reads

@@ -1,4 +1,4 @@
-use Rattle.globals.proofs.Shapes.{raw-below, raw-above, raw-typed}
+use Rattle.globals.proofs.Statements.{raw-below, raw-above, raw-typed}
 use borrow.Author.Needs.{needs}
 use Rattle.globals.proofs.ops.check_raw.Statement.{statement}
 use Rattle.globals.proofs.ops.check_raw.Tie as tie

@@ -1,6 +1,6 @@
 use mathlib.Core.Path.{sym, _∙_}
 use Rattle.globals.proofs.Checking.{stop, go-on}
-use Rattle.globals.proofs.Shapes.{reach-copy}
+use Rattle.globals.proofs.Statements.{reach-copy}
 use borrow.Author.Needs.{needs}
 use Rattle.globals.proofs.ops.check_store_v.Statement.{statement}
 use Rattle.globals.proofs.ops.check_store_v.Tie as tie

@@ -1,6 +1,6 @@
 use Rattle.definition.specs.Cells.{access}
 use Rattle.globals.proofs.Checking.{stop, go-on}
-use Rattle.globals.proofs.Shapes.{pair-same, pair-other}
+use Rattle.globals.proofs.Statements.{pair-same, pair-other}
 use borrow.Author.Needs.{needs}
 use Rattle.globals.proofs.ops.check_strings.Statement.{statement}
 use Rattle.globals.proofs.ops.check_strings.Tie as tie

@@ -1,4 +1,4 @@
-use Rattle.globals.proofs.Shapes.{unused-zero, unused-given}
+use Rattle.globals.proofs.Statements.{unused-zero, unused-given}
 use Rattle.globals.proofs.ops.check_unused.Statement.{statement}
 use Rattle.globals.proofs.ops.check_unused.Tie as tie
 use Rattle.globals.proofs.ops.check_unused.Reads as reads

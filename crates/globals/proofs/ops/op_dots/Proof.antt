@@ -1,6 +1,6 @@
 use native.Mathlib.Omega.{arith}
 use mathlib.Core.Path.{sym, _∙_}
-use Rattle.globals.proofs.Shapes.{refused, accepted, reach-three, dots-is}
+use Rattle.globals.proofs.Statements.{refused, accepted, reach-three, dots-is}
 use borrow.Author.Needs.{needs}
 use Rattle.globals.proofs.ops.op_dots.Statement.{statement}
 use Rattle.globals.proofs.ops.op_dots.Tie as tie

@@ -1,4 +1,4 @@
-use Rattle.globals.proofs.Shapes.{refused, accepted, reach-three, floats-is}
+use Rattle.globals.proofs.Statements.{refused, accepted, reach-three, floats-is}
 use native.Mathlib.Omega.{arith}
 use mathlib.Core.Path.{sym, _∙_}
 use Rattle.definition.specs.Statements.{floatsEffect}

@@ -1,7 +1,7 @@
 use Rattle.globals.proofs.Checking.{neither}
 use native.Mathlib.Omega.{arith}
 use mathlib.Core.Path.{sym, _∙_}
-use Rattle.globals.proofs.Shapes.{refused, accepted, reach-move, negates-is}
+use Rattle.globals.proofs.Statements.{refused, accepted, reach-move, negates-is}
 use borrow.Author.Needs.{needs}
 use Rattle.globals.proofs.ops.op_nots.Statement.{statement}
 use Rattle.globals.proofs.ops.op_nots.Tie as tie

@@ -1,7 +1,7 @@
 use Rattle.globals.proofs.Checking.{widen}
 use native.Mathlib.Omega.{arith}
 use mathlib.Core.Path.{sym, _∙_}
-use Rattle.globals.proofs.Shapes.{refused, accepted, reach-three, vectors-is}
+use Rattle.globals.proofs.Statements.{refused, accepted, reach-three, vectors-is}
 use borrow.Author.Needs.{needs}
 use Rattle.globals.proofs.ops.op_vectors.Statement.{statement}
 use Rattle.globals.proofs.ops.op_vectors.Tie as tie
