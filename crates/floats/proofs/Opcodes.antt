@@ -26,7 +26,7 @@ abbrev pub Missed : ℕ → Type 0 → List ℕ → Type 0
 Missed n N [] = N
 Missed n N (k ∷ ks) = Missed n (N × (n ≡ k → ⊥)) ks
 
-missed : (n : ℕ) (N : Type 0) (ks : List ℕ) → Missed n N ks → N × (among ks n ≡ false)
+pub missed : (n : ℕ) (N : Type 0) (ks : List ℕ) → Missed n N ks → N × (among ks n ≡ false)
 missed n N [] h = (h, refl)
 missed n N (k ∷ ks) h =
     let r = missed n (N × (n ≡ k → ⊥)) ks h in

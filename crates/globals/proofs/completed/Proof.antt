@@ -1,0 +1,32 @@
+use mir.Syntax.{w64}
+use mir.Facts.{toZ-ofZ}
+use Rattle.globals.proofs.Transfers.{completed-next, completed-refused}
+use borrow.Author.Needs.{needs}
+use Rattle.globals.proofs.completed.Statement.{statement}
+use Rattle.globals.proofs.completed.Tie as tie
+use Rattle.globals.proofs.completed.Reads as reads
+use Rattle.globals.proofs.completed.Lts as lts
+use Rattle.functions.proofs.fetch.after.Reads as after-reads
+
+-- src/lib.rt:59:51
+enum-told : tie.Need-enum-told
+enum-told c = search needs
+
+-- src/lib.rt:59:51
+after-requires : tie.Need-after-requires
+after-requires c κs = search needs
+
+-- src/lib.rt:59:29
+returns : tie.Need-returns
+returns c = rw (toZ-ofZ {w = w64} {z = c .after .result} (record { sfits = c .after .ok })) (completed-next _ _ _ (cc) (c .after .ensures))
+
+-- src/lib.rt:60:25
+enum-known-answer : tie.Need-enum-known-answer
+enum-known-answer c = search needs
+
+-- src/lib.rt:60:31
+returns-2 : tie.Need-returns-2
+returns-2 c = completed-refused _ _ _ (cc)
+
+pub completed-spec : {M : Type 1} → statement M
+completed-spec = tie.close (tie.spec enum-told after-requires returns enum-known-answer returns-2)

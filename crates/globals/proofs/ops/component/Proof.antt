@@ -1,0 +1,46 @@
+use borrow.Author.Needs.{needs}
+use Rattle.globals.proofs.Checking.{component-vector, component-float}
+use Rattle.globals.proofs.ops.component.Statement.{statement}
+use Rattle.globals.proofs.ops.component.Tie as tie
+use Rattle.globals.proofs.ops.component.Reads as reads
+use Rattle.globals.proofs.ops.component.Lts as lts
+
+-- src/ops.rt:91:22
+add-result : tie.Need-add-result
+add-result c = let h = component-vector (c .before .args .t) (c .before .args .cell) (c .before .args .i) (c .if1 .taken) in search needs
+
+-- src/ops.rt:91:16
+mul-result : tie.Need-mul-result
+mul-result c = let h = component-vector (c .before .args .t) (c .before .args .cell) (c .before .args .i) (c .if1 .taken) in search needs
+
+-- src/ops.rt:91:16
+shared-slice-read-result : tie.Need-shared-slice-read-result
+shared-slice-read-result c = let h = component-vector (c .before .before .args .t) (c .before .before .args .cell) (c .before .before .args .i) (c .before .if1 .taken) in search needs
+
+-- src/ops.rt:91:9
+returns : tie.Need-returns
+returns c = let h = component-vector (c .before .before .args .t) (c .before .before .args .cell) (c .before .before .args .i) (c .before .if1 .taken) in cc
+
+-- src/ops.rt:93:5
+mul-result-2 : tie.Need-mul-result-2
+mul-result-2 c = let h = component-float (c .before .args .t) (c .before .args .cell) (c .before .args .i) (c .if1 .left) in search needs
+
+-- src/ops.rt:93:5
+shared-slice-read-result-2 : tie.Need-shared-slice-read-result-2
+shared-slice-read-result-2 c = let h = component-float (c .before .before .args .t) (c .before .before .args .cell) (c .before .before .args .i) (c .before .if1 .left) in search needs
+
+-- src/ops.rt:86:1
+returns-2 : tie.Need-returns-2
+returns-2 c = let h = component-float (c .before .before .args .t) (c .before .before .args .cell) (c .before .before .args .i) (c .before .if1 .left) in cc
+
+pub component-spec : {M : Type 1} → statement M
+component-spec =
+    tie.close
+    (tie.spec
+    add-result
+    mul-result
+    shared-slice-read-result
+    returns
+    mul-result-2
+    shared-slice-read-result-2
+    returns-2)

@@ -1,0 +1,37 @@
+use Rattle.globals.proofs.Statements.{refused, accepted, reach-three, floats-is}
+use native.Mathlib.Omega.{arith}
+use mathlib.Core.Path.{sym, _∙_}
+use Rattle.definition.specs.Statements.{floatsEffect}
+use borrow.Author.Needs.{needs}
+use Rattle.globals.proofs.ops.op_floats.Statement.{statement}
+use Rattle.globals.proofs.ops.op_floats.Tie as tie
+use Rattle.globals.proofs.ops.op_floats.Reads as reads
+use Rattle.globals.proofs.ops.op_floats.Lts as lts
+use Rattle.globals.proofs.ops.apply_floats.Reads as apply-floats-reads
+use Rattle.globals.proofs.ops.check_floats.Reads as check-floats-reads
+
+-- src/ops.rt:43:9
+check-floats-requires : tie.Need-check-floats-requires
+check-floats-requires c κs = search needs
+
+-- src/ops.rt:45:9
+returns : tie.Need-returns
+returns c = refused _ _ (floats-is _ _ _ _ _ _) _ (c .if1 .taken) (cc)
+
+-- src/ops.rt:47:5
+apply-floats-requires : tie.Need-apply-floats-requires
+apply-floats-requires c κs = 
+    let h = reach-three _ _ _ _ _ _ _ (sym (c .before .before .check-floats .ensures) ∙ c .before .if1 .left) in
+    (omega arith, omega arith, omega arith)
+
+-- src/ops.rt:39:1
+same-length : tie.Need-same-length
+same-length c = search needs
+
+-- src/ops.rt:39:1
+returns-2 : tie.Need-returns-2
+returns-2 c = accepted _ _ (floats-is _ _ _ _ _ _) _ (cc) (cc)
+
+pub op-floats-spec : {M : Type 1} → statement M
+op-floats-spec =
+    tie.close (tie.spec check-floats-requires returns apply-floats-requires same-length returns-2)

@@ -1,0 +1,48 @@
+use Rattle.globals.proofs.Checking.{neither}
+use native.Mathlib.Omega.{arith}
+use mathlib.Core.Path.{sym, _∙_}
+use Rattle.globals.proofs.Statements.{refused, accepted, reach-move, negatesS-is}
+use borrow.Author.Needs.{needs}
+use Rattle.globals.proofs.ops.op_not_s.Statement.{statement}
+use Rattle.globals.proofs.ops.op_not_s.Tie as tie
+use Rattle.globals.proofs.ops.op_not_s.Reads as reads
+use Rattle.globals.proofs.ops.op_not_s.Lts as lts
+use Rattle.globals.proofs.ops.apply_not_s.Reads as apply-not-s-reads
+use Rattle.globals.proofs.ops.check_not_s.Reads as check-not-s-reads
+
+-- src/ops.rt:295:9
+check-not-s-requires : tie.Need-check-not-s-requires
+check-not-s-requires c κs = search needs
+
+-- src/ops.rt:297:9
+same-length : tie.Need-same-length
+same-length c = search needs
+
+-- src/ops.rt:297:9
+returns : tie.Need-returns
+returns c = refused _ _ (negatesS-is _ _ _ _ _) _ (c .if1 .taken) (cc)
+
+-- src/ops.rt:299:5
+apply-not-s-requires : tie.Need-apply-not-s-requires
+apply-not-s-requires c κs = 
+    let h = reach-move _ _ _ _ _ _ _ (neither _ _ (neither _ _ (sym (c .before .before .check-not-s .ensures) ∙ c .before .if1 .left) .1) .1) in
+    (omega arith, omega arith)
+
+-- src/ops.rt:291:1
+same-length-2 : tie.Need-same-length-2
+same-length-2 c = search needs
+
+-- src/ops.rt:291:1
+returns-2 : tie.Need-returns-2
+returns-2 c = accepted _ _ (negatesS-is _ _ _ _ _) _ (cc) (cc)
+
+pub op-not-s-spec : {M : Type 1} → statement M
+op-not-s-spec =
+    tie.close
+    (tie.spec
+    check-not-s-requires
+    same-length
+    returns
+    apply-not-s-requires
+    same-length-2
+    returns-2)

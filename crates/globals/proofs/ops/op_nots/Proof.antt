@@ -1,0 +1,54 @@
+use Rattle.globals.proofs.Checking.{neither}
+use native.Mathlib.Omega.{arith}
+use mathlib.Core.Path.{sym, _∙_}
+use Rattle.globals.proofs.Statements.{refused, accepted, reach-move, negates-is}
+use borrow.Author.Needs.{needs}
+use Rattle.globals.proofs.ops.op_nots.Statement.{statement}
+use Rattle.globals.proofs.ops.op_nots.Tie as tie
+use Rattle.globals.proofs.ops.op_nots.Reads as reads
+use Rattle.globals.proofs.ops.op_nots.Lts as lts
+use Rattle.globals.proofs.ops.apply_nots.Reads as apply-nots-reads
+use Rattle.globals.proofs.ops.check_unary.Reads as check-unary-reads
+use Rattle.globals.proofs.typed.must_be_positive.Reads as must-be-positive-reads
+
+-- src/ops.rt:240:9
+must-be-positive-requires : tie.Need-must-be-positive-requires
+must-be-positive-requires c κs = search needs
+
+-- src/ops.rt:241:9
+check-unary-requires : tie.Need-check-unary-requires
+check-unary-requires c κs = search needs
+
+-- src/ops.rt:243:9
+same-length : tie.Need-same-length
+same-length c = search needs
+
+-- src/ops.rt:243:9
+returns : tie.Need-returns
+returns c = refused _ _ (negates-is _ _ _ _ _ _ _) _ (c .if1 .taken) (cc)
+
+-- src/ops.rt:245:5
+apply-nots-requires : tie.Need-apply-nots-requires
+apply-nots-requires c κs = 
+    let h = reach-move _ _ _ _ _ _ _ (neither _ _ (sym (c .before .before .check-unary .ensures) ∙ c .before .if1 .left) .1) in
+    (omega arith, omega arith)
+
+-- src/ops.rt:236:1
+same-length-2 : tie.Need-same-length-2
+same-length-2 c = search needs
+
+-- src/ops.rt:236:1
+returns-2 : tie.Need-returns-2
+returns-2 c = accepted _ _ (negates-is _ _ _ _ _ _ _) _ (cc) (cc)
+
+pub op-nots-spec : {M : Type 1} → statement M
+op-nots-spec =
+    tie.close
+    (tie.spec
+    must-be-positive-requires
+    check-unary-requires
+    same-length
+    returns
+    apply-nots-requires
+    same-length-2
+    returns-2)

@@ -1,0 +1,37 @@
+use mathlib.Core.Path.{sym, _∙_}
+use Rattle.globals.proofs.Checking.{access-first, read-stops, read-refused, read-accepted}
+use borrow.Author.Needs.{needs}
+use Rattle.globals.proofs.typed.check_read.Statement.{statement}
+use Rattle.globals.proofs.typed.check_read.Tie as tie
+use Rattle.globals.proofs.typed.check_read.Reads as reads
+use Rattle.globals.proofs.typed.check_read.Lts as lts
+use Rattle.globals.proofs.typed.check_access.Reads as check-access-reads
+
+-- src/typed.rt:149:9
+check-access-requires : tie.Need-check-access-requires
+check-access-requires c κs = search needs
+
+-- src/typed.rt:151:9
+returns : tie.Need-returns
+returns c = read-stops _ _ _ _ _ _ (c .if1 .taken) (cc)
+
+-- src/typed.rt:153:35
+mul-if2 : tie.Need-mul-if2
+mul-if2 c = let h = access-first _ _ _ (sym (c .before .check-access .ensures) ∙ c .if1 .left) in search needs
+
+-- src/typed.rt:153:35
+shared-slice-read-if2 : tie.Need-shared-slice-read-if2
+shared-slice-read-if2 c = let h = access-first _ _ _ (sym (c .before .before .check-access .ensures) ∙ c .before .if1 .left) in search needs
+
+-- src/typed.rt:154:9
+returns-2 : tie.Need-returns-2
+returns-2 c = read-refused _ _ _ _ _ (cc) (c .if2 .taken)
+
+-- src/typed.rt:145:1
+returns-3 : tie.Need-returns-3
+returns-3 c = read-accepted _ _ _ _ _ (cc) (c .if2 .left)
+
+pub check-read-spec : {M : Type 1} → statement M
+check-read-spec =
+    tie.close
+    (tie.spec check-access-requires returns mul-if2 shared-slice-read-if2 returns-2 returns-3)

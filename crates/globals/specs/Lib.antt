@@ -1,0 +1,5 @@
+pub mod Typed
+pub mod Checking
+pub mod Effects
+pub mod Shapes
+pub mod Execution
