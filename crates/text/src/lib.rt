@@ -1,0 +1,1 @@
+// The texts that the machine's programs print, written into a lent buffer.
