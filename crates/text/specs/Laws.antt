@@ -4,6 +4,7 @@ use mathlib.Core.Path.{_≡_, refl, sym, ap, _∙_, subst}
 use mathlib.Core.List.{List, [], _∷_, _++_}
 use mathlib.Core.Bool.{Bool, true, false, cond}
 use native.Mathlib.Nat.{pow-suc, lt-of-lt-of-le}
+use native.Mathlib.Numerals.{unary-clauses}
 use native.Mathlib.Omega.{arith}
 use borrow.Author.Tests.{lt-ltb, le-ltb, ltb-true, ltb-false}
 use lib.Dec.{ltb, lit≤}
@@ -67,3 +68,18 @@ decimal-10 n h = decimal-length n 9 (lt-of-lt-of-le h (lit≤ tt))
 
 pub decimal-20 : (n : ℕ) → n < 2 ^ 64 → length (decimal n) ≤ 20
 decimal-20 n h = decimal-length n 19 (lt-of-lt-of-le h (lit≤ tt))
+
+-- ---- hexadecimal, by the digits of the sixteenth
+
+pub hex-none : (k n : ℕ) → k ≡ 0 → hexDigits k n ≡ []
+unfolding hexDigits
+hex-none k n h = rw h
+
+pub hex-more : (k n : ℕ) {d : ℕ} → (k ≡ 0 → ⊥) → d ≡ hexDigit (n % 16) → hexDigits k n ≡ hexDigits (k - 1) (n / 16) ++ d ∷ []
+unfolding hexDigits
+hex-more zero n h e = absurd (h refl)
+hex-more (suc k) n h e = simp (e, unary-clauses)
+
+pub hex8-length : (n : ℕ) → length (hex8 n) ≡ 8
+unfolding hex8 hexDigits
+hex8-length n = refl

@@ -1,11 +1,11 @@
 -- WRITING INTO A LENT BUFFER: the buffer's bytes, and the place of the next one to be written. What two writers leave, one after the other, is what one
 -- writer of both texts leaves.
 use Prim.Native.Nat.{ℕ, suc, _+_, _≤_}
-use mathlib.Core.Path.{_≡_, refl, ap, _∙_}
+use mathlib.Core.Path.{_≡_, refl, sym, ap, _∙_, subst}
 use mathlib.Core.List.{List, [], _∷_, _++_}
 use native.Mathlib.Nat.{add-zero, add-assoc, zero-add}
 use native.Mathlib.Omega.{arith}
-use lib.ListN.{length, drop, length-append}
+use lib.ListN.{length, drop, set, length-append}
 use lib.Seq.{sets, length-sets, sets-eq}
 
 pub record Output : Type 0 where
@@ -35,17 +35,33 @@ pub put-put : (xs ys : List ℕ) (o : Output) → put ys (put xs o) ≡ put (xs 
 unfolding put
 put-put xs ys o = simp (sets-append, length-append, add-assoc)
 
--- one writer after another
-pub and-then : (xs ys : List ℕ) (o : Output) {o₁ o₂ : Output} → o₁ ≡ put xs o → o₂ ≡ put ys o₁ → o₂ ≡ put (xs ++ ys) o
-and-then xs ys o e e′ = e′ ∙ ap (put ys) e ∙ put-put xs ys o
-
--- the room for two texts is room for the first, and after it for the second
-pub room-first : (xs ys : List ℕ) {o : Output} → Room (xs ++ ys) o → Room xs o
-room-first xs ys h = omega (arith, length-append xs ys)
-
-pub room-second : (xs : List ℕ) {ys : List ℕ} {o o₁ : Output} → o₁ ≡ put xs o → Room (xs ++ ys) o → Room ys o₁
+-- what a store of one byte leaves
+pub put-one : (b : List ℕ) (at x : ℕ) → output (set b at x) (at + 1) ≡ put (x ∷ []) (output b at)
 unfolding put
-room-second xs {ys} {o} e h = rw e (record { enough = simp length-sets (omega (arith, length-append xs ys)) })
+put-one b at x = refl
+
+pub put-none : (b : List ℕ) (at : ℕ) → output b at ≡ put [] (output b at)
+unfolding put
+put-none b at = simp add-zero
+
+-- a text by another name
+pub room-same : {xs ys : List ℕ} {o : Output} → Room xs o → xs ≡ ys → Room ys o
+room-same {o = o} h e = subst (λ (t : List ℕ). Room t o) e h
+
+pub put-same : {xs ys : List ℕ} (o : Output) {o₁ : Output} → o₁ ≡ put ys o → xs ≡ ys → o₁ ≡ put xs o
+put-same o h e = cc
+
+-- A text in two parts: the room for it is room for the first, and after that is put for the second; to put both is to put the text.
+module _ {text : List ℕ} (xs ys : List ℕ) (o : Output) (parts : text ≡ xs ++ ys) where
+  pub room-first : Room text o → Room xs o
+  room-first h = omega (arith, ap length parts, length-append xs ys)
+
+  pub room-second : {o₁ : Output} → o₁ ≡ put xs o → Room text o → Room ys o₁
+  unfolding put
+  room-second e h = rw e (record { enough = simp length-sets (omega (arith, ap length parts, length-append xs ys)) })
+
+  pub put-both : {o₁ o₂ : Output} → o₁ ≡ put xs o → o₂ ≡ put ys o₁ → o₂ ≡ put text o
+  put-both e e′ = e′ ∙ ap (put ys) e ∙ put-put xs ys o ∙ ap (λ (t : List ℕ). put t o) (sym parts)
 
 -- at the front of a buffer a text stands before the bytes that it doesn't reach
 pub put-front : (xs b : List ℕ) → length xs ≤ length b → put xs (output b 0) ≡ output (xs ++ drop (length xs) b) (length xs)

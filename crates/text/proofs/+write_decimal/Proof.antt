@@ -1,0 +1,148 @@
+use borrow.Author.Needs.{needs}
+use native.Mathlib.Omega.{arith}
+use Rattle.text.specs.Output.{room-same, put-same, room-first, room-second, put-both}
+use Rattle.text.specs.Laws.{decimal-one, decimal-more}
+use Prim.Native.Nat.{ℕ, _<_}
+use borrow.Fn.Kinds.{In}
+use borrow.Fn.PlainCycle.{Measures, is, falls, and}
+use Rattle.text.proofs.write_decimal.Reads as write-decimal
+use Rattle.text.proofs.write_decimal.Kinds as write-decimal-kinds
+use Rattle.text.proofs.+write_decimal.Lts-write_decimal as write-decimal-lts
+use Rattle.text.proofs.write_byte.Reads as write-byte-reads
+use Rattle.text.proofs.+write_decimal.{statement}
+use Rattle.text.proofs.+write_decimal.Tie.{close}
+
+abbrev μ-write-decimal : Measures 1 write-decimal-kinds.ps ℕ
+μ-write-decimal κs a = a .1 .1 .0
+
+abbrev write-decimal-at : ℕ → In 1 write-decimal-kinds.ps
+write-decimal-at t =
+    and 1 write-decimal-kinds.ps (is 1 write-decimal-kinds.ps μ-write-decimal t) write-decimal.Pre
+
+abbrev write-decimal-below : ℕ → In 1 write-decimal-kinds.ps
+write-decimal-below t =
+    and
+    1
+    write-decimal-kinds.ps
+    (falls 1 write-decimal-kinds.ps _<_ μ-write-decimal t)
+    write-decimal.Pre
+
+-- src/lib.rt:39:44
+write-decimal-cast-write-byte : (t : ℕ) → write-decimal-lts.Need-cast-write-byte (
+  write-byte-reads.Asked,
+  write-byte-reads.Learnt,
+  write-decimal-below t,
+  write-decimal.Post,
+) (write-decimal-at t) write-decimal.Post
+write-decimal-cast-write-byte t c = search needs
+
+-- src/lib.rt:39:36
+write-decimal-add-write-byte : (t : ℕ) → write-decimal-lts.Need-add-write-byte (
+  write-byte-reads.Asked,
+  write-byte-reads.Learnt,
+  write-decimal-below t,
+  write-decimal.Post,
+) (write-decimal-at t) write-decimal.Post
+write-decimal-add-write-byte t c = search needs
+
+-- src/lib.rt:39:9
+write-decimal-write-byte-requires : (t : ℕ) → write-decimal-lts.Need-write-byte-requires (
+  write-byte-reads.Asked,
+  write-byte-reads.Learnt,
+  write-decimal-below t,
+  write-decimal.Post,
+) (write-decimal-at t) write-decimal.Post
+write-decimal-write-byte-requires t c κs = room-same (c .before .before .before .pre .1) (decimal-one _ (search needs))
+
+-- src/lib.rt:39:9
+write-decimal-same-length : (t : ℕ) → write-decimal-lts.Need-same-length (
+  write-byte-reads.Asked,
+  write-byte-reads.Learnt,
+  write-decimal-below t,
+  write-decimal.Post,
+) (write-decimal-at t) write-decimal.Post
+write-decimal-same-length t c = search needs
+
+-- src/lib.rt:39:9
+write-decimal-returns : (t : ℕ) → write-decimal-lts.Need-returns (
+  write-byte-reads.Asked,
+  write-byte-reads.Learnt,
+  write-decimal-below t,
+  write-decimal.Post,
+) (write-decimal-at t) write-decimal.Post
+write-decimal-returns t c = put-same _ (c .before .before .write-byte .ensures) (decimal-one _ (search needs))
+
+-- src/lib.rt:41:9
+write-decimal-write-decimal-requires : (t : ℕ) → write-decimal-lts.Need-write-decimal-requires (
+  write-byte-reads.Asked,
+  write-byte-reads.Learnt,
+  write-decimal-below t,
+  write-decimal.Post,
+) (write-decimal-at t) write-decimal.Post
+write-decimal-write-decimal-requires t c κs = (omega arith, room-first _ _ _ (decimal-more _ (search needs)) (search needs))
+
+-- src/lib.rt:42:35
+write-decimal-cast-write-byte-2 : (t : ℕ) → write-decimal-lts.Need-cast-write-byte-2 (
+  write-byte-reads.Asked,
+  write-byte-reads.Learnt,
+  write-decimal-below t,
+  write-decimal.Post,
+) (write-decimal-at t) write-decimal.Post
+write-decimal-cast-write-byte-2 t c = search needs
+
+-- src/lib.rt:42:27
+write-decimal-add-write-byte-2 : (t : ℕ) → write-decimal-lts.Need-add-write-byte-2 (
+  write-byte-reads.Asked,
+  write-byte-reads.Learnt,
+  write-decimal-below t,
+  write-decimal.Post,
+) (write-decimal-at t) write-decimal.Post
+write-decimal-add-write-byte-2 t c = search needs
+
+-- src/lib.rt:42:5
+write-decimal-write-byte-requires-2 : (t : ℕ) → write-decimal-lts.Need-write-byte-requires-2 (
+  write-byte-reads.Asked,
+  write-byte-reads.Learnt,
+  write-decimal-below t,
+  write-decimal.Post,
+) (write-decimal-at t) write-decimal.Post
+write-decimal-write-byte-requires-2 t c κs = room-second _ _ _ (decimal-more _ (search needs)) (c .before .before .before .write-decimal .ensures) (search needs)
+
+-- src/lib.rt:34:1
+write-decimal-same-length-2 : (t : ℕ) → write-decimal-lts.Need-same-length-2 (
+  write-byte-reads.Asked,
+  write-byte-reads.Learnt,
+  write-decimal-below t,
+  write-decimal.Post,
+) (write-decimal-at t) write-decimal.Post
+write-decimal-same-length-2 t c = omega arith
+
+-- src/lib.rt:34:1
+write-decimal-returns-2 : (t : ℕ) → write-decimal-lts.Need-returns-2 (
+  write-byte-reads.Asked,
+  write-byte-reads.Learnt,
+  write-decimal-below t,
+  write-decimal.Post,
+) (write-decimal-at t) write-decimal.Post
+write-decimal-returns-2 t c = put-both _ _ _ (decimal-more _ (search needs)) (c .before .before .before .before .before .before .write-decimal .ensures) (search needs)
+
+pub +write-decimal-spec : {M : Type 1} → statement M
++write-decimal-spec = close μ-write-decimal λ t. write-decimal-lts.spec (
+  write-byte-reads.Asked,
+  write-byte-reads.Learnt,
+  write-decimal-below t,
+  write-decimal.Post,
+)
+    (write-decimal-at t)
+    write-decimal.Post
+    (write-decimal-cast-write-byte t)
+    (write-decimal-add-write-byte t)
+    (write-decimal-write-byte-requires t)
+    (write-decimal-same-length t)
+    (write-decimal-returns t)
+    (write-decimal-write-decimal-requires t)
+    (write-decimal-cast-write-byte-2 t)
+    (write-decimal-add-write-byte-2 t)
+    (write-decimal-write-byte-requires-2 t)
+    (write-decimal-same-length-2 t)
+    (write-decimal-returns-2 t)
