@@ -1,5 +1,5 @@
 -- LAWS of the texts: how the digits of a number follow from those of its tenth, how long a text can be, and that the fields of a line can be read back.
-use Prim.Native.Nat.{ℕ, zero, suc, _+_, _*_, _-_, _/_, _%_, _^_, _≤_, _<_}
+use Prim.Native.Nat.{ℕ, zero, suc, _+_, _*_, _-_, _/_, _%_, _^_, _≤_, _<_, suc-le-suc}
 use mathlib.Core.Path.{_≡_, refl, sym, ap, _∙_, subst}
 use mathlib.Core.List.{List, [], _∷_, _++_}
 use mathlib.Core.Bool.{Bool, true, false, cond}
@@ -9,8 +9,13 @@ use native.Mathlib.Omega.{arith}
 use borrow.Author.Tests.{lt-ltb, le-ltb, ltb-true, ltb-false}
 use lib.Dec.{ltb, lit≤}
 use lib.IntN.{ℤ, pos, negsuc}
+use lib.Signed.{mag}
 use lib.ListN.{length, length-append}
-use Rattle.text.specs.Text.{decimalDigits, decimal, signedDecimal, hexDigit, hexDigits, hex8}
+use Rattle.definition.specs.declared.RunAnswer.{RunAnswer}
+use Rattle.definition.specs.declared.RunAnswer.the-variants as run
+use Rattle.definition.specs.declared.Handover.the-variants.{Builtin, Opcode}
+use Rattle.definition.specs.Answers.{letters, outcomeWord, outcomeDetail}
+use Rattle.text.specs.Text.{decimalDigits, decimal, signedDecimal, hexDigit, hexDigits, hex8, furtherFields, showLine, refusedLine}
 
 -- ---- decimal, by the digits of the tenth
 
@@ -51,6 +56,17 @@ module _ (P : ℕ → List ℕ → Type 0)
   pub decimal-ind : (n : ℕ) → P n (decimal n)
   decimal-ind n = below (suc n) n (omega arith)
 
+-- ---- hexadecimal, by the digits of the sixteenth
+
+pub hex-none : (k n : ℕ) → k ≡ 0 → hexDigits k n ≡ []
+unfolding hexDigits
+hex-none k n h = rw h
+
+pub hex-more : (k n : ℕ) {d : ℕ} → (k ≡ 0 → ⊥) → d ≡ hexDigit (n % 16) → hexDigits k n ≡ hexDigits (k - 1) (n / 16) ++ d ∷ []
+unfolding hexDigits
+hex-more zero n h e = absurd (h refl)
+hex-more (suc k) n h e = simp (e, unary-clauses)
+
 -- ---- lengths
 
 abbrev AtMost : ℕ → List ℕ → Type 0
@@ -63,23 +79,50 @@ decimal-length = decimal-ind AtMost (λ n h k b. omega arith) more
     more n tenth h t zero b = absurd (omega arith)
     more n tenth h t (suc k) b = simp length-append (omega (arith, t k (omega (arith, pow-suc 10 (suc k)))))
 
-pub decimal-10 : (n : ℕ) → n < 2 ^ 32 → length (decimal n) ≤ 10
-decimal-10 n h = decimal-length n 9 (lt-of-lt-of-le h (lit≤ tt))
+pub decimal-10 : {n : ℕ} → n < 2 ^ 32 → length (decimal n) ≤ 10
+decimal-10 {n} h = decimal-length n 9 (lt-of-lt-of-le h (lit≤ tt))
 
-pub decimal-20 : (n : ℕ) → n < 2 ^ 64 → length (decimal n) ≤ 20
-decimal-20 n h = decimal-length n 19 (lt-of-lt-of-le h (lit≤ tt))
+pub decimal-20 : {n : ℕ} → n < 2 ^ 64 → length (decimal n) ≤ 20
+decimal-20 {n} h = decimal-length n 19 (lt-of-lt-of-le h (lit≤ tt))
 
--- ---- hexadecimal, by the digits of the sixteenth
-
-pub hex-none : (k n : ℕ) → k ≡ 0 → hexDigits k n ≡ []
-unfolding hexDigits
-hex-none k n h = rw h
-
-pub hex-more : (k n : ℕ) {d : ℕ} → (k ≡ 0 → ⊥) → d ≡ hexDigit (n % 16) → hexDigits k n ≡ hexDigits (k - 1) (n / 16) ++ d ∷ []
-unfolding hexDigits
-hex-more zero n h e = absurd (h refl)
-hex-more (suc k) n h e = simp (e, unary-clauses)
+pub signed-20 : (z : ℤ) → mag z < 2 ^ 63 → length (signedDecimal z) ≤ 20
+unfolding signedDecimal
+signed-20 (pos n) h = decimal-20 (lt-of-lt-of-le h (lit≤ tt))
+signed-20 (negsuc n) h = omega (arith, decimal-length (suc n) 18 (lt-of-lt-of-le (suc-le-suc h) (lit≤ tt)))
 
 pub hex8-length : (n : ℕ) → length (hex8 n) ≡ 8
 unfolding hex8 hexDigits
 hex8-length n = refl
+
+word-7 : (answer : RunAnswer) → length (letters (outcomeWord answer)) ≤ 7
+word-7 run.Ended = lit≤ tt
+word-7 run.Spent = lit≤ tt
+word-7 (run.Refused n) = lit≤ tt
+word-7 (run.HandedOver (Builtin n)) = lit≤ tt
+word-7 (run.HandedOver (Opcode n)) = lit≤ tt
+
+pub show-length : (answer : RunAnswer) (count : ℕ) (position : ℤ) (function depth saved c1 c2 c3 : ℕ)
+    → outcomeDetail answer < 2 ^ 32
+    → count < 2 ^ 32
+    → mag position < 2 ^ 63
+    → function < 2 ^ 64
+    → depth < 2 ^ 64
+    → saved < 2 ^ 64
+    → length (showLine answer count position function depth saved c1 c2 c3) ≤ 141
+unfolding showLine
+show-length answer count position function depth saved c1 c2 c3 detailFits countFits positionFits functionFits depthFits savedFits =
+    simp (length-append, hex8-length)
+    (omega (
+      arith,
+      word-7 answer,
+      decimal-10 detailFits,
+      decimal-10 countFits,
+      signed-20 position positionFits,
+      decimal-20 functionFits,
+      decimal-20 depthFits,
+      decimal-20 savedFits,
+    ))
+
+pub refused-length : (n : ℕ) → n < 2 ^ 32 → length (refusedLine n) ≤ 19
+unfolding refusedLine
+refused-length n h = simp length-append (omega (arith, decimal-10 h))

@@ -44,6 +44,10 @@ pub put-none : (b : List ℕ) (at : ℕ) → output b at ≡ put [] (output b at
 unfolding put
 put-none b at = simp add-zero
 
+pub put-next : (xs : List ℕ) (o : Output) {o₁ : Output} → o₁ ≡ put xs o → o₁ .next ≡ o .next + length xs
+unfolding put
+put-next xs o e = rw e
+
 -- a text by another name
 pub room-same : {xs ys : List ℕ} {o : Output} → Room xs o → xs ≡ ys → Room ys o
 room-same {o = o} h e = subst (λ (t : List ℕ). Room t o) e h
@@ -62,6 +66,24 @@ module _ {text : List ℕ} (xs ys : List ℕ) (o : Output) (parts : text ≡ xs 
 
   pub put-both : {o₁ o₂ : Output} → o₁ ≡ put xs o → o₂ ≡ put ys o₁ → o₂ ≡ put text o
   put-both e e′ = e′ ∙ ap (put ys) e ∙ put-put xs ys o ∙ ap (λ (t : List ℕ). put t o) (sym parts)
+
+-- A text of many parts: `rest` is what is left to be put, and there is room for it.
+pub record Rest (text rest : List ℕ) (from o : Output) : Type 0 where
+  pub room : Room rest o
+  pub same : put rest o ≡ put text from
+
+pub rest-all : {text rest : List ℕ} {o : Output} → Room text o → text ≡ rest → Rest text rest o o
+rest-all {o = o} h e = record { room = room-same h e; same = ap (λ (t : List ℕ). put t o) (sym e) }
+
+module _ {text : List ℕ} (xs ys : List ℕ) {from o : Output} (r : Rest text (xs ++ ys) from o) where
+  pub rest-room : Room xs o
+  rest-room = room-first xs ys o refl (r .room)
+
+  pub rest-next : {o₁ : Output} → o₁ ≡ put xs o → Rest text ys from o₁
+  rest-next e = record { room = room-second xs ys o refl e (r .room); same = put-both xs ys o refl e refl ∙ r .same }
+
+pub rest-end : {text xs : List ℕ} {from o o₁ : Output} → Rest text xs from o → o₁ ≡ put xs o → o₁ ≡ put text from
+rest-end r e = e ∙ r .same
 
 -- at the front of a buffer a text stands before the bytes that it doesn't reach
 pub put-front : (xs b : List ℕ) → length xs ≤ length b → put xs (output b 0) ≡ output (xs ++ drop (length xs) b) (length xs)

@@ -39,19 +39,18 @@ hex8 n = hexDigits 8 n
 
 -- ---- lines
 
--- fields with a comma between each two, and the end of the line
-abbrev pub line : List (List ℕ) → List ℕ
-line [] = 10 ∷ []
-line (x ∷ []) = x ++ 10 ∷ []
-line (x ∷ y ∷ ys) = x ++ 44 ∷ line (y ∷ ys)
+-- fields, each after a comma, and the end of the line
+abbrev pub furtherFields : List (List ℕ) → List ℕ
+furtherFields [] = 10 ∷ []
+furtherFields (x ∷ xs) = (44 ∷ x) ++ furtherFields xs
 
 -- "prints one line: outcome (ended, spent, refused, builtin or opcode), detail (a number, else 0), statements, position, function, depth, saved,
 -- cells 1 to 3"
 unfoldable pub showLine : RunAnswer → ℕ → ℤ → ℕ → ℕ → ℕ → ℕ → ℕ → ℕ → List ℕ
 showLine answer count position function depth saved c1 c2 c3 =
-    line
-    (letters (outcomeWord answer)
-    ∷ decimal (outcomeDetail answer)
+    letters (outcomeWord answer)
+    ++ furtherFields
+    (decimal (outcomeDetail answer)
     ∷ decimal count
     ∷ signedDecimal position
     ∷ decimal function
@@ -64,4 +63,4 @@ showLine answer count position function depth saved c1 c2 c3 =
 
 -- "A refused load prints the first two fields only"
 unfoldable pub refusedLine : ℕ → List ℕ
-refusedLine n = line (letters refusedWord ∷ decimal n ∷ [])
+refusedLine n = letters refusedWord ++ furtherFields (decimal n ∷ [])

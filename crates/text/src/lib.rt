@@ -8,7 +8,7 @@ ghost use Prim.Native.Nat.{_≤_, _<_};
 ghost use lib.IntN.{natAbs};
 ghost use lib.ListN.{length};
 ghost use Rattle.definition.specs.Answers.{letters, outcomeWord, outcomeDetail};
-ghost use Rattle.text.specs.Text.{decimal, signedDecimal, hexDigit, hexDigits, hex8, showLine, refusedLine};
+ghost use Rattle.text.specs.Text.{decimal, signedDecimal, hexDigit, hexDigits, hex8, furtherFields, showLine, refusedLine};
 ghost use Rattle.text.specs.Output.{output, put, Room};
 
 pub fn write_byte(buf: &mut [u8], at: usize, x: u8) -> usize
@@ -121,4 +121,71 @@ pub fn detail(answer: RunAnswer) -> u32
             Handover::Opcode(n) => n,
         },
     }
+}
+
+// ---- the show program's line
+
+fn write_field(buf: &mut [u8], at: usize, n: u64) -> usize
+    requires { ⌜ Room (44 ∷ decimal n) (output (now buf) at) ⌝ }
+    ensures { λ r. ⌜ output (now (buf .exit)) r ≡ put (44 ∷ decimal n) (output (now (buf .entry)) at) ⌝ }
+{
+    let next = write_byte(buf, at, b',');
+    write_decimal(buf, next, n)
+}
+
+fn write_cell_field(buf: &mut [u8], at: usize, n: u32) -> usize
+    requires { ⌜ Room (44 ∷ hex8 n) (output (now buf) at) ⌝ }
+    ensures { λ r. ⌜ output (now (buf .exit)) r ≡ put (44 ∷ hex8 n) (output (now (buf .entry)) at) ⌝ }
+{
+    let next = write_byte(buf, at, b',');
+    write_hex8(buf, next, n)
+}
+
+fn write_cells(buf: &mut [u8], at: usize, c1: u32, c2: u32, c3: u32) -> usize
+    requires { ⌜ Room (furtherFields (hex8 c1 ∷ hex8 c2 ∷ hex8 c3 ∷ [])) (output (now buf) at) ⌝ }
+    ensures { λ r. ⌜ output (now (buf .exit)) r ≡ put (furtherFields (hex8 c1 ∷ hex8 c2 ∷ hex8 c3 ∷ [])) (output (now (buf .entry)) at) ⌝ }
+{
+    let second = write_cell_field(buf, at, c1);
+    let third = write_cell_field(buf, second, c2);
+    let end = write_cell_field(buf, third, c3);
+    write_byte(buf, end, b'\n')
+}
+
+// Whatever the numbers are, the line has at most 141 bytes.
+pub fn show_line(
+    buf: &mut [u8],
+    answer: RunAnswer,
+    count: u32,
+    pc: i64,
+    function: usize,
+    depth: usize,
+    saved: usize,
+    c1: u32,
+    c2: u32,
+    c3: u32,
+) -> usize
+    requires { ⌜ 160 ≤ length (now buf) ⌝ }
+    ensures { λ r. ⌜ output (now (buf .exit)) r ≡ put (showLine answer count pc function depth saved c1 c2 c3) (output (now (buf .entry)) 0) ⌝ }
+    ensures { λ r. ⌜ r ≤ 160 ⌝ }
+{
+    let number = detail(answer);
+    let mut at = write_word(buf, 0, answer);
+    at = write_field(buf, at, number as u64);
+    at = write_field(buf, at, count as u64);
+    at = write_byte(buf, at, b',');
+    at = write_signed(buf, at, pc);
+    at = write_field(buf, at, function as u64);
+    at = write_field(buf, at, depth as u64);
+    at = write_field(buf, at, saved as u64);
+    write_cells(buf, at, c1, c2, c3)
+}
+
+pub fn refused_line(buf: &mut [u8], n: u8) -> usize
+    requires { ⌜ 160 ≤ length (now buf) ⌝ }
+    ensures { λ r. ⌜ output (now (buf .exit)) r ≡ put (refusedLine n) (output (now (buf .entry)) 0) ⌝ }
+    ensures { λ r. ⌜ r ≤ 160 ⌝ }
+{
+    let mut at = write_bytes(buf, 0, b"refused");
+    at = write_field(buf, at, n as u64);
+    write_byte(buf, at, b'\n')
 }
