@@ -3,3 +3,4 @@ pub mod Text
 pub mod Output
 pub mod Examples
 pub mod Laws
+pub mod ReadBack
