@@ -1,7 +1,7 @@
 -- A signed number by its sign, which the code tests on the number as its bits have it. Assumes nothing.
-use Prim.Native.Nat.{ℕ, suc, _+_, _^_}
-use mathlib.Core.Path.{_≡_, refl, ap, _∙_, subst}
-use mathlib.Core.List.{List, [], _∷_, _++_}
+use Prim.Native.Nat.{ℕ, suc, _+_}
+use mathlib.Core.Path.{_≡_, refl, subst}
+use mathlib.Core.List.{[], _∷_, _++_}
 use mathlib.Core.Bool.{Bool, true, false}
 use native.Mathlib.Nat.{suc-sub-suc, sub-zero}
 use native.Mathlib.Numerals.{add-one}

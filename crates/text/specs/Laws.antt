@@ -1,8 +1,8 @@
 -- LAWS of the texts: how the digits of a number follow from those of its tenth, how long a text can be, and that the fields of a line can be read back.
-use Prim.Native.Nat.{ℕ, zero, suc, _+_, _*_, _-_, _/_, _%_, _^_, _≤_, _<_, suc-le-suc}
-use mathlib.Core.Path.{_≡_, refl, sym, ap, _∙_, subst}
+use Prim.Native.Nat.{ℕ, zero, suc, _+_, _-_, _/_, _%_, _^_, _≤_, _<_, suc-le-suc}
+use mathlib.Core.Path.{_≡_, refl}
 use mathlib.Core.List.{List, [], _∷_, _++_}
-use mathlib.Core.Bool.{Bool, true, false, cond}
+use mathlib.Core.Bool.{Bool, true, false}
 use native.Mathlib.Nat.{pow-suc, lt-of-lt-of-le}
 use native.Mathlib.Numerals.{unary-clauses}
 use native.Mathlib.Omega.{arith}
@@ -15,7 +15,7 @@ use Rattle.definition.specs.declared.RunAnswer.{RunAnswer}
 use Rattle.definition.specs.declared.RunAnswer.the-variants as run
 use Rattle.definition.specs.declared.Handover.the-variants.{Builtin, Opcode}
 use Rattle.definition.specs.Answers.{letters, outcomeWord, outcomeDetail}
-use Rattle.text.specs.Text.{decimalDigits, decimal, signedDecimal, hexDigit, hexDigits, hex8, furtherFields, showLine, refusedLine}
+use Rattle.text.specs.Text.{decimalDigits, decimal, signedDecimal, hexDigit, hexDigits, hex8, showLine, refusedLine}
 
 -- ---- decimal, by the digits of the tenth
 
@@ -43,8 +43,8 @@ decimal-more n h = rw (le-ltb n 10 h, same-digits n (suc (n / 10)) (n / 10) (ome
 
 -- what holds of one digit, and of a number where it holds of its tenth, holds of every number
 module _ (P : ℕ → List ℕ → Type 0)
-  (one : (n : ℕ) → n < 10 → P n ((48 + n) ∷ []))
-  (more : (n : ℕ) (tenth : List ℕ) → 10 ≤ n → P (n / 10) tenth → P n (tenth ++ (48 + n % 10) ∷ [])) where
+    (one : (n : ℕ) → n < 10 → P n ((48 + n) ∷ []))
+    (more : (n : ℕ) (tenth : List ℕ) → 10 ≤ n → P (n / 10) tenth → P n (tenth ++ (48 + n % 10) ∷ [])) where
   below : (k n : ℕ) → n < k → P n (decimal n)
   below zero n h = absurd (omega arith)
   below (suc k) n h = go (ltb n 10) refl (λ h. below k (n / 10) h)

@@ -23,6 +23,10 @@ put xs o = output (sets (o .bytes) (o .next) xs) (o .next + length xs)
 pub record Room (xs : List ℕ) (o : Output) : Type 0 where
   pub enough : o .next + length xs ≤ length (o .bytes)
 
+-- a text at the front of the buffer b, and the bytes of b that it does not reach
+abbrev pub atFront : List ℕ → List ℕ → Output
+atFront xs b = output (xs ++ drop (length xs) b) (length xs)
+
 -- ---- laws
 
 sets-append : (xs ys b : List ℕ) (at : ℕ) → sets (sets b at xs) (at + length xs) ys ≡ sets b at (xs ++ ys)
@@ -43,10 +47,6 @@ put-one b at x = refl
 pub put-none : (b : List ℕ) (at : ℕ) → output b at ≡ put [] (output b at)
 unfolding put
 put-none b at = simp add-zero
-
-pub put-next : (xs : List ℕ) (o : Output) {o₁ : Output} → o₁ ≡ put xs o → o₁ .next ≡ o .next + length xs
-unfolding put
-put-next xs o e = rw e
 
 -- a text by another name
 pub room-same : {xs ys : List ℕ} {o : Output} → Room xs o → xs ≡ ys → Room ys o
@@ -85,7 +85,6 @@ module _ {text : List ℕ} (xs ys : List ℕ) {from o : Output} (r : Rest text (
 pub rest-end : {text xs : List ℕ} {from o o₁ : Output} → Rest text xs from o → o₁ ≡ put xs o → o₁ ≡ put text from
 rest-end r e = e ∙ r .same
 
--- at the front of a buffer a text stands before the bytes that it doesn't reach
-pub put-front : (xs b : List ℕ) → length xs ≤ length b → put xs (output b 0) ≡ output (xs ++ drop (length xs) b) (length xs)
+pub put-front : (xs b : List ℕ) {o : Output} → length xs ≤ length b → o ≡ put xs (output b 0) → o ≡ atFront xs b
 unfolding put
-put-front xs b h = let room : 0 + length xs ≤ length b = omega arith in simp (sets-eq xs b 0 room, zero-add)
+put-front xs b h e = let room : 0 + length xs ≤ length b = omega arith in rw e (simp (sets-eq xs b 0 room, zero-add))

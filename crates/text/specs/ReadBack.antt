@@ -1,12 +1,12 @@
 -- READING BACK: a number, a signed number, a cell and an outcome's word can be worked out from their texts, and texts from a line in which bytes that they
 -- don't have stand between them.
 use Prim.Native.Nat.{ℕ, zero, suc, _+_, _*_, _-_, _/_, _%_, _^_, _≤_, _<_}
-use mathlib.Core.Path.{_≡_, refl, sym, ap, _∙_}
+use mathlib.Core.Path.{_≡_, refl, ap, _∙_}
 use mathlib.Core.List.{List, [], _∷_, _++_}
 use mathlib.Core.Bool.{Bool, true, false, cond, _&&_}
-use native.Mathlib.Nat.{pow-suc, pow-zero, zero-mul, zero-add}
+use native.Mathlib.Nat.{pow-suc}
 use native.Mathlib.Omega.{arith}
-use borrow.Author.Tests.{lt-ltb, le-ltb, ltb-true, ltb-false, eq-eqb, ne-eqb}
+use borrow.Author.Tests.{lt-ltb, le-ltb, ltb-true, eq-eqb, ne-eqb}
 use lib.Dec.{ltb, eqb}
 use lib.IntN.{ℤ, pos, negsuc, negℤ}
 use lib.ListN.{getD}
@@ -221,33 +221,33 @@ module _ (answer : RunAnswer) (count : ℕ) (position : ℤ) (function depth sav
       }
   unfolding showLine
   show-back h1 h2 h3 =
-    simp (
-      past-back (word-above (outcomeWord answer)),
-      past-back (number-above (outcomeDetail answer)),
-      past-back (number-above count),
-      past-back (signed-above position),
-      past-back (number-above function),
-      past-back (number-above depth),
-      past-back (number-above saved),
-      past-back (cell-above c1),
-      past-back (cell-above c2),
-      upTo-back (word-above (outcomeWord answer)),
-      upTo-back (number-above (outcomeDetail answer)),
-      upTo-back (number-above count),
-      upTo-back (signed-above position),
-      upTo-back (number-above function),
-      upTo-back (number-above depth),
-      upTo-back (number-above saved),
-      upTo-back (cell-above c1),
-      upTo-back (cell-above c2),
-      upTo-back (end-above c3),
-      word-back,
-      decimal-back,
-      signed-back,
-      hex8-back c1 h1,
-      hex8-back c2 h2,
-      hex8-back c3 h3,
-    )
+      simp (
+        past-back (word-above (outcomeWord answer)),
+        past-back (number-above (outcomeDetail answer)),
+        past-back (number-above count),
+        past-back (signed-above position),
+        past-back (number-above function),
+        past-back (number-above depth),
+        past-back (number-above saved),
+        past-back (cell-above c1),
+        past-back (cell-above c2),
+        upTo-back (word-above (outcomeWord answer)),
+        upTo-back (number-above (outcomeDetail answer)),
+        upTo-back (number-above count),
+        upTo-back (signed-above position),
+        upTo-back (number-above function),
+        upTo-back (number-above depth),
+        upTo-back (number-above saved),
+        upTo-back (cell-above c1),
+        upTo-back (cell-above c2),
+        upTo-back (end-above c3),
+        word-back,
+        decimal-back,
+        signed-back,
+        hex8-back c1 h1,
+        hex8-back c2 h2,
+        hex8-back c3 h3,
+      )
     where
       number-above : (n : ℕ) → Above 44 (decimal n)
       number-above n = above-less (omega arith) (decimal-above n)

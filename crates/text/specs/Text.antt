@@ -1,11 +1,11 @@
 -- TEXTS, as lists of ASCII codes. Document 01: "Numbers are decimal; cell contents are eight hexadecimal digits, highest first."
 use Prim.Native.Nat.{ℕ, zero, suc, _+_, _/_, _%_}
 use mathlib.Core.List.{List, [], _∷_, _++_}
-use mathlib.Core.Bool.{Bool, cond}
+use mathlib.Core.Bool.{cond}
 use lib.Dec.{ltb}
 use lib.IntN.{ℤ, pos, negsuc}
 use Rattle.definition.specs.declared.RunAnswer.{RunAnswer}
-use Rattle.definition.specs.Answers.{Word, letters, refusedWord, outcomeWord, outcomeDetail}
+use Rattle.definition.specs.Answers.{letters, refusedWord, outcomeWord, outcomeDetail}
 
 -- ---- numbers
 

@@ -9,7 +9,7 @@ ghost use lib.IntN.{natAbs};
 ghost use lib.ListN.{length};
 ghost use Rattle.definition.specs.Answers.{letters, outcomeWord, outcomeDetail};
 ghost use Rattle.text.specs.Text.{decimal, signedDecimal, hexDigit, hexDigits, hex8, furtherFields, showLine, refusedLine};
-ghost use Rattle.text.specs.Output.{output, put, Room};
+ghost use Rattle.text.specs.Output.{output, put, Room, atFront};
 
 pub fn write_byte(buf: &mut [u8], at: usize, x: u8) -> usize
     requires { ⌜ Room (x ∷ []) (output (now buf) at) ⌝ }
@@ -165,7 +165,7 @@ pub fn show_line(
     c3: u32,
 ) -> usize
     requires { ⌜ 160 ≤ length (now buf) ⌝ }
-    ensures { λ r. ⌜ output (now (buf .exit)) r ≡ put (showLine answer count pc function depth saved c1 c2 c3) (output (now (buf .entry)) 0) ⌝ }
+    ensures { λ r. ⌜ output (now (buf .exit)) r ≡ atFront (showLine answer count pc function depth saved c1 c2 c3) (now (buf .entry)) ⌝ }
     ensures { λ r. ⌜ r ≤ 160 ⌝ }
 {
     let number = detail(answer);
@@ -182,7 +182,7 @@ pub fn show_line(
 
 pub fn refused_line(buf: &mut [u8], n: u8) -> usize
     requires { ⌜ 160 ≤ length (now buf) ⌝ }
-    ensures { λ r. ⌜ output (now (buf .exit)) r ≡ put (refusedLine n) (output (now (buf .entry)) 0) ⌝ }
+    ensures { λ r. ⌜ output (now (buf .exit)) r ≡ atFront (refusedLine n) (now (buf .entry)) ⌝ }
     ensures { λ r. ⌜ r ≤ 160 ⌝ }
 {
     let mut at = write_bytes(buf, 0, b"refused");

@@ -1,10 +1,12 @@
-use borrow.Author.Needs.{needs}
-use native.Mathlib.Omega.{arith}
-use Rattle.text.specs.Output.{room-same, put-same, room-first, room-second, put-both}
-use Rattle.text.specs.Laws.{decimal-one, decimal-more}
+-- The proof of the cycle of calls {write_decimal}. The measure is the number. A number of one digit is the byte; of any other the digits of its tenth are put,
+-- and then the last. Assumes nothing.
 use Prim.Native.Nat.{ℕ, _<_}
+use native.Mathlib.Omega.{arith}
+use borrow.Author.Needs.{needs}
 use borrow.Fn.Kinds.{In}
 use borrow.Fn.PlainCycle.{Measures, is, falls, and}
+use Rattle.text.specs.Output.{room-same, put-same, room-first, room-second, put-both}
+use Rattle.text.specs.Laws.{decimal-one, decimal-more}
 use Rattle.text.proofs.write_decimal.Reads as write-decimal
 use Rattle.text.proofs.write_decimal.Kinds as write-decimal-kinds
 use Rattle.text.proofs.+write_decimal.Lts-write_decimal as write-decimal-lts
@@ -27,7 +29,6 @@ write-decimal-below t =
     (falls 1 write-decimal-kinds.ps _<_ μ-write-decimal t)
     write-decimal.Pre
 
--- src/lib.rt:39:44
 write-decimal-cast-write-byte : (t : ℕ) → write-decimal-lts.Need-cast-write-byte (
   write-byte-reads.Asked,
   write-byte-reads.Learnt,
@@ -36,7 +37,6 @@ write-decimal-cast-write-byte : (t : ℕ) → write-decimal-lts.Need-cast-write-
 ) (write-decimal-at t) write-decimal.Post
 write-decimal-cast-write-byte t c = search needs
 
--- src/lib.rt:39:36
 write-decimal-add-write-byte : (t : ℕ) → write-decimal-lts.Need-add-write-byte (
   write-byte-reads.Asked,
   write-byte-reads.Learnt,
@@ -45,7 +45,6 @@ write-decimal-add-write-byte : (t : ℕ) → write-decimal-lts.Need-add-write-by
 ) (write-decimal-at t) write-decimal.Post
 write-decimal-add-write-byte t c = search needs
 
--- src/lib.rt:39:9
 write-decimal-write-byte-requires : (t : ℕ) → write-decimal-lts.Need-write-byte-requires (
   write-byte-reads.Asked,
   write-byte-reads.Learnt,
@@ -54,7 +53,6 @@ write-decimal-write-byte-requires : (t : ℕ) → write-decimal-lts.Need-write-b
 ) (write-decimal-at t) write-decimal.Post
 write-decimal-write-byte-requires t c κs = room-same (c .before .before .before .pre .1) (decimal-one _ (search needs))
 
--- src/lib.rt:39:9
 write-decimal-same-length : (t : ℕ) → write-decimal-lts.Need-same-length (
   write-byte-reads.Asked,
   write-byte-reads.Learnt,
@@ -63,7 +61,6 @@ write-decimal-same-length : (t : ℕ) → write-decimal-lts.Need-same-length (
 ) (write-decimal-at t) write-decimal.Post
 write-decimal-same-length t c = search needs
 
--- src/lib.rt:39:9
 write-decimal-returns : (t : ℕ) → write-decimal-lts.Need-returns (
   write-byte-reads.Asked,
   write-byte-reads.Learnt,
@@ -72,7 +69,6 @@ write-decimal-returns : (t : ℕ) → write-decimal-lts.Need-returns (
 ) (write-decimal-at t) write-decimal.Post
 write-decimal-returns t c = put-same _ (c .before .before .write-byte .ensures) (decimal-one _ (search needs))
 
--- src/lib.rt:41:9
 write-decimal-write-decimal-requires : (t : ℕ) → write-decimal-lts.Need-write-decimal-requires (
   write-byte-reads.Asked,
   write-byte-reads.Learnt,
@@ -81,7 +77,6 @@ write-decimal-write-decimal-requires : (t : ℕ) → write-decimal-lts.Need-writ
 ) (write-decimal-at t) write-decimal.Post
 write-decimal-write-decimal-requires t c κs = (omega arith, room-first _ _ _ (decimal-more _ (search needs)) (search needs))
 
--- src/lib.rt:42:35
 write-decimal-cast-write-byte-2 : (t : ℕ) → write-decimal-lts.Need-cast-write-byte-2 (
   write-byte-reads.Asked,
   write-byte-reads.Learnt,
@@ -90,7 +85,6 @@ write-decimal-cast-write-byte-2 : (t : ℕ) → write-decimal-lts.Need-cast-writ
 ) (write-decimal-at t) write-decimal.Post
 write-decimal-cast-write-byte-2 t c = search needs
 
--- src/lib.rt:42:27
 write-decimal-add-write-byte-2 : (t : ℕ) → write-decimal-lts.Need-add-write-byte-2 (
   write-byte-reads.Asked,
   write-byte-reads.Learnt,
@@ -99,7 +93,6 @@ write-decimal-add-write-byte-2 : (t : ℕ) → write-decimal-lts.Need-add-write-
 ) (write-decimal-at t) write-decimal.Post
 write-decimal-add-write-byte-2 t c = search needs
 
--- src/lib.rt:42:5
 write-decimal-write-byte-requires-2 : (t : ℕ) → write-decimal-lts.Need-write-byte-requires-2 (
   write-byte-reads.Asked,
   write-byte-reads.Learnt,
@@ -108,7 +101,6 @@ write-decimal-write-byte-requires-2 : (t : ℕ) → write-decimal-lts.Need-write
 ) (write-decimal-at t) write-decimal.Post
 write-decimal-write-byte-requires-2 t c κs = room-second _ _ _ (decimal-more _ (search needs)) (c .before .before .before .write-decimal .ensures) (search needs)
 
--- src/lib.rt:34:1
 write-decimal-same-length-2 : (t : ℕ) → write-decimal-lts.Need-same-length-2 (
   write-byte-reads.Asked,
   write-byte-reads.Learnt,
@@ -117,7 +109,6 @@ write-decimal-same-length-2 : (t : ℕ) → write-decimal-lts.Need-same-length-2
 ) (write-decimal-at t) write-decimal.Post
 write-decimal-same-length-2 t c = omega arith
 
--- src/lib.rt:34:1
 write-decimal-returns-2 : (t : ℕ) → write-decimal-lts.Need-returns-2 (
   write-byte-reads.Asked,
   write-byte-reads.Learnt,

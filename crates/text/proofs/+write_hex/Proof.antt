@@ -1,11 +1,13 @@
-use borrow.Author.Needs.{needs}
-use native.Mathlib.Omega.{arith}
-use Rattle.text.specs.Output.{put-none, put-same, room-first, room-second, put-both}
-use Rattle.text.specs.Laws.{hex-none, hex-more}
+-- The proof of the cycle of calls {write_hex}. The measure is how many digits are asked for. The digits of the sixteenth are put, and then the last. Assumes
+-- nothing.
 use Prim.Native.Nat.{ℕ, _<_}
 use mathlib.Core.Path.{refl}
+use native.Mathlib.Omega.{arith}
+use borrow.Author.Needs.{needs}
 use borrow.Fn.Kinds.{In}
 use borrow.Fn.PlainCycle.{Measures, is, falls, and}
+use Rattle.text.specs.Output.{put-none, put-same, room-first, room-second, put-both}
+use Rattle.text.specs.Laws.{hex-none, hex-more}
 use Rattle.text.proofs.write_hex.Reads as write-hex
 use Rattle.text.proofs.write_hex.Kinds as write-hex-kinds
 use Rattle.text.proofs.+write_hex.Lts-write_hex as write-hex-lts
@@ -24,7 +26,6 @@ abbrev write-hex-below : ℕ → In 1 write-hex-kinds.ps
 write-hex-below t =
     and 1 write-hex-kinds.ps (falls 1 write-hex-kinds.ps _<_ μ-write-hex t) write-hex.Pre
 
--- src/lib.rt:73:9
 write-hex-returns : (t : ℕ) → write-hex-lts.Need-returns (
   write-hex-below t,
   write-hex.Post,
@@ -35,7 +36,6 @@ write-hex-returns : (t : ℕ) → write-hex-lts.Need-returns (
 ) (write-hex-at t) write-hex.Post
 write-hex-returns t c = put-same _ (put-none _ _) (hex-none _ _ (search needs))
 
--- src/lib.rt:75:35
 write-hex-sub-write-hex : (t : ℕ) → write-hex-lts.Need-sub-write-hex (
   write-hex-below t,
   write-hex.Post,
@@ -46,7 +46,6 @@ write-hex-sub-write-hex : (t : ℕ) → write-hex-lts.Need-sub-write-hex (
 ) (write-hex-at t) write-hex.Post
 write-hex-sub-write-hex t c = omega arith
 
--- src/lib.rt:75:9
 write-hex-write-hex-requires : (t : ℕ) → write-hex-lts.Need-write-hex-requires (
   write-hex-below t,
   write-hex.Post,
@@ -57,7 +56,6 @@ write-hex-write-hex-requires : (t : ℕ) → write-hex-lts.Need-write-hex-requir
 ) (write-hex-at t) write-hex.Post
 write-hex-write-hex-requires t c κs = (omega arith, room-first _ _ _ (hex-more _ _ (search needs) refl) (search needs))
 
--- src/lib.rt:76:27
 write-hex-hex-digit-requires : (t : ℕ) → write-hex-lts.Need-hex-digit-requires (
   write-hex-below t,
   write-hex.Post,
@@ -68,7 +66,6 @@ write-hex-hex-digit-requires : (t : ℕ) → write-hex-lts.Need-hex-digit-requir
 ) (write-hex-at t) write-hex.Post
 write-hex-hex-digit-requires t c κs = search needs
 
--- src/lib.rt:76:5
 write-hex-write-byte-requires : (t : ℕ) → write-hex-lts.Need-write-byte-requires (
   write-hex-below t,
   write-hex.Post,
@@ -79,7 +76,6 @@ write-hex-write-byte-requires : (t : ℕ) → write-hex-lts.Need-write-byte-requ
 ) (write-hex-at t) write-hex.Post
 write-hex-write-byte-requires t c κs = room-second _ _ _ (hex-more _ _ (search needs) (c .hex-digit .ensures)) (c .before .before .before .before .write-hex .ensures) (search needs)
 
--- src/lib.rt:68:1
 write-hex-same-length : (t : ℕ) → write-hex-lts.Need-same-length (
   write-hex-below t,
   write-hex.Post,
@@ -90,7 +86,6 @@ write-hex-same-length : (t : ℕ) → write-hex-lts.Need-same-length (
 ) (write-hex-at t) write-hex.Post
 write-hex-same-length t c = omega arith
 
--- src/lib.rt:68:1
 write-hex-returns-2 : (t : ℕ) → write-hex-lts.Need-returns-2 (
   write-hex-below t,
   write-hex.Post,

@@ -1,13 +1,11 @@
 -- `text::magnitude` meets its contract: below 0, what the number is short of -1 fits, and is one less than its size. Assumes nothing.
-use borrow.Author.Needs.{needs}
 use native.Mathlib.Omega.{arith}
+use borrow.Author.Needs.{needs}
 use mir.Syntax.{w64}
 use mir.Facts.{toZ-pos}
 use Rattle.text.proofs.Signed.{short-of-minus-one, without-sign, cast-above}
 use Rattle.text.proofs.magnitude.Statement.{statement}
 use Rattle.text.proofs.magnitude.Tie as tie
-use Rattle.text.proofs.magnitude.Reads as reads
-use Rattle.text.proofs.magnitude.Lts as lts
 
 sub-result : tie.Need-sub-result
 sub-result c = rw (short-of-minus-one _ (c .before .fits .n) (c .if1 .taken)) (record { sfits = c .before .fits .n .sfits })

@@ -1,6 +1,6 @@
 -- `text::refused_line` meets its contract: each call puts the next part of the line. Assumes nothing.
 use Prim.Native.Nat.{ℕ, _≤_}
-use mathlib.Core.Path.{refl}
+use mathlib.Core.Path.{refl, ap}
 use mathlib.Core.List.{List, [], _∷_, _++_}
 use native.Mathlib.Omega.{arith}
 use borrow.Author.Needs.{needs}
@@ -8,7 +8,7 @@ use denote.Ref.{now}
 use lib.ListN.{length}
 use Rattle.definition.specs.Answers.{letters, refusedWord}
 use Rattle.text.specs.Text.{decimal, furtherFields, refusedLine}
-use Rattle.text.specs.Output.{Output, output, put-next, Rest, rest-all, rest-room, rest-next, rest-end}
+use Rattle.text.specs.Output.{Output, output, put-front, Rest, rest-all, rest-room, rest-next, rest-end}
 use Rattle.text.specs.Laws.{refused-length}
 use Rattle.text.proofs.refused_line.Statement.{statement}
 use Rattle.text.proofs.refused_line.Tie as tie
@@ -31,32 +31,26 @@ left-1 c = rest-next (letters refusedWord) _ (left-0 (c .before .before .before 
 left-2 : (c : tie.After-write-field) → Left (c .before .before .before .before .before .before .before .before) (furtherFields []) (output (c .write-field .last .0) (c .write-field .result))
 left-2 c = rest-next _ _ (left-1 (c .before .before .before .before)) (c .write-field .ensures)
 
--- src/lib.rt:189:38
 slice-aggregate-write-bytes : tie.Need-slice-aggregate-write-bytes
 slice-aggregate-write-bytes c = search needs
 
--- src/lib.rt:189:9
 write-bytes-requires : tie.Need-write-bytes-requires
 write-bytes-requires c κs = rest-room (letters refusedWord) _ (left-0 (c .before .before .before))
 
--- src/lib.rt:190:5
 write-field-requires : tie.Need-write-field-requires
 write-field-requires c κs = rest-room _ _ (left-1 (c .before .before .before))
 
--- src/lib.rt:191:5
 write-byte-requires : tie.Need-write-byte-requires
 write-byte-requires c κs = left-2 (c .before .before .before) .room
 
--- src/lib.rt:184:1
 same-length : tie.Need-same-length
 same-length c = search needs
 
--- src/lib.rt:184:1
 returns : tie.Need-returns
-returns c = 
+returns c =
     let l = c .before .before .before .before .before .before in
-    let e = rest-end (left-2 l) (c .before .before .write-byte .ensures) in
-    (e, omega (arith, put-next _ _ e, line-length (l .before .before .before .before .before .before .before .before)))
+    let e = put-front _ _ (omega (arith, line-length (l .before .before .before .before .before .before .before .before))) (rest-end (left-2 l) (c .before .before .write-byte .ensures)) in
+    (e, omega (arith, ap (λ (o : Output). o .next) e, line-length (l .before .before .before .before .before .before .before .before)))
 
 pub refused-line-spec : {M : Type 1} → statement M
 refused-line-spec =

@@ -1,6 +1,6 @@
 -- `text::show_line` meets its contract: each call puts the next part of the line. Assumes nothing.
 use Prim.Native.Nat.{ℕ, _≤_}
-use mathlib.Core.Path.{_≡_}
+use mathlib.Core.Path.{ap}
 use mathlib.Core.List.{List, [], _∷_, _++_}
 use native.Mathlib.Omega.{arith}
 use borrow.Author.Needs.{needs}
@@ -11,12 +11,10 @@ use mir.Val.{toZ, ofZ}
 use mir.Facts.{toZ-ofZ}
 use Rattle.definition.specs.Answers.{letters, outcomeWord}
 use Rattle.text.specs.Text.{decimal, signedDecimal, hex8, furtherFields, showLine}
-use Rattle.text.specs.Output.{Output, output, put-next, Rest, rest-all, rest-room, rest-next, rest-end}
+use Rattle.text.specs.Output.{Output, output, put-front, Rest, rest-all, rest-room, rest-next, rest-end}
 use Rattle.text.specs.Laws.{show-length}
 use Rattle.text.proofs.show_line.Statement.{statement}
 use Rattle.text.proofs.show_line.Tie as tie
-use Rattle.text.proofs.show_line.Reads as reads
-use Rattle.text.proofs.show_line.Lts as lts
 
 -- the line; the fields after the first, as the calls write them; and what is left of the line from field k on, where the output is o
 
@@ -98,60 +96,47 @@ d8 c = d7 (c .before .before .before .before)
 left-8 : (c : tie.After-write-field5) → Left (d8 c) (furtherFields (drop 6 (fields (d8 c)))) (output (c .write-field5 .last .0) (c .write-field5 .result))
 left-8 c = rest-next _ _ (left-7 (c .before .before .before .before)) (c .write-field5 .ensures)
 
--- src/lib.rt:172:9
 detail-requires : tie.Need-detail-requires
 detail-requires c κs = search needs
 
--- src/lib.rt:173:9
 write-word-requires : tie.Need-write-word-requires
 write-word-requires c κs = rest-room _ _ (left-0 (c .before))
 
--- src/lib.rt:174:31
 cast-write-field : tie.Need-cast-write-field
 cast-write-field c = search needs
 
--- src/lib.rt:174:5
 write-field-requires : tie.Need-write-field-requires
 write-field-requires c κs = rest-room _ _ (left-1 (c .before .before .before))
 
--- src/lib.rt:175:5
 write-field-requires-2 : tie.Need-write-field-requires-2
 write-field-requires-2 c κs = rest-room _ _ (left-2 (c .before .before .before))
 
--- src/lib.rt:176:5
 write-byte-requires : tie.Need-write-byte-requires
 write-byte-requires c κs = rest-room (44 ∷ []) _ (left-3 (c .before .before .before))
 
--- src/lib.rt:177:5
 write-signed-requires : tie.Need-write-signed-requires
 write-signed-requires c κs = rest-room _ _ (left-4 (c .before .before .before))
 
--- src/lib.rt:178:5
 write-field-requires-3 : tie.Need-write-field-requires-3
 write-field-requires-3 c κs = rest-room _ _ (left-5 (c .before .before .before))
 
--- src/lib.rt:179:5
 write-field-requires-4 : tie.Need-write-field-requires-4
 write-field-requires-4 c κs = rest-room _ _ (left-6 (c .before .before .before))
 
--- src/lib.rt:180:5
 write-field-requires-5 : tie.Need-write-field-requires-5
 write-field-requires-5 c κs = rest-room _ _ (left-7 (c .before .before .before))
 
--- src/lib.rt:181:5
 write-cells-requires : tie.Need-write-cells-requires
 write-cells-requires c κs = left-8 (c .before .before .before) .room
 
--- src/lib.rt:156:1
 same-length : tie.Need-same-length
 same-length c = search needs
 
--- src/lib.rt:156:1
 returns : tie.Need-returns
-returns c = 
+returns c =
     let l = c .before .before .before .before .before .before in
-    let e = rest-end (left-8 l) (c .before .before .write-cells .ensures) in
-    (e, omega (arith, put-next _ _ e, line-length (d8 l)))
+    let e = put-front _ _ (omega (arith, line-length (d8 l), d8 l .before .before .pre)) (rest-end (left-8 l) (c .before .before .write-cells .ensures)) in
+    (e, omega (arith, ap (λ (o : Output). o .next) e, line-length (d8 l)))
 
 pub show-line-spec : {M : Type 1} → statement M
 show-line-spec =

@@ -1,8 +1,8 @@
 -- `text::write_bytes` meets its contract. The loop's invariant: the first i bytes are put. The measure is what is left of them. Assumes nothing.
-use Prim.Native.Nat.{ℕ, suc, _+_, _-_, _≤_, _<_}
-use mathlib.Core.Path.{_≡_, refl, ap, _∙_}
+use Prim.Native.Nat.{ℕ, _+_, _-_, _≤_, _<_}
+use mathlib.Core.Path.{_≡_, refl}
 use mathlib.Core.List.{List, [], _∷_, _++_}
-use native.Mathlib.Nat.{add-zero, add-assoc}
+use native.Mathlib.Nat.{add-assoc}
 use native.Mathlib.Numerals.{add-one}
 use native.Mathlib.Omega.{arith}
 use borrow.Author.Needs.{needs}
@@ -11,8 +11,6 @@ use lib.Seq.{take-suc, take-all}
 use Rattle.text.specs.Output.{Output, output, put, put-one, put-both}
 use Rattle.text.proofs.write_bytes.Statement.{statement}
 use Rattle.text.proofs.write_bytes.Tie as tie
-use Rattle.text.proofs.write_bytes.Reads as reads
-use Rattle.text.proofs.write_bytes.Lts as lts
 
 abbrev Inv-loop : tie.InvT-loop
 Inv-loop buf₀ at xs i₀ buf i = ((i ≤ length xs) × (length buf ≡ length buf₀)) × (output buf (at + i) ≡ put (take i xs) (output buf₀ at))

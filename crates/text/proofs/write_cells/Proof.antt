@@ -1,16 +1,13 @@
+-- `text::write_cells` meets its contract: each call puts the next part of the text. Assumes nothing.
 use Prim.Native.Nat.{ℕ}
 use mathlib.Core.List.{List, [], _∷_}
 use mathlib.Core.Path.{refl}
+use borrow.Author.Needs.{needs}
 use denote.Ref.{now}
 use Rattle.text.specs.Text.{hex8, furtherFields}
 use Rattle.text.specs.Output.{Output, output, Rest, rest-all, rest-room, rest-next, rest-end}
-use borrow.Author.Needs.{needs}
 use Rattle.text.proofs.write_cells.Statement.{statement}
 use Rattle.text.proofs.write_cells.Tie as tie
-use Rattle.text.proofs.write_cells.Reads as reads
-use Rattle.text.proofs.write_cells.Lts as lts
-use Rattle.text.proofs.write_byte.Reads as write-byte-reads
-use Rattle.text.proofs.write_cell_field.Reads as write-cell-field-reads
 
 -- what is left to be written: at first, and after the first, second and third field
 
@@ -35,23 +32,18 @@ rest-3 c = rest-next _ _ (rest-2 (c .before .before .before .before)) (c .write-
 write-cell-field-requires : tie.Need-write-cell-field-requires
 write-cell-field-requires c κs = rest-room _ _ (rest-0 (c .before .before))
 
--- src/lib.rt:166:9
 write-cell-field-requires-2 : tie.Need-write-cell-field-requires-2
 write-cell-field-requires-2 c κs = rest-room _ _ (rest-1 (c .before .before .before))
 
--- src/lib.rt:167:9
 write-cell-field-requires-3 : tie.Need-write-cell-field-requires-3
 write-cell-field-requires-3 c κs = rest-room _ _ (rest-2 (c .before .before .before))
 
--- src/lib.rt:168:5
 write-byte-requires : tie.Need-write-byte-requires
 write-byte-requires c κs = rest-3 (c .before .before .before) .room
 
--- src/lib.rt:161:1
 same-length : tie.Need-same-length
 same-length c = search needs
 
--- src/lib.rt:161:1
 returns : tie.Need-returns
 returns c = rest-end (rest-3 (c .before .before .before .before .before .before)) (c .before .before .write-byte .ensures)
 

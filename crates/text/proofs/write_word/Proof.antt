@@ -1,112 +1,84 @@
-use Rattle.text.specs.Output.{room-same, put-same}
+-- `text::write_word` meets its contract: at each answer the bytes are the word's letters. Assumes nothing.
 use borrow.Author.Needs.{needs}
+use Rattle.text.specs.Output.{room-same, put-same}
 use Rattle.text.proofs.write_word.Statement.{statement}
 use Rattle.text.proofs.write_word.Tie as tie
-use Rattle.text.proofs.write_word.Reads as reads
-use Rattle.text.proofs.write_word.Lts as lts
-use Rattle.text.proofs.write_bytes.Reads as write-bytes-reads
 
--- src/lib.rt:101:48
 enum-told : tie.Need-enum-told
 enum-told c = search needs
 
--- src/lib.rt:101:57
 slice-aggregate-write-bytes : tie.Need-slice-aggregate-write-bytes
 slice-aggregate-write-bytes c = search needs
 
--- src/lib.rt:101:29
 write-bytes-requires : tie.Need-write-bytes-requires
 write-bytes-requires c κs = room-same (c .before .before .before .before .before .pre) (cc)
 
--- src/lib.rt:101:29
 same-length : tie.Need-same-length
 same-length c = search needs
 
--- src/lib.rt:101:29
 returns : tie.Need-returns
 returns c = put-same _ (c .before .before .write-bytes .ensures) (cc)
 
--- src/lib.rt:102:48
 enum-told-2 : tie.Need-enum-told-2
 enum-told-2 c = search needs
 
--- src/lib.rt:102:57
 slice-aggregate-write-bytes-2 : tie.Need-slice-aggregate-write-bytes-2
 slice-aggregate-write-bytes-2 c = search needs
 
--- src/lib.rt:102:29
 write-bytes-requires-2 : tie.Need-write-bytes-requires-2
 write-bytes-requires-2 c κs = room-same (c .before .before .before .before .before .pre) (cc)
 
--- src/lib.rt:102:29
 same-length-2 : tie.Need-same-length-2
 same-length-2 c = search needs
 
--- src/lib.rt:102:29
 returns-2 : tie.Need-returns-2
 returns-2 c = put-same _ (c .before .before .write-bytes2 .ensures) (cc)
 
--- src/lib.rt:103:53
 enum-told-3 : tie.Need-enum-told-3
 enum-told-3 c = search needs
 
--- src/lib.rt:103:62
 slice-aggregate-write-bytes-3 : tie.Need-slice-aggregate-write-bytes-3
 slice-aggregate-write-bytes-3 c = search needs
 
--- src/lib.rt:103:34
 write-bytes-requires-3 : tie.Need-write-bytes-requires-3
 write-bytes-requires-3 c κs = room-same (c .before .before .before .before .before .pre) (cc)
 
--- src/lib.rt:103:34
 same-length-3 : tie.Need-same-length-3
 same-length-3 c = search needs
 
--- src/lib.rt:103:34
 returns-3 : tie.Need-returns-3
 returns-3 c = put-same _ (c .before .before .write-bytes3 .ensures) (cc)
 
--- src/lib.rt:104:31
 enum-known-answer : tie.Need-enum-known-answer
 enum-known-answer c = search needs
 
--- src/lib.rt:105:56
 enum-told-4 : tie.Need-enum-told-4
 enum-told-4 c = search needs
 
--- src/lib.rt:105:65
 slice-aggregate-write-bytes-4 : tie.Need-slice-aggregate-write-bytes-4
 slice-aggregate-write-bytes-4 c = search needs
 
--- src/lib.rt:105:37
 write-bytes-requires-4 : tie.Need-write-bytes-requires-4
 write-bytes-requires-4 c κs = room-same (c .before .before .before .before .before .before .before .before .pre) (cc)
 
--- src/lib.rt:105:37
 same-length-4 : tie.Need-same-length-4
 same-length-4 c = search needs
 
--- src/lib.rt:105:37
 returns-4 : tie.Need-returns-4
 returns-4 c = put-same _ (c .before .before .write-bytes4 .ensures) (cc)
 
--- src/lib.rt:106:55
 enum-told-5 : tie.Need-enum-told-5
 enum-told-5 c = search needs
 
--- src/lib.rt:106:64
 slice-aggregate-write-bytes-5 : tie.Need-slice-aggregate-write-bytes-5
 slice-aggregate-write-bytes-5 c = search needs
 
--- src/lib.rt:106:36
 write-bytes-requires-5 : tie.Need-write-bytes-requires-5
 write-bytes-requires-5 c κs = room-same (c .before .before .before .before .before .before .before .before .pre) (cc)
 
--- src/lib.rt:106:36
 same-length-5 : tie.Need-same-length-5
 same-length-5 c = search needs
 
--- src/lib.rt:106:36
 returns-5 : tie.Need-returns-5
 returns-5 c = put-same _ (c .before .before .write-bytes5 .ensures) (cc)
 
