@@ -54,12 +54,12 @@ module _ (z : ℤ) (fits : SFits w64 z) where
     pub without-sign : mag z + 1 ≡ natAbs z
     without-sign = unsigned z (rw (toZ-ofZ fits) at t)
 
-    pub signed-below : {n : ℕ} → n ≡ natAbs (toZ w64 (ofZ w64 z)) → signedDecimal z ≡ (45 ∷ []) ++ decimal n
-    signed-below e = rw (e, toZ-ofZ fits) (minus z (rw (toZ-ofZ fits) at t))
+    pub negative-text : {n : ℕ} → n ≡ natAbs (toZ w64 (ofZ w64 z)) → signedDecimal z ≡ (45 ∷ []) ++ decimal n
+    negative-text e = rw (e, toZ-ofZ fits) (minus z (rw (toZ-ofZ fits) at t))
 
   module _ (t : ltZ (toZ w64 (ofZ w64 z)) (pos 0) ≡ false) where
     pub cast-above : T (nonNeg (toZ w64 (ofZ w64 z))) × Fits w64 (natAbs (toZ w64 (ofZ w64 z)))
     cast-above = rw (toZ-ofZ fits) (whole z fits (rw (toZ-ofZ fits) at t))
 
-    pub signed-above : {n : ℕ} → n ≡ natAbs (toZ w64 (ofZ w64 z)) → signedDecimal z ≡ decimal n
-    signed-above e = rw (e, toZ-ofZ fits) (plain z (rw (toZ-ofZ fits) at t))
+    pub natural-text : {n : ℕ} → n ≡ natAbs (toZ w64 (ofZ w64 z)) → signedDecimal z ≡ decimal n
+    natural-text e = rw (e, toZ-ofZ fits) (plain z (rw (toZ-ofZ fits) at t))

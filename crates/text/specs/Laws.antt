@@ -1,4 +1,4 @@
--- LAWS of the texts: how the digits of a number follow from those of its tenth, how long a text can be, and that the fields of a line can be read back.
+-- LAWS of the texts: how the digits of a number follow from those of its tenth or sixteenth, and how long a text can be.
 use Prim.Native.Nat.{ℕ, zero, suc, _+_, _-_, _/_, _%_, _^_, _≤_, _<_, suc-le-suc}
 use mathlib.Core.Path.{_≡_, refl}
 use mathlib.Core.List.{List, [], _∷_, _++_}
@@ -94,7 +94,7 @@ pub hex8-length : (n : ℕ) → length (hex8 n) ≡ 8
 unfolding hex8 hexDigits
 hex8-length n = refl
 
-word-7 : (answer : RunAnswer) → length (letters (outcomeWord answer)) ≤ 7
+pub word-7 : (answer : RunAnswer) → length (letters (outcomeWord answer)) ≤ 7
 word-7 run.Ended = lit≤ tt
 word-7 run.Spent = lit≤ tt
 word-7 (run.Refused n) = lit≤ tt

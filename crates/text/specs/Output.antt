@@ -5,7 +5,7 @@ use mathlib.Core.Path.{_≡_, refl, sym, ap, _∙_, subst}
 use mathlib.Core.List.{List, [], _∷_, _++_}
 use native.Mathlib.Nat.{add-zero, add-assoc, zero-add}
 use native.Mathlib.Omega.{arith}
-use lib.ListN.{length, drop, set, length-append}
+use lib.ListN.{length, take, drop, set, length-append}
 use lib.Seq.{sets, length-sets, sets-eq}
 
 pub record Output : Type 0 where
@@ -85,6 +85,11 @@ module _ {text : List ℕ} (xs ys : List ℕ) {from o : Output} (r : Rest text (
 pub rest-end : {text xs : List ℕ} {from o o₁ : Output} → Rest text xs from o → o₁ ≡ put xs o → o₁ ≡ put text from
 rest-end r e = e ∙ r .same
 
-pub put-front : (xs b : List ℕ) {o : Output} → length xs ≤ length b → o ≡ put xs (output b 0) → o ≡ atFront xs b
+-- what `put` leaves, in the bytes as they were: those before the place, the text, and those after it
+pub put-at : (xs : List ℕ) (o : Output) → Room xs o
+    → put xs o ≡ output (take (o .next) (o .bytes) ++ xs ++ drop (o .next + length xs) (o .bytes)) (o .next + length xs)
 unfolding put
-put-front xs b h e = let room : 0 + length xs ≤ length b = omega arith in rw e (simp (sets-eq xs b 0 room, zero-add))
+put-at xs o h = rw (sets-eq xs (o .bytes) (o .next) (h .enough))
+
+pub put-front : (xs b : List ℕ) {o : Output} → length xs ≤ length b → o ≡ put xs (output b 0) → o ≡ atFront xs b
+put-front xs b h e = rw (e, put-at xs (output b 0) (omega arith)) (simp zero-add)

@@ -6,7 +6,7 @@ use mathlib.Core.List.{List, [], _∷_, _++_}
 use mathlib.Core.Bool.{Bool, true, false, cond, _&&_}
 use native.Mathlib.Nat.{pow-suc}
 use native.Mathlib.Omega.{arith}
-use borrow.Author.Tests.{lt-ltb, le-ltb, ltb-true, eq-eqb, ne-eqb}
+use borrow.Author.Tests.{lt-ltb, le-ltb, ltb-true, ltb-false, eq-eqb, ne-eqb}
 use lib.Dec.{ltb, eqb}
 use lib.IntN.{ℤ, pos, negsuc, negℤ}
 use lib.ListN.{getD}
@@ -17,10 +17,11 @@ use Rattle.text.specs.Laws.{decimal-ind}
 
 -- ---- numbers
 
+-- 0 to 9 from 48 on, and a, which stands for 10, from 97 on
 abbrev digitValue : ℕ → ℕ
 digitValue x = cond (ltb x 58) (x - 48) (x - 87)
 
--- the number of more digits, after those that make `so far`
+-- the number that the digits make, after others that make `soFar`
 abbrev pub numberFrom : ℕ → ℕ → List ℕ → ℕ
 numberFrom base soFar [] = soFar
 numberFrom base soFar (x ∷ xs) = numberFrom base (soFar * base + digitValue x) xs
@@ -39,9 +40,9 @@ hex-digit : (d : ℕ) → d < 16 → digitValue (hexDigit d) ≡ d
 unfolding hexDigit
 hex-digit d h = go (ltb d 10) refl
   where
-    go : (t : Bool) → ltb d 10 ≡ t → digitValue (cond (ltb d 10) (48 + d) (87 + d)) ≡ d
+    go : (t : Bool) → ltb d 10 ≡ t → digitValue (cond (ltb d 10) (48 + d) (97 + (d - 10))) ≡ d
     go true e = rw e (decimal-digit d (ltb-true d 10 e))
-    go false e = rw (e, le-ltb (87 + d) 58 (omega arith)) (omega arith)
+    go false e = rw (e, le-ltb (97 + (d - 10)) 58 (omega arith)) (omega (arith, ltb-false d 10 e))
 
 pub decimal-back : (n : ℕ) → number 10 (decimal n) ≡ n
 decimal-back =
@@ -82,18 +83,18 @@ above-less {c} {d} l (more {x = x} h hs) = let k : d < x = omega arith in more k
 pub decimal-above : (n : ℕ) → Above 47 (decimal n)
 decimal-above = decimal-ind (λ n xs. Above 47 xs) (λ n h. more (omega arith) none) (λ n tenth h t. above-last t (omega arith))
 
-low : (d : ℕ) → 47 < hexDigit d
+hexDigit-above : (d : ℕ) → 47 < hexDigit d
 unfolding hexDigit
-low d = go (ltb d 10)
+hexDigit-above d = go (ltb d 10)
   where
-    go : (t : Bool) → 47 < cond t (48 + d) (87 + d)
+    go : (t : Bool) → 47 < cond t (48 + d) (97 + (d - 10))
     go true = omega arith
     go false = omega arith
 
 hex-above : (k n : ℕ) → Above 47 (hexDigits k n)
 unfolding hexDigits
 hex-above zero n = none
-hex-above (suc k) n = above-last (hex-above k (n / 16)) (low (n % 16))
+hex-above (suc k) n = above-last (hex-above k (n / 16)) (hexDigit-above (n % 16))
 
 pub hex8-above : (n : ℕ) → Above 47 (hex8 n)
 unfolding hex8
@@ -153,7 +154,7 @@ word-above opcode = tested 44 _ refl
 
 abbrev pub upTo : ℕ → List ℕ → List ℕ
 upTo c [] = []
-upTo c (x ∷ xs) = let more = x ∷ upTo c xs in cond (eqb x c) [] more
+upTo c (x ∷ xs) = let longer = x ∷ upTo c xs in cond (eqb x c) [] longer
 
 abbrev pub past : ℕ → List ℕ → List ℕ
 past c [] = []

@@ -1,5 +1,5 @@
 -- TEXTS, as lists of ASCII codes. Document 01: "Numbers are decimal; cell contents are eight hexadecimal digits, highest first."
-use Prim.Native.Nat.{ℕ, zero, suc, _+_, _/_, _%_}
+use Prim.Native.Nat.{ℕ, zero, suc, _+_, _-_, _/_, _%_}
 use mathlib.Core.List.{List, [], _∷_, _++_}
 use mathlib.Core.Bool.{cond}
 use lib.Dec.{ltb}
@@ -7,7 +7,16 @@ use lib.IntN.{ℤ, pos, negsuc}
 use Rattle.definition.specs.declared.RunAnswer.{RunAnswer}
 use Rattle.definition.specs.Answers.{letters, refusedWord, outcomeWord, outcomeDetail}
 
--- ---- numbers
+abbrev pub newline : ℕ
+newline = 10
+
+abbrev pub comma : ℕ
+comma = 44
+
+abbrev pub minus : ℕ
+minus = 45
+
+-- ---- numbers, with 48 for the digit 0 and 97 for a
 
 -- The digits of n, highest first and none leading, of which there are at most `most`. The longer text is bound by a `let`, since antt would compute it
 -- for a last digit too, down to the end of `most`.
@@ -23,11 +32,11 @@ decimal n = decimalDigits (suc n) n
 
 unfoldable pub signedDecimal : ℤ → List ℕ
 signedDecimal (pos n) = decimal n
-signedDecimal (negsuc n) = 45 ∷ decimal (suc n)
+signedDecimal (negsuc n) = minus ∷ decimal (suc n)
 
 -- 0 to 9, then a to f
 unfoldable pub hexDigit : ℕ → ℕ
-hexDigit d = cond (ltb d 10) (48 + d) (87 + d)
+hexDigit d = cond (ltb d 10) (48 + d) (97 + (d - 10))
 
 -- the lowest k digits of n, highest first
 unfoldable pub hexDigits : ℕ → ℕ → List ℕ
@@ -41,8 +50,8 @@ hex8 n = hexDigits 8 n
 
 -- fields, each after a comma, and the end of the line
 abbrev pub furtherFields : List (List ℕ) → List ℕ
-furtherFields [] = 10 ∷ []
-furtherFields (x ∷ xs) = (44 ∷ x) ++ furtherFields xs
+furtherFields [] = newline ∷ []
+furtherFields (x ∷ xs) = (comma ∷ x) ++ furtherFields xs
 
 -- "prints one line: outcome (ended, spent, refused, builtin or opcode), detail (a number, else 0), statements, position, function, depth, saved,
 -- cells 1 to 3"

@@ -8,7 +8,7 @@ ghost use Prim.Native.Nat.{_≤_, _<_};
 ghost use lib.IntN.{natAbs};
 ghost use lib.ListN.{length};
 ghost use Rattle.definition.specs.Answers.{letters, outcomeWord, outcomeDetail};
-ghost use Rattle.text.specs.Text.{decimal, signedDecimal, hexDigit, hexDigits, hex8, furtherFields, showLine, refusedLine};
+ghost use Rattle.text.specs.Text.{comma, decimal, signedDecimal, hexDigit, hexDigits, hex8, furtherFields, showLine, refusedLine};
 ghost use Rattle.text.specs.Output.{output, put, Room, atFront};
 
 pub fn write_byte(buf: &mut [u8], at: usize, x: u8) -> usize
@@ -43,7 +43,7 @@ pub fn write_decimal(buf: &mut [u8], at: usize, n: u64) -> usize
     write_byte(buf, last, b'0' + ((n % 10) as u8))
 }
 
-// The least i64 has no negative that is an i64.
+// The number without its sign. The least i64 has no negative that is an i64, so what it is short of -1 is taken.
 fn magnitude(n: i64) -> u64
     ensures { λ r. ⌜ r ≡ natAbs n ⌝ }
 {
@@ -72,7 +72,7 @@ fn hex_digit(d: u32) -> u8
     if d < 10 {
         return b'0' + (d as u8);
     }
-    87 + (d as u8)
+    b'a' + ((d - 10) as u8)
 }
 
 // The lowest k digits: those of the sixteenth, and then the last one.
@@ -109,7 +109,7 @@ pub fn write_word(buf: &mut [u8], at: usize, answer: RunAnswer) -> usize
     }
 }
 
-pub fn detail(answer: RunAnswer) -> u32
+pub fn outcome_detail(answer: RunAnswer) -> u32
     ensures { λ r. ⌜ r ≡ outcomeDetail answer ⌝ }
 {
     match answer {
@@ -126,16 +126,16 @@ pub fn detail(answer: RunAnswer) -> u32
 // ---- the show program's line
 
 fn write_field(buf: &mut [u8], at: usize, n: u64) -> usize
-    requires { ⌜ Room (44 ∷ decimal n) (output (now buf) at) ⌝ }
-    ensures { λ r. ⌜ output (now (buf .exit)) r ≡ put (44 ∷ decimal n) (output (now (buf .entry)) at) ⌝ }
+    requires { ⌜ Room (comma ∷ decimal n) (output (now buf) at) ⌝ }
+    ensures { λ r. ⌜ output (now (buf .exit)) r ≡ put (comma ∷ decimal n) (output (now (buf .entry)) at) ⌝ }
 {
     let next = write_byte(buf, at, b',');
     write_decimal(buf, next, n)
 }
 
 fn write_cell_field(buf: &mut [u8], at: usize, n: u32) -> usize
-    requires { ⌜ Room (44 ∷ hex8 n) (output (now buf) at) ⌝ }
-    ensures { λ r. ⌜ output (now (buf .exit)) r ≡ put (44 ∷ hex8 n) (output (now (buf .entry)) at) ⌝ }
+    requires { ⌜ Room (comma ∷ hex8 n) (output (now buf) at) ⌝ }
+    ensures { λ r. ⌜ output (now (buf .exit)) r ≡ put (comma ∷ hex8 n) (output (now (buf .entry)) at) ⌝ }
 {
     let next = write_byte(buf, at, b',');
     write_hex8(buf, next, n)
@@ -151,7 +151,7 @@ fn write_cells(buf: &mut [u8], at: usize, c1: u32, c2: u32, c3: u32) -> usize
     write_byte(buf, end, b'\n')
 }
 
-// Whatever the numbers are, the line has at most 141 bytes.
+// The line of a run, from the front of the buffer. Whatever the numbers are, it has at most 141 bytes.
 pub fn show_line(
     buf: &mut [u8],
     answer: RunAnswer,
@@ -168,7 +168,7 @@ pub fn show_line(
     ensures { λ r. ⌜ output (now (buf .exit)) r ≡ atFront (showLine answer count pc function depth saved c1 c2 c3) (now (buf .entry)) ⌝ }
     ensures { λ r. ⌜ r ≤ 160 ⌝ }
 {
-    let number = detail(answer);
+    let number = outcome_detail(answer);
     let mut at = write_word(buf, 0, answer);
     at = write_field(buf, at, number as u64);
     at = write_field(buf, at, count as u64);
@@ -180,6 +180,7 @@ pub fn show_line(
     write_cells(buf, at, c1, c2, c3)
 }
 
+// The line of a refused load.
 pub fn refused_line(buf: &mut [u8], n: u8) -> usize
     requires { ⌜ 160 ≤ length (now buf) ⌝ }
     ensures { λ r. ⌜ output (now (buf .exit)) r ≡ atFront (refusedLine n) (now (buf .entry)) ⌝ }

@@ -2,13 +2,13 @@
 use Prim.Native.Nat.{ℕ, _+_, _-_, _≤_, _<_}
 use mathlib.Core.Path.{_≡_, refl}
 use mathlib.Core.List.{List, [], _∷_, _++_}
-use native.Mathlib.Nat.{add-assoc}
+use native.Mathlib.Nat.{add-zero, add-assoc}
 use native.Mathlib.Numerals.{add-one}
 use native.Mathlib.Omega.{arith}
 use borrow.Author.Needs.{needs}
 use lib.ListN.{length, take, getD, set, length-set}
 use lib.Seq.{take-suc, take-all}
-use Rattle.text.specs.Output.{Output, output, put, put-one, put-both}
+use Rattle.text.specs.Output.{Output, output, put, put-none, put-one, put-both}
 use Rattle.text.proofs.write_bytes.Statement.{statement}
 use Rattle.text.proofs.write_bytes.Tie as tie
 
@@ -17,10 +17,6 @@ Inv-loop buf₀ at xs i₀ buf i = ((i ≤ length xs) × (length buf ≡ length 
 
 abbrev μ-loop : tie.MeasureT-loop
 μ-loop buf₀ at xs i₀ buf i = length xs - i
-
-none : (o : Output) → output (o .bytes) (o .next + 0) ≡ put [] o
-unfolding put
-none o = refl
 
 more : (xs b : List ℕ) (at i : ℕ) (o : Output) → i < length xs → output b (at + i) ≡ put (take i xs) o
     → output (set b (at + i) (getD xs i 0)) (at + (i + 1)) ≡ put (take (i + 1) xs) o
@@ -32,7 +28,7 @@ whole : (xs : List ℕ) (i : ℕ) (o : Output) {o₁ : Output} → length xs ≤
 whole xs i o h e = rw take-all at e
 
 loop-holds : tie.Need-loop-holds Inv-loop μ-loop
-loop-holds c = (omega arith, none _)
+loop-holds c = (omega arith, rw add-zero (put-none _ _))
 
 shared-slice-read-buf : tie.Need-shared-slice-read-buf Inv-loop μ-loop
 shared-slice-read-buf c = search needs

@@ -4,15 +4,15 @@ use mathlib.Core.List.{[], _∷_, _++_}
 use borrow.Author.Needs.{needs}
 use Rattle.text.specs.Text.{decimal, signedDecimal}
 use Rattle.text.specs.Output.{room-same, put-same, room-first, room-second, put-both}
-use Rattle.text.proofs.Signed.{signed-below, signed-above}
+use Rattle.text.proofs.Signed.{negative-text, natural-text}
 use Rattle.text.proofs.write_signed.Statement.{statement}
 use Rattle.text.proofs.write_signed.Tie as tie
 
 minus : (c : tie.Then1) → signedDecimal (c .before .before .before .args .n) ≡ (45 ∷ []) ++ decimal (c .before .magnitude .result)
-minus c = signed-below _ (c .before .before .before .fits .n) (c .if1 .taken) (c .before .magnitude .ensures)
+minus c = negative-text _ (c .before .before .before .fits .n) (c .if1 .taken) (c .before .magnitude .ensures)
 
 plain : (c : tie.Else1) → signedDecimal (c .before .before .before .args .n) ≡ decimal (c .before .magnitude .result)
-plain c = signed-above _ (c .before .before .before .fits .n) (c .if1 .left) (c .before .magnitude .ensures)
+plain c = natural-text _ (c .before .before .before .fits .n) (c .if1 .left) (c .before .magnitude .ensures)
 
 magnitude-requires : tie.Need-magnitude-requires
 magnitude-requires c κs = search needs
