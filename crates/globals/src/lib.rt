@@ -1,8 +1,8 @@
 // Execution of a fetched statement, over typed cells and the statements (globals.rs).
-use definition::Answer;
-use definition::Handover;
 use crate::shapes::CellOp;
 use crate::shapes::Shape;
+use definition::Answer;
+use definition::Handover;
 use functions::fetch;
 ghost use mathlib.Core.Path.{_≡_};
 ghost use mathlib.Core.Bool.{true};
@@ -33,14 +33,37 @@ pub enum Executed {
 }
 
 // A statement that writes cells.
-fn write(file: &[u8], defs: usize, ndefs: usize, count: usize, cells: &mut [u32], what: CellOp, op: u16, a: usize, b: usize, c: usize) -> Answer
+fn write(
+    file: &[u8],
+    defs: usize,
+    ndefs: usize,
+    count: usize,
+    cells: &mut [u32],
+    what: CellOp,
+    op: u16,
+    a: usize,
+    b: usize,
+    c: usize,
+) -> Answer
     requires { ⌜ (8 * ndefs ≤ length (now file) - defs) × (count ≤ length (now cells)) ⌝ }
     ensures { λ r. ⌜ after r (now (cells .exit)) ≡ effectOn (effectAs what op (typing (now (file .entry)) defs ndefs count) a b c (now (cells .entry))) (now (cells .entry)) ⌝ }
 {
     match what {
         CellOp::Floats => return ops::op_floats(file, defs, ndefs, count, cells, op, a, b, c),
         CellOp::Values(t) => return ops::op_values(file, defs, ndefs, count, cells, op, t, a, b, c),
-        CellOp::Vectors(ta, tb) => return ops::op_vectors(file, defs, ndefs, count, cells, op, ta, a, tb, b, c),
+        CellOp::Vectors(ta, tb) => return ops::op_vectors(
+            file,
+            defs,
+            ndefs,
+            count,
+            cells,
+            op,
+            ta,
+            a,
+            tb,
+            b,
+            c,
+        ),
         CellOp::Dots => return ops::op_dots(file, defs, ndefs, count, cells, op, a, b, c),
         CellOp::Strings => return ops::op_strings(file, defs, ndefs, count, cells, op, a, b, c),
         CellOp::Nots(t) => return ops::op_nots(file, defs, ndefs, count, cells, op, t, a, b, c),
@@ -62,7 +85,17 @@ fn completed(k: usize, answer: Answer) -> Executed
 }
 
 // If jumps where the float isn't zero, IfNot where it is.
-fn branch(file: &[u8], defs: usize, ndefs: usize, count: usize, cells: &[u32], k: usize, when: bool, a: usize, by: u16) -> Executed
+fn branch(
+    file: &[u8],
+    defs: usize,
+    ndefs: usize,
+    count: usize,
+    cells: &[u32],
+    k: usize,
+    when: bool,
+    a: usize,
+    by: u16,
+) -> Executed
     requires { ⌜ (8 * ndefs ≤ length (now file) - defs) × (count ≤ length (now cells)) × (k < 2147483648) ⌝ }
     ensures { λ r. ⌜ doesOf r (now (cells .entry)) ≡ branchesDo when (typing (now (file .entry)) defs ndefs count) (pos k) a (signed by) (now (cells .entry)) ⌝ }
 {
@@ -97,7 +130,16 @@ fn callee(file: &[u8], functions: usize, nfunctions: usize, value: u32) -> Execu
     Executed::Calls(f)
 }
 
-fn call(file: &[u8], defs: usize, ndefs: usize, functions: usize, nfunctions: usize, count: usize, cells: &[u32], a: usize) -> Executed
+fn call(
+    file: &[u8],
+    defs: usize,
+    ndefs: usize,
+    functions: usize,
+    nfunctions: usize,
+    count: usize,
+    cells: &[u32],
+    a: usize,
+) -> Executed
     requires { ⌜ (8 * ndefs ≤ length (now file) - defs) × (lumpFits 36 (length (now file)) (lump functions nfunctions) ≡ true) × (count ≤ length (now cells)) ⌝ }
     ensures { λ r. ⌜ doesOf r (now (cells .entry)) ≡ callDoes (functionsIn (now (file .entry)) functions nfunctions) (typing (now (file .entry)) defs ndefs count) a (now (cells .entry)) ⌝ }
 {
@@ -109,7 +151,20 @@ fn call(file: &[u8], defs: usize, ndefs: usize, functions: usize, nfunctions: us
 }
 
 // The statement k, whose opcode is op and whose operands are x, y and z.
-pub fn execute(file: &[u8], defs: usize, ndefs: usize, functions: usize, nfunctions: usize, count: usize, cells: &mut [u32], k: usize, op: u16, x: u16, y: u16, z: u16) -> Executed
+pub fn execute(
+    file: &[u8],
+    defs: usize,
+    ndefs: usize,
+    functions: usize,
+    nfunctions: usize,
+    count: usize,
+    cells: &mut [u32],
+    k: usize,
+    op: u16,
+    x: u16,
+    y: u16,
+    z: u16,
+) -> Executed
     requires { ⌜ (8 * ndefs ≤ length (now file) - defs) × (lumpFits 36 (length (now file)) (lump functions nfunctions) ≡ true) × (count ≤ length (now cells)) × (k < 2147483648) × (op < 66) ⌝ }
     ensures { λ r. ⌜ executed r (now (cells .exit)) ≡ execution (executeWith (functionsIn (now (file .entry)) functions nfunctions) (typing (now (file .entry)) defs ndefs count) (pos k) (statement op x y z) (now (cells .entry))) (now (cells .entry)) ⌝ }
 {
@@ -117,7 +172,18 @@ pub fn execute(file: &[u8], defs: usize, ndefs: usize, functions: usize, nfuncti
     let shape = shapes::shape_of(op);
     match shape {
         Shape::Cells(what) => {
-            let answer = write(file, defs, ndefs, count, cells, what, op, a, fetch::cell_of(y), fetch::cell_of(z));
+            let answer = write(
+                file,
+                defs,
+                ndefs,
+                count,
+                cells,
+                what,
+                op,
+                a,
+                fetch::cell_of(y),
+                fetch::cell_of(z),
+            );
             return completed(k, answer);
         }
         Shape::Branch(when) => return branch(file, defs, ndefs, count, cells, k, when, a, y),

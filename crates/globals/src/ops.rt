@@ -1,6 +1,6 @@
 // The statements that write cells: all is checked before anything is written. A function here stands for the Rust's functions that its comment lists.
-use definition::Answer;
 use crate::typed;
+use definition::Answer;
 ghost use mathlib.Core.Path.{_≡_};
 ghost use mathlib.Core.Bool.{_||_, false};
 ghost use lib.Dec.{eqb};
@@ -17,7 +17,15 @@ ghost use Rattle.globals.specs.Checking.{first, threeRefusal, moveRefusa
 ghost use Rattle.globals.specs.Effects.{after, effectOn};
 
 // The commonest accesses: three cells, each as a float.
-fn check_floats(file: &[u8], defs: usize, ndefs: usize, count: usize, a: usize, b: usize, c: usize) -> u8
+fn check_floats(
+    file: &[u8],
+    defs: usize,
+    ndefs: usize,
+    count: usize,
+    a: usize,
+    b: usize,
+    c: usize,
+) -> u8
     requires { ⌜ 8 * ndefs ≤ length (now file) - defs ⌝ }
     ensures { λ r. ⌜ r ≡ threeRefusal (typing (now (file .entry)) defs ndefs count) float a float b float c ⌝ }
 {
@@ -40,7 +48,17 @@ fn apply_floats(cells: &mut [u32], op: u16, a: usize, b: usize, c: usize)
 }
 
 // op_mul_f, op_div, op_add_f, op_sub_f, op_eq_f, op_ne_f, op_le, op_ge, op_lt, op_gt, op_and, op_or, op_bit_and, op_bit_or.
-pub fn op_floats(file: &[u8], defs: usize, ndefs: usize, count: usize, cells: &mut [u32], op: u16, a: usize, b: usize, c: usize) -> Answer
+pub fn op_floats(
+    file: &[u8],
+    defs: usize,
+    ndefs: usize,
+    count: usize,
+    cells: &mut [u32],
+    op: u16,
+    a: usize,
+    b: usize,
+    c: usize,
+) -> Answer
     requires { ⌜ (8 * ndefs ≤ length (now file) - defs) × (count ≤ length (now cells)) ⌝ }
     ensures { λ r. ⌜ after r (now (cells .exit)) ≡ effectOn (floatsEffect (floatOp op) (typing (now (file .entry)) defs ndefs count) a b c (now (cells .entry))) (now (cells .entry)) ⌝ }
 {
@@ -52,7 +70,17 @@ pub fn op_floats(file: &[u8], defs: usize, ndefs: usize, count: usize, cells: &m
     Answer::Accepted
 }
 
-fn check_values(file: &[u8], defs: usize, ndefs: usize, count: usize, cells: &[u32], t: u16, a: usize, b: usize, c: usize) -> u8
+fn check_values(
+    file: &[u8],
+    defs: usize,
+    ndefs: usize,
+    count: usize,
+    cells: &[u32],
+    t: u16,
+    a: usize,
+    b: usize,
+    c: usize,
+) -> u8
     requires { ⌜ (8 * ndefs ≤ length (now file) - defs) × (count ≤ length (now cells)) ⌝ }
     ensures { λ r. ⌜ r ≡ first (judge (readAccess (typing (now (file .entry)) defs ndefs count) (mustBePositive t) t a (now (cells .entry)))) (moveRefusal (typing (now (file .entry)) defs ndefs count) (mustBePositive t) t b float c (now (cells .entry))) ⌝ }
 {
@@ -61,7 +89,18 @@ fn check_values(file: &[u8], defs: usize, ndefs: usize, count: usize, cells: &[u
     if r != 0 {
         return r;
     }
-    typed::check_move(file, defs, ndefs, count, cells, positive, t, b, typed::FLOAT, c)
+    typed::check_move(
+        file,
+        defs,
+        ndefs,
+        count,
+        cells,
+        positive,
+        t,
+        b,
+        typed::FLOAT,
+        c,
+    )
 }
 
 fn apply_values(cells: &mut [u32], op: u16, a: usize, b: usize, c: usize)
@@ -72,7 +111,18 @@ fn apply_values(cells: &mut [u32], op: u16, a: usize, b: usize, c: usize)
 }
 
 // op_eq_ent, op_eq_fnc, op_ne_ent, op_ne_fnc; t is the operands' type.
-pub fn op_values(file: &[u8], defs: usize, ndefs: usize, count: usize, cells: &mut [u32], op: u16, t: u16, a: usize, b: usize, c: usize) -> Answer
+pub fn op_values(
+    file: &[u8],
+    defs: usize,
+    ndefs: usize,
+    count: usize,
+    cells: &mut [u32],
+    op: u16,
+    t: u16,
+    a: usize,
+    b: usize,
+    c: usize,
+) -> Answer
     requires { ⌜ (8 * ndefs ≤ length (now file) - defs) × (count ≤ length (now cells)) ⌝ }
     ensures { λ r. ⌜ after r (now (cells .exit)) ≡ effectOn (valuesEffect t (valueOp op) (typing (now (file .entry)) defs ndefs count) a b c (now (cells .entry))) (now (cells .entry)) ⌝ }
 {
@@ -109,7 +159,19 @@ fn apply_vectors(cells: &mut [u32], op: u16, ta: u16, a: usize, tb: u16, b: usiz
 }
 
 // op_mul_fv, op_mul_vf, op_add_v, op_sub_v; ta and tb are the operands' types.
-pub fn op_vectors(file: &[u8], defs: usize, ndefs: usize, count: usize, cells: &mut [u32], op: u16, ta: u16, a: usize, tb: u16, b: usize, c: usize) -> Answer
+pub fn op_vectors(
+    file: &[u8],
+    defs: usize,
+    ndefs: usize,
+    count: usize,
+    cells: &mut [u32],
+    op: u16,
+    ta: u16,
+    a: usize,
+    tb: u16,
+    b: usize,
+    c: usize,
+) -> Answer
     requires { ⌜ (8 * ndefs ≤ length (now file) - defs) × (count ≤ length (now cells)) ⌝ }
     ensures { λ r. ⌜ after r (now (cells .exit)) ≡ effectOn (vectorsEffect ta tb (componentOp op) (typing (now (file .entry)) defs ndefs count) a b c (now (cells .entry))) (now (cells .entry)) ⌝ }
 {
@@ -125,15 +187,44 @@ fn apply_dots(cells: &mut [u32], op: u16, a: usize, b: usize, c: usize)
     requires { ⌜ (a + 2 < length (now cells)) × (b + 2 < length (now cells)) × (c < length (now cells)) ⌝ }
     ensures { λ _. ⌜ now (cells .exit) ≡ set (now (cells .entry)) c (dotOp op (getD (now (cells .entry)) a 0) (getD (now (cells .entry)) (a + 1) 0) (getD (now (cells .entry)) (a + 2) 0) (getD (now (cells .entry)) b 0) (getD (now (cells .entry)) (b + 1) 0) (getD (now (cells .entry)) (b + 2) 0)) ⌝ }
 {
-    cells[c] = floats::dot_op(op, cells[a], cells[a + 1], cells[a + 2], cells[b], cells[b + 1], cells[b + 2]);
+    cells[c] = floats::dot_op(
+        op,
+        cells[a],
+        cells[a + 1],
+        cells[a + 2],
+        cells[b],
+        cells[b + 1],
+        cells[b + 2],
+    );
 }
 
 // op_mul_v, op_eq_v, op_ne_v.
-pub fn op_dots(file: &[u8], defs: usize, ndefs: usize, count: usize, cells: &mut [u32], op: u16, a: usize, b: usize, c: usize) -> Answer
+pub fn op_dots(
+    file: &[u8],
+    defs: usize,
+    ndefs: usize,
+    count: usize,
+    cells: &mut [u32],
+    op: u16,
+    a: usize,
+    b: usize,
+    c: usize,
+) -> Answer
     requires { ⌜ (8 * ndefs ≤ length (now file) - defs) × (count ≤ length (now cells)) ⌝ }
     ensures { λ r. ⌜ after r (now (cells .exit)) ≡ effectOn (dotsEffect (dotOp op) (typing (now (file .entry)) defs ndefs count) a b c (now (cells .entry))) (now (cells .entry)) ⌝ }
 {
-    let refusal = typed::check_three(file, defs, ndefs, count, typed::VECTOR, a, typed::VECTOR, b, typed::FLOAT, c);
+    let refusal = typed::check_three(
+        file,
+        defs,
+        ndefs,
+        count,
+        typed::VECTOR,
+        a,
+        typed::VECTOR,
+        b,
+        typed::FLOAT,
+        c,
+    );
     if refusal != 0 {
         return Answer::Refused(refusal);
     }
@@ -163,7 +254,15 @@ fn check_strings(file: &[u8], defs: usize, ndefs: usize, count: usize, a: usize,
     typed::check_cell(file, defs, ndefs, count, typed::STRING, b)
 }
 
-fn check_eq_s(file: &[u8], defs: usize, ndefs: usize, count: usize, a: usize, b: usize, c: usize) -> u8
+fn check_eq_s(
+    file: &[u8],
+    defs: usize,
+    ndefs: usize,
+    count: usize,
+    a: usize,
+    b: usize,
+    c: usize,
+) -> u8
     requires { ⌜ 8 * ndefs ≤ length (now file) - defs ⌝ }
     ensures { λ r. ⌜ r ≡ stringsRefusal (typing (now (file .entry)) defs ndefs count) a b c ⌝ }
 {
@@ -194,7 +293,17 @@ fn apply_strings(cells: &mut [u32], op: u16, a: usize, b: usize, c: usize)
 }
 
 // op_eq_s, op_ne_s.
-pub fn op_strings(file: &[u8], defs: usize, ndefs: usize, count: usize, cells: &mut [u32], op: u16, a: usize, b: usize, c: usize) -> Answer
+pub fn op_strings(
+    file: &[u8],
+    defs: usize,
+    ndefs: usize,
+    count: usize,
+    cells: &mut [u32],
+    op: u16,
+    a: usize,
+    b: usize,
+    c: usize,
+) -> Answer
     requires { ⌜ (8 * ndefs ≤ length (now file) - defs) × (count ≤ length (now cells)) ⌝ }
     ensures { λ r. ⌜ after r (now (cells .exit)) ≡ effectOn (stringsEffect (valueOp op) (typing (now (file .entry)) defs ndefs count) a b c (now (cells .entry))) (now (cells .entry)) ⌝ }
 {
@@ -214,7 +323,19 @@ fn check_unused(cell: usize) -> u8
 }
 
 // A statement with an unused operand: it reads a and writes b.
-fn check_unary(file: &[u8], defs: usize, ndefs: usize, count: usize, cells: &[u32], idle: usize, positive: bool, ta: u16, a: usize, tb: u16, b: usize) -> u8
+fn check_unary(
+    file: &[u8],
+    defs: usize,
+    ndefs: usize,
+    count: usize,
+    cells: &[u32],
+    idle: usize,
+    positive: bool,
+    ta: u16,
+    a: usize,
+    tb: u16,
+    b: usize,
+) -> u8
     requires { ⌜ (8 * ndefs ≤ length (now file) - defs) × (count ≤ length (now cells)) ⌝ }
     ensures { λ r. ⌜ r ≡ first (judge (unused idle)) (moveRefusal (typing (now (file .entry)) defs ndefs count) positive ta a tb b (now (cells .entry))) ⌝ }
 {
@@ -233,12 +354,35 @@ fn apply_nots(cells: &mut [u32], op: u16, a: usize, c: usize)
 }
 
 // op_not_f, op_not_ent, op_not_fnc; t is the operand's type.
-pub fn op_nots(file: &[u8], defs: usize, ndefs: usize, count: usize, cells: &mut [u32], op: u16, t: u16, a: usize, b: usize, c: usize) -> Answer
+pub fn op_nots(
+    file: &[u8],
+    defs: usize,
+    ndefs: usize,
+    count: usize,
+    cells: &mut [u32],
+    op: u16,
+    t: u16,
+    a: usize,
+    b: usize,
+    c: usize,
+) -> Answer
     requires { ⌜ (8 * ndefs ≤ length (now file) - defs) × (count ≤ length (now cells)) ⌝ }
     ensures { λ r. ⌜ after r (now (cells .exit)) ≡ effectOn (negatesEffect t (notOp op) (typing (now (file .entry)) defs ndefs count) a b c (now (cells .entry))) (now (cells .entry)) ⌝ }
 {
     let positive = typed::must_be_positive(t);
-    let refusal = check_unary(file, defs, ndefs, count, cells, b, positive, t, a, typed::FLOAT, c);
+    let refusal = check_unary(
+        file,
+        defs,
+        ndefs,
+        count,
+        cells,
+        b,
+        positive,
+        t,
+        a,
+        typed::FLOAT,
+        c,
+    );
     if refusal != 0 {
         return Answer::Refused(refusal);
     }
@@ -254,11 +398,32 @@ fn apply_not_v(cells: &mut [u32], a: usize, c: usize)
 }
 
 // One float is written, as in pr_exec.c.
-pub fn op_not_v(file: &[u8], defs: usize, ndefs: usize, count: usize, cells: &mut [u32], a: usize, b: usize, c: usize) -> Answer
+pub fn op_not_v(
+    file: &[u8],
+    defs: usize,
+    ndefs: usize,
+    count: usize,
+    cells: &mut [u32],
+    a: usize,
+    b: usize,
+    c: usize,
+) -> Answer
     requires { ⌜ (8 * ndefs ≤ length (now file) - defs) × (count ≤ length (now cells)) ⌝ }
     ensures { λ r. ⌜ after r (now (cells .exit)) ≡ effectOn (negatesVEffect (typing (now (file .entry)) defs ndefs count) a b c (now (cells .entry))) (now (cells .entry)) ⌝ }
 {
-    let refusal = check_unary(file, defs, ndefs, count, cells, b, false, typed::VECTOR, a, typed::FLOAT, c);
+    let refusal = check_unary(
+        file,
+        defs,
+        ndefs,
+        count,
+        cells,
+        b,
+        false,
+        typed::VECTOR,
+        a,
+        typed::FLOAT,
+        c,
+    );
     if refusal != 0 {
         return Answer::Refused(refusal);
     }
@@ -266,7 +431,16 @@ pub fn op_not_v(file: &[u8], defs: usize, ndefs: usize, count: usize, cells: &mu
     Answer::Accepted
 }
 
-fn check_not_s(file: &[u8], defs: usize, ndefs: usize, count: usize, cells: &[u32], a: usize, b: usize, c: usize) -> u8
+fn check_not_s(
+    file: &[u8],
+    defs: usize,
+    ndefs: usize,
+    count: usize,
+    cells: &[u32],
+    a: usize,
+    b: usize,
+    c: usize,
+) -> u8
     requires { ⌜ (8 * ndefs ≤ length (now file) - defs) × (count ≤ length (now cells)) ⌝ }
     ensures { λ r. ⌜ r ≡ first (judge (unused b)) (first (judge (operandGiven a)) (moveRefusal (typing (now (file .entry)) defs ndefs count) false string a float c (now (cells .entry)))) ⌝ }
 {
@@ -278,7 +452,18 @@ fn check_not_s(file: &[u8], defs: usize, ndefs: usize, count: usize, cells: &[u3
     if y != 0 {
         return y;
     }
-    typed::check_move(file, defs, ndefs, count, cells, false, typed::STRING, a, typed::FLOAT, c)
+    typed::check_move(
+        file,
+        defs,
+        ndefs,
+        count,
+        cells,
+        false,
+        typed::STRING,
+        a,
+        typed::FLOAT,
+        c,
+    )
 }
 
 fn apply_not_s(cells: &mut [u32], a: usize, c: usize)
@@ -288,7 +473,16 @@ fn apply_not_s(cells: &mut [u32], a: usize, c: usize)
     cells[c] = floats::flag((a == 0) | (cells[a] == 0));
 }
 
-pub fn op_not_s(file: &[u8], defs: usize, ndefs: usize, count: usize, cells: &mut [u32], a: usize, b: usize, c: usize) -> Answer
+pub fn op_not_s(
+    file: &[u8],
+    defs: usize,
+    ndefs: usize,
+    count: usize,
+    cells: &mut [u32],
+    a: usize,
+    b: usize,
+    c: usize,
+) -> Answer
     requires { ⌜ (8 * ndefs ≤ length (now file) - defs) × (count ≤ length (now cells)) ⌝ }
     ensures { λ r. ⌜ after r (now (cells .exit)) ≡ effectOn (negatesSEffect (typing (now (file .entry)) defs ndefs count) a b c (now (cells .entry))) (now (cells .entry)) ⌝ }
 {
@@ -308,7 +502,17 @@ fn apply_stores(cells: &mut [u32], a: usize, b: usize)
 }
 
 // op_store_f, op_store_s, op_store_ent, op_store_fld, op_store_fnc; t is the type of both cells.
-pub fn op_stores(file: &[u8], defs: usize, ndefs: usize, count: usize, cells: &mut [u32], t: u16, a: usize, b: usize, c: usize) -> Answer
+pub fn op_stores(
+    file: &[u8],
+    defs: usize,
+    ndefs: usize,
+    count: usize,
+    cells: &mut [u32],
+    t: u16,
+    a: usize,
+    b: usize,
+    c: usize,
+) -> Answer
     requires { ⌜ (8 * ndefs ≤ length (now file) - defs) × (count ≤ length (now cells)) ⌝ }
     ensures { λ r. ⌜ after r (now (cells .exit)) ≡ effectOn (storesEffect t (typing (now (file .entry)) defs ndefs count) a b c (now (cells .entry))) (now (cells .entry)) ⌝ }
 {
@@ -336,7 +540,15 @@ fn check_raw(file: &[u8], defs: usize, ndefs: usize, count: usize, raw: bool, ce
 }
 
 // One cell of a StoreV, source before destination.
-fn check_copy(file: &[u8], defs: usize, ndefs: usize, count: usize, raw: bool, a: usize, b: usize) -> u8
+fn check_copy(
+    file: &[u8],
+    defs: usize,
+    ndefs: usize,
+    count: usize,
+    raw: bool,
+    a: usize,
+    b: usize,
+) -> u8
     requires { ⌜ 8 * ndefs ≤ length (now file) - defs ⌝ }
     ensures { λ r. ⌜ r ≡ copyRefusal (typing (now (file .entry)) defs ndefs count) raw a b ⌝ }
 {
@@ -353,7 +565,15 @@ fn argument_cell(cell: usize) -> bool
     (1 <= cell) & (cell <= 27)
 }
 
-fn check_store_v(file: &[u8], defs: usize, ndefs: usize, count: usize, a: usize, b: usize, c: usize) -> u8
+fn check_store_v(
+    file: &[u8],
+    defs: usize,
+    ndefs: usize,
+    count: usize,
+    a: usize,
+    b: usize,
+    c: usize,
+) -> u8
     requires { ⌜ 8 * ndefs ≤ length (now file) - defs ⌝ }
     ensures { λ r. ⌜ r ≡ storeVRefusal (typing (now (file .entry)) defs ndefs count) a b c ⌝ }
 {
@@ -383,7 +603,16 @@ fn apply_store_v(cells: &mut [u32], a: usize, b: usize)
     cells[b + 2] = cells[a + 2];
 }
 
-pub fn op_store_v(file: &[u8], defs: usize, ndefs: usize, count: usize, cells: &mut [u32], a: usize, b: usize, c: usize) -> Answer
+pub fn op_store_v(
+    file: &[u8],
+    defs: usize,
+    ndefs: usize,
+    count: usize,
+    cells: &mut [u32],
+    a: usize,
+    b: usize,
+    c: usize,
+) -> Answer
     requires { ⌜ (8 * ndefs ≤ length (now file) - defs) × (count ≤ length (now cells)) ⌝ }
     ensures { λ r. ⌜ after r (now (cells .exit)) ≡ effectOn (storesVEffect (typing (now (file .entry)) defs ndefs count) a b c (now (cells .entry))) (now (cells .entry)) ⌝ }
 {

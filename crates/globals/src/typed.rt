@@ -75,7 +75,14 @@ pub fn type_check(file: &[u8], defs: usize, ndefs: usize, cell: usize, want: u16
 }
 
 // A typed access of one cell.
-pub fn check_cell(file: &[u8], defs: usize, ndefs: usize, count: usize, want: u16, cell: usize) -> u8
+pub fn check_cell(
+    file: &[u8],
+    defs: usize,
+    ndefs: usize,
+    count: usize,
+    want: u16,
+    cell: usize,
+) -> u8
     requires { ⌜ 8 * ndefs ≤ length (now file) - defs ⌝ }
     ensures { λ r. ⌜ r ≡ judge (cellAccess (typing (now (file .entry)) defs ndefs count) want cell) ⌝ }
 {
@@ -108,7 +115,14 @@ fn check_vector(file: &[u8], defs: usize, ndefs: usize, count: usize, cell: usiz
 }
 
 // A typed access.
-pub fn check_access(file: &[u8], defs: usize, ndefs: usize, count: usize, want: u16, cell: usize) -> u8
+pub fn check_access(
+    file: &[u8],
+    defs: usize,
+    ndefs: usize,
+    count: usize,
+    want: u16,
+    cell: usize,
+) -> u8
     requires { ⌜ 8 * ndefs ≤ length (now file) - defs ⌝ }
     ensures { λ r. ⌜ r ≡ judge (access (typing (now (file .entry)) defs ndefs count) want cell) ⌝ }
 {
@@ -119,7 +133,18 @@ pub fn check_access(file: &[u8], defs: usize, ndefs: usize, count: usize, want: 
 }
 
 // Three typed accesses in order.
-pub fn check_three(file: &[u8], defs: usize, ndefs: usize, count: usize, ta: u16, a: usize, tb: u16, b: usize, tc: u16, c: usize) -> u8
+pub fn check_three(
+    file: &[u8],
+    defs: usize,
+    ndefs: usize,
+    count: usize,
+    ta: u16,
+    a: usize,
+    tb: u16,
+    b: usize,
+    tc: u16,
+    c: usize,
+) -> u8
     requires { ⌜ 8 * ndefs ≤ length (now file) - defs ⌝ }
     ensures { λ r. ⌜ r ≡ threeRefusal (typing (now (file .entry)) defs ndefs count) ta a tb b tc c ⌝ }
 {
@@ -142,7 +167,16 @@ pub fn must_be_positive(t: u16) -> bool
 }
 
 // A read of a value: refused 17 if it is negative and must not be.
-pub fn check_read(file: &[u8], defs: usize, ndefs: usize, count: usize, cells: &[u32], positive: bool, t: u16, cell: usize) -> u8
+pub fn check_read(
+    file: &[u8],
+    defs: usize,
+    ndefs: usize,
+    count: usize,
+    cells: &[u32],
+    positive: bool,
+    t: u16,
+    cell: usize,
+) -> u8
     requires { ⌜ (8 * ndefs ≤ length (now file) - defs) × (count ≤ length (now cells)) ⌝ }
     ensures { λ r. ⌜ r ≡ judge (readAccess (typing (now (file .entry)) defs ndefs count) positive t cell (now (cells .entry))) ⌝ }
 {
@@ -157,7 +191,18 @@ pub fn check_read(file: &[u8], defs: usize, ndefs: usize, count: usize, cells: &
 }
 
 // A read of a value, then an access of the cell that the statement writes.
-pub fn check_move(file: &[u8], defs: usize, ndefs: usize, count: usize, cells: &[u32], positive: bool, ta: u16, a: usize, tb: u16, b: usize) -> u8
+pub fn check_move(
+    file: &[u8],
+    defs: usize,
+    ndefs: usize,
+    count: usize,
+    cells: &[u32],
+    positive: bool,
+    ta: u16,
+    a: usize,
+    tb: u16,
+    b: usize,
+) -> u8
     requires { ⌜ (8 * ndefs ≤ length (now file) - defs) × (count ≤ length (now cells)) ⌝ }
     ensures { λ r. ⌜ r ≡ moveRefusal (typing (now (file .entry)) defs ndefs count) positive ta a tb b (now (cells .entry)) ⌝ }
 {

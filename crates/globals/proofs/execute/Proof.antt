@@ -49,7 +49,7 @@ same-length c = search needs
 
 -- src/lib.rt:121:13
 returns : tie.Need-returns
-returns c = 
+returns c =
     written _ _ _ _ _ _ _ _ (c .before .before .before .before .before .before .before .before .before .before .shape-of .result) _ (c .before .before .before .before .before .before .before .before .shape .given .1) (c .before .before .before .before .before .before .before .before .before .before .shape-of .ensures)
     _ _ _ (c .before .before .before .before .before .before .before .before .before .before .before .cell-of .ensures) (c .before .before .before .before .before .cell-of2 .ensures) (c .before .before .before .before .cell-of3 .ensures) _ _ _ (c .before .before .before .write .ensures) (c .completed .ensures)
 

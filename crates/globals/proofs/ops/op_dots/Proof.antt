@@ -19,7 +19,7 @@ returns c = refused _ _ (dots-is _ _ _ _ _ _) _ (c .if1 .taken) (cc)
 
 -- src/ops.rt:138:5
 apply-dots-requires : tie.Need-apply-dots-requires
-apply-dots-requires c κs = 
+apply-dots-requires c κs =
     let h = reach-three _ _ _ _ _ _ _ (sym (c .before .before .check-three .ensures) ∙ c .before .if1 .left) in
     (omega (arith, h .0 .third-below), omega (arith, h .1 .third-below), omega arith)
 

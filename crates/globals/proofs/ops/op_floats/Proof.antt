@@ -20,7 +20,7 @@ returns c = refused _ _ (floats-is _ _ _ _ _ _) _ (c .if1 .taken) (cc)
 
 -- src/ops.rt:47:5
 apply-floats-requires : tie.Need-apply-floats-requires
-apply-floats-requires c κs = 
+apply-floats-requires c κs =
     let h = reach-three _ _ _ _ _ _ _ (sym (c .before .before .check-floats .ensures) ∙ c .before .if1 .left) in
     (omega arith, omega arith, omega arith)
 

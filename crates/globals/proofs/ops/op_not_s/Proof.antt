@@ -24,7 +24,7 @@ returns c = refused _ _ (negatesS-is _ _ _ _ _) _ (c .if1 .taken) (cc)
 
 -- src/ops.rt:299:5
 apply-not-s-requires : tie.Need-apply-not-s-requires
-apply-not-s-requires c κs = 
+apply-not-s-requires c κs =
     let h = reach-move _ _ _ _ _ _ _ (neither _ _ (neither _ _ (sym (c .before .before .check-not-s .ensures) ∙ c .before .if1 .left) .1) .1) in
     (omega arith, omega arith)
 

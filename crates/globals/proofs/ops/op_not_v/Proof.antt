@@ -24,7 +24,7 @@ returns c = refused _ _ (negatesV-is _ _ _ _ _) _ (c .if1 .taken) (cc)
 
 -- src/ops.rt:265:5
 apply-not-v-requires : tie.Need-apply-not-v-requires
-apply-not-v-requires c κs = 
+apply-not-v-requires c κs =
     let h = reach-move _ _ _ _ _ _ _ (neither _ _ (sym (c .before .before .check-unary .ensures) ∙ c .before .if1 .left) .1) in
     (omega (arith, h .0 .third-below), omega arith)
 

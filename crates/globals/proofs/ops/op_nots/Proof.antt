@@ -29,7 +29,7 @@ returns c = refused _ _ (negates-is _ _ _ _ _ _ _) _ (c .if1 .taken) (cc)
 
 -- src/ops.rt:245:5
 apply-nots-requires : tie.Need-apply-nots-requires
-apply-nots-requires c κs = 
+apply-nots-requires c κs =
     let h = reach-move _ _ _ _ _ _ _ (neither _ _ (sym (c .before .before .check-unary .ensures) ∙ c .before .if1 .left) .1) in
     (omega arith, omega arith)
 

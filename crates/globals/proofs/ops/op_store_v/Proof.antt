@@ -19,7 +19,7 @@ returns c = refused _ _ (storesV-is _ _ _ _ _) _ (c .if1 .taken) (cc)
 
 -- src/ops.rt:394:5
 apply-store-v-requires : tie.Need-apply-store-v-requires
-apply-store-v-requires c κs = 
+apply-store-v-requires c κs =
     let h = reach-store-v _ (c .before .before .before .before .before .args .a) (c .before .before .before .before .before .args .b) (c .before .before .before .before .before .args .c) (sym (c .before .before .check-store-v .ensures) ∙ c .before .if1 .left) in
     (omega arith, omega arith)
 

@@ -29,7 +29,7 @@ returns c = refused _ _ (stores-is _ _ _ _ _ _) _ (c .if1 .taken) (cc)
 
 -- src/ops.rt:320:5
 apply-stores-requires : tie.Need-apply-stores-requires
-apply-stores-requires c κs = 
+apply-stores-requires c κs =
     let h = reach-move _ _ _ _ _ _ _ (neither _ _ (sym (c .before .before .check-unary .ensures) ∙ c .before .if1 .left) .1) in
     (omega arith, omega arith)
 

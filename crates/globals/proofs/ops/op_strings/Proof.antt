@@ -19,7 +19,7 @@ returns c = refused _ _ (strings-is _ _ _ _ _ _) _ (c .if1 .taken) (cc)
 
 -- src/ops.rt:205:5
 apply-strings-requires : tie.Need-apply-strings-requires
-apply-strings-requires c κs = 
+apply-strings-requires c κs =
     let h = reach-strings _ (c .before .before .before .before .before .args .a) (c .before .before .before .before .before .args .b) (c .before .before .before .before .before .args .c) (sym (c .before .before .check-eq-s .ensures) ∙ c .before .if1 .left) in
     (λ n. (omega (arith, h .0 n .0 .first-below), omega (arith, h .0 n .1 .first-below)), omega arith)
 

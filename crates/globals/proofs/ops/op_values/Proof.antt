@@ -23,7 +23,7 @@ returns c = refused _ _ (values-is _ _ _ _ _ _ _) _ (c .if1 .taken) (cc)
 
 -- src/ops.rt:81:5
 apply-values-requires : tie.Need-apply-values-requires
-apply-values-requires c κs = 
+apply-values-requires c κs =
     let h = reach-values _ _ _ _ _ _ _ _ (sym (c .before .before .check-values .ensures) ∙ c .before .if1 .left) in
     (omega arith, omega arith, omega arith)
 

@@ -20,7 +20,7 @@ returns c = refused _ _ (vectors-is _ _ _ _ _ _ _ _) _ (c .if1 .taken) (cc)
 
 -- src/ops.rt:118:5
 apply-vectors-requires : tie.Need-apply-vectors-requires
-apply-vectors-requires c κs = 
+apply-vectors-requires c κs =
     let h = reach-three _ _ _ _ _ _ _ (sym (c .before .before .check-three .ensures) ∙ c .before .if1 .left) in
     (widen (h .0) (omega arith), widen (h .1) (omega arith), omega (arith, h .2 .third-below))
 
