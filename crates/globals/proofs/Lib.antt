@@ -1,5 +1,1 @@
-pub mod Lookup
-pub mod Checking
 pub mod Statements
-pub mod Opcodes
-pub mod Transfers

@@ -13,9 +13,10 @@ use Rattle.definition.specs.Floats.{flag, notV}
 use Rattle.definition.specs.Cells.{Typing, addressed, cellAccess, access, mustBePositive, readAccess}
 use Rattle.definition.specs.Statements.{Effect, floatsEffect, valuesEffect, vectorsEffect, dotsEffect, stringsEffect, negatesEffect, negatesVEffect, negatesSEffect, storesEffect, storesVEffect}
 use Rattle.definition.specs.Statements.{vectorResult, operandGiven, stringAccess, stringResult, unused, moved, storedPositive, argumentCell, moveAccess}
-use Rattle.globals.specs.Checking.{first, threeRefusal, moveRefusal, pairRefusal, stringsRefusal, rawRefusal, copyRefusal, storeVRefusal, Reaches}
+use Rattle.typed.specs.Checking.{first, threeRefusal, moveRefusal, Reaches}
+use Rattle.globals.specs.Refusals.{pairRefusal, stringsRefusal, rawRefusal, copyRefusal, storeVRefusal}
 use Rattle.globals.specs.Effects.{after, answered, effectOn}
-use Rattle.globals.proofs.Checking.{neither, nothing, judge-both, judge-three, judge-four, cell-reach, reach, read-reach, read-plain}
+use Rattle.typed.specs.Laws.{neither, nothing, judge-both, judge-three, judge-four, cell-reach, reach, read-reach, read-plain}
 
 -- ---- outcomes
 

@@ -1,5 +1,2 @@
-pub mod Typed
-pub mod Checking
+pub mod Refusals
 pub mod Effects
-pub mod Shapes
-pub mod Execution

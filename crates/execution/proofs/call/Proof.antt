@@ -1,0 +1,35 @@
+use mathlib.Core.Path.{sym, _∙_}
+use Rattle.typed.specs.Laws.{cell-reach}
+use Rattle.execution.proofs.Transfers.{call-refused, call-goes}
+use borrow.Author.Needs.{needs}
+use Rattle.execution.proofs.call.Statement.{statement}
+use Rattle.execution.proofs.call.Tie as tie
+
+check-cell-requires : tie.Need-check-cell-requires
+check-cell-requires c κs = search needs
+
+returns : tie.Need-returns
+returns c = call-refused _ _ _ _ _ (c .if1 .taken) (cc)
+
+mul-callee : tie.Need-mul-callee
+mul-callee c = let h = cell-reach _ _ _ (sym (c .before .check-cell .ensures) ∙ c .if1 .left) in search needs
+
+shared-slice-read-callee : tie.Need-shared-slice-read-callee
+shared-slice-read-callee c = let h = cell-reach _ _ _ (sym (c .before .before .check-cell .ensures) ∙ c .before .if1 .left) in search needs
+
+callee-requires : tie.Need-callee-requires
+callee-requires c κs = search needs
+
+returns-2 : tie.Need-returns-2
+returns-2 c = call-goes _ _ _ _ _ (cc) (c .callee .ensures _)
+
+pub call-spec : {M : Type 1} → statement M
+call-spec =
+    tie.close
+    (tie.spec
+    check-cell-requires
+    returns
+    mul-callee
+    shared-slice-read-callee
+    callee-requires
+    returns-2)

@@ -1,0 +1,58 @@
+use Rattle.functions.specs.Laws.{length-records, function-found}
+use Rattle.execution.proofs.Transfers.{call-none, call-missing, call-unknown, call-builtin, call-enters}
+use borrow.Author.Needs.{needs}
+use Rattle.execution.proofs.callee.Statement.{statement}
+use Rattle.execution.proofs.callee.Tie as tie
+
+returns : tie.Need-returns
+returns c = λ cells. call-none _ _ (c .if1 .taken)
+
+id-from-i32-requires : tie.Need-id-from-i32-requires
+id-from-i32-requires c κs = search needs
+
+enum-known-f : tie.Need-enum-known-f
+enum-known-f c = search needs
+
+enum-told : tie.Need-enum-told
+enum-told c = search needs
+
+returns-2 : tie.Need-returns-2
+returns-2 c = λ cells. call-missing _ _ (search needs) _ (length-records _ _ _ _) (cc)
+
+get-def-requires : tie.Need-get-def-requires
+get-def-requires c κs = (search needs, function-found (c .before .before .before .before .before .before .args .value) (c .before .before .before .before .before .before .args .nfunctions) (c .before .f .given .0 .0) (cc) .1)
+
+is-builtin-requires : tie.Need-is-builtin-requires
+is-builtin-requires c κs = search needs
+
+builtin-known-requires : tie.Need-builtin-known-requires
+builtin-known-requires c κs = search needs
+
+builtin-of-requires : tie.Need-builtin-of-requires
+builtin-of-requires c κs = cc
+
+returns-3 : tie.Need-returns-3
+returns-3 c = λ cells. rw (c .builtin-of .ensures) (call-builtin _ _ (search needs) _ (length-records _ _ _ _) _ (cc) _ (c .before .before .before .before .before .get-def .ensures) (cc) (cc))
+
+returns-4 : tie.Need-returns-4
+returns-4 c = λ cells. call-unknown _ _ (search needs) _ (length-records _ _ _ _) _ (cc) _ (c .before .before .before .before .get-def .ensures) (cc) (cc)
+
+returns-5 : tie.Need-returns-5
+returns-5 c = λ cells. call-enters _ _ (search needs) _ (length-records _ _ _ _) _ (cc) _ (c .before .before .get-def .ensures) (cc)
+
+pub callee-spec : {M : Type 1} → statement M
+callee-spec =
+    tie.close
+    (tie.spec
+    returns
+    id-from-i32-requires
+    enum-known-f
+    enum-told
+    returns-2
+    get-def-requires
+    is-builtin-requires
+    builtin-known-requires
+    builtin-of-requires
+    returns-3
+    returns-4
+    returns-5)

@@ -1,0 +1,70 @@
+use mathlib.Core.Path.{refl}
+use mathlib.Core.Bool.{true, false}
+use mathlib.Core.List.{[], _∷_}
+use borrow.Author.Needs.{needs}
+use Rattle.definition.specs.Statements.{opcodes, shapeOf}
+use Rattle.floats.specs.Opcodes.{floatOp, valueOp, componentOp, dotOp, notOp}
+use Rattle.execution.specs.declared.shapes.CellOp.the-variants.{Floats, Values, Vectors, Dots, Strings, Nots, NotV, NotS, Stores, StoreV}
+use Rattle.execution.specs.declared.shapes.Shape.the-variants.{Cells, Branch, Goto, Call, Return, Host}
+use Rattle.execution.proofs.Opcodes.{at, rest}
+use Rattle.execution.proofs.shapes.shape_of.Statement.{statement}
+use Rattle.execution.proofs.shapes.shape_of.Tie as tie
+
+pub shape-of-spec : {M : Type 1} → statement M
+unfolding floatOp valueOp componentOp dotOp notOp opcodes shapeOf
+shape-of-spec =
+    tie.close
+    (tie.spec
+    (λ c. at Return 0 _ (c .match .keys1) refl)
+    (λ c. at (Cells Floats) 1 _ (c .match .keys2) refl)
+    (λ c. at (Cells Dots) 2 _ (c .match .keys3) refl)
+    (λ c. at (Cells (Vectors 2 3)) 3 _ (c .match .keys4) refl)
+    (λ c. at (Cells (Vectors 3 2)) 4 _ (c .match .keys5) refl)
+    (λ c. at (Cells Floats) 5 _ (c .match .keys6) refl)
+    (λ c. at (Cells Floats) 6 _ (c .match .keys7) refl)
+    (λ c. at (Cells (Vectors 3 3)) 7 _ (c .match .keys8) refl)
+    (λ c. at (Cells Floats) 8 _ (c .match .keys9) refl)
+    (λ c. at (Cells (Vectors 3 3)) 9 _ (c .match .keys10) refl)
+    (λ c. at (Cells Floats) 10 _ (c .match .keys11) refl)
+    (λ c. at (Cells Dots) 11 _ (c .match .keys12) refl)
+    (λ c. at (Cells Strings) 12 _ (c .match .keys13) refl)
+    (λ c. at (Cells (Values 4)) 13 _ (c .match .keys14) refl)
+    (λ c. at (Cells (Values 6)) 14 _ (c .match .keys15) refl)
+    (λ c. at (Cells Floats) 15 _ (c .match .keys16) refl)
+    (λ c. at (Cells Dots) 16 _ (c .match .keys17) refl)
+    (λ c. at (Cells Strings) 17 _ (c .match .keys18) refl)
+    (λ c. at (Cells (Values 4)) 18 _ (c .match .keys19) refl)
+    (λ c. at (Cells (Values 6)) 19 _ (c .match .keys20) refl)
+    (λ c. at (Cells Floats) 20 _ (c .match .keys21) refl)
+    (λ c. at (Cells Floats) 21 _ (c .match .keys22) refl)
+    (λ c. at (Cells Floats) 22 _ (c .match .keys23) refl)
+    (λ c. at (Cells Floats) 23 _ (c .match .keys24) refl)
+    (λ c. at (Cells (Stores 2)) 31 _ (c .match .keys25) refl)
+    (λ c. at (Cells StoreV) 32 _ (c .match .keys26) refl)
+    (λ c. at (Cells (Stores 1)) 33 _ (c .match .keys27) refl)
+    (λ c. at (Cells (Stores 4)) 34 _ (c .match .keys28) refl)
+    (λ c. at (Cells (Stores 5)) 35 _ (c .match .keys29) refl)
+    (λ c. at (Cells (Stores 6)) 36 _ (c .match .keys30) refl)
+    (λ c. at Return 43 _ (c .match .keys31) refl)
+    (λ c. at (Cells (Nots 2)) 44 _ (c .match .keys32) refl)
+    (λ c. at (Cells NotV) 45 _ (c .match .keys33) refl)
+    (λ c. at (Cells NotS) 46 _ (c .match .keys34) refl)
+    (λ c. at (Cells (Nots 4)) 47 _ (c .match .keys35) refl)
+    (λ c. at (Cells (Nots 6)) 48 _ (c .match .keys36) refl)
+    (λ c. at (Branch false) 49 _ (c .match .keys37) refl)
+    (λ c. at (Branch true) 50 _ (c .match .keys38) refl)
+    (λ c. at Call 51 _ (c .match .keys39) refl)
+    (λ c. at Call 52 _ (c .match .keys40) refl)
+    (λ c. at Call 53 _ (c .match .keys41) refl)
+    (λ c. at Call 54 _ (c .match .keys42) refl)
+    (λ c. at Call 55 _ (c .match .keys43) refl)
+    (λ c. at Call 56 _ (c .match .keys44) refl)
+    (λ c. at Call 57 _ (c .match .keys45) refl)
+    (λ c. at Call 58 _ (c .match .keys46) refl)
+    (λ c. at Call 59 _ (c .match .keys47) refl)
+    (λ c. at Goto 61 _ (c .match .keys48) refl)
+    (λ c. at (Cells Floats) 62 _ (c .match .keys49) refl)
+    (λ c. at (Cells Floats) 63 _ (c .match .keys50) refl)
+    (λ c. at (Cells Floats) 64 _ (c .match .keys51) refl)
+    (λ c. at (Cells Floats) 65 _ (c .match .keys52) refl)
+    (λ c. rest (0 ∷ 1 ∷ 2 ∷ 3 ∷ 4 ∷ 5 ∷ 6 ∷ 7 ∷ 8 ∷ 9 ∷ 10 ∷ 11 ∷ 12 ∷ 13 ∷ 14 ∷ 15 ∷ 16 ∷ 17 ∷ 18 ∷ 19 ∷ 20 ∷ 21 ∷ 22 ∷ 23 ∷ 31 ∷ 32 ∷ 33 ∷ 34 ∷ 35 ∷ 36 ∷ 43 ∷ 44 ∷ 45 ∷ 46 ∷ 47 ∷ 48 ∷ 49 ∷ 50 ∷ 51 ∷ 52 ∷ 53 ∷ 54 ∷ 55 ∷ 56 ∷ 57 ∷ 58 ∷ 59 ∷ 61 ∷ 62 ∷ 63 ∷ 64 ∷ 65 ∷ []) _ (c .before .pre) refl (c .match .rest)))

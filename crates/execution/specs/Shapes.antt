@@ -1,0 +1,44 @@
+-- THE SHAPES OF OPCODES: what the code's shape of an opcode is in the definition.
+use Prim.Native.Nat.{ℕ}
+use mathlib.Core.List.{List}
+use Rattle.definition.specs.Cells.{Typing}
+use Rattle.definition.specs.Statements.{Shape, floats, values, vectors, dots, strings, negates, negatesV, negatesS, stores, storesV, branches, jumps, call, return, host}
+use Rattle.definition.specs.Statements.{Effect, floatsEffect, valuesEffect, vectorsEffect, dotsEffect, stringsEffect, negatesEffect, negatesVEffect, negatesSEffect, storesEffect, storesVEffect}
+use Rattle.floats.specs.Opcodes.{floatOp, valueOp, componentOp, dotOp, notOp}
+use Rattle.execution.specs.declared.shapes.CellOp.{CellOp}
+use Rattle.execution.specs.declared.shapes.CellOp.the-variants.{Floats, Values, Vectors, Dots, Strings, Nots, NotV, NotS, Stores, StoreV}
+use Rattle.execution.specs.declared.shapes.Shape as code
+use Rattle.execution.specs.declared.shapes.Shape.the-variants.{Cells, Branch, Goto, Call, Return, Host}
+
+abbrev pub cellShape : CellOp → ℕ → Shape
+cellShape Floats op = floats (floatOp op)
+cellShape (Values t) op = values t (valueOp op)
+cellShape (Vectors ta tb) op = vectors ta tb (componentOp op)
+cellShape Dots op = dots (dotOp op)
+cellShape Strings op = strings (valueOp op)
+cellShape (Nots t) op = negates t (notOp op)
+cellShape NotV op = negatesV
+cellShape NotS op = negatesS
+cellShape (Stores t) op = stores t
+cellShape StoreV op = storesV
+
+abbrev pub shapeAs : code.Shape → ℕ → Shape
+shapeAs (Cells what) op = cellShape what op
+shapeAs (Branch when) op = branches when
+shapeAs Goto op = jumps
+shapeAs Call op = call
+shapeAs Return op = return
+shapeAs Host op = host
+
+-- the effect of a statement that writes cells
+unfoldable pub effectAs : CellOp → ℕ → Typing → ℕ → ℕ → ℕ → List ℕ → Effect
+effectAs Floats op = floatsEffect (floatOp op)
+effectAs (Values t) op = valuesEffect t (valueOp op)
+effectAs (Vectors ta tb) op = vectorsEffect ta tb (componentOp op)
+effectAs Dots op = dotsEffect (dotOp op)
+effectAs Strings op = stringsEffect (valueOp op)
+effectAs (Nots t) op = negatesEffect t (notOp op)
+effectAs NotV op = negatesVEffect
+effectAs NotS op = negatesSEffect
+effectAs (Stores t) op = storesEffect t
+effectAs StoreV op = storesVEffect

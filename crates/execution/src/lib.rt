@@ -1,0 +1,193 @@
+// Execution of a fetched statement, over typed cells and the statements (globals.rs).
+use crate::shapes::CellOp;
+use crate::shapes::Shape;
+use definition::Answer;
+use definition::Handover;
+use functions::fetch;
+ghost use mathlib.Core.Path.{_≡_};
+ghost use mathlib.Core.Bool.{true};
+ghost use mathlib.Core.List.{List};
+ghost use Prim.Native.Nat.{ℕ, _-_, _*_, _≤_, _<_};
+ghost use lib.IntN.{pos};
+ghost use lib.ListN.{length, getD};
+ghost use Rattle.definition.specs.File.{lumpFits};
+ghost use Rattle.definition.specs.Cells.{signed, cellOf};
+ghost use Rattle.definition.specs.Statements.{branchesDo, callOf, callDoes};
+ghost use Rattle.functions.specs.Answers.{lump};
+ghost use Rattle.typed.specs.Typing.{typing};
+ghost use Rattle.globals.specs.Effects.{after, effectOn};
+ghost use Rattle.execution.specs.Shapes.{effectAs};
+ghost use Rattle.execution.specs.Execution.{functionsIn, statement, executeWith, completedAs, doesOf, executed, execution};
+
+pub mod shapes;
+
+// What a fetched statement does: it completes and the run goes on at a position, calls a function, returns from a cell on, is refused, or is handed over.
+pub enum Executed {
+    Next(i64),
+    Calls(usize),
+    Returns(usize),
+    Refused(u8),
+    HandedOver(Handover),
+}
+
+// A statement that writes cells.
+fn write(
+    file: &[u8],
+    defs: usize,
+    ndefs: usize,
+    count: usize,
+    cells: &mut [u32],
+    what: CellOp,
+    op: u16,
+    a: usize,
+    b: usize,
+    c: usize,
+) -> Answer
+    requires { ⌜ (8 * ndefs ≤ length (now file) - defs) × (count ≤ length (now cells)) ⌝ }
+    ensures { λ r. ⌜ after r (now (cells .exit)) ≡ effectOn (effectAs what op (typing (now (file .entry)) defs ndefs count) a b c (now (cells .entry))) (now (cells .entry)) ⌝ }
+{
+    match what {
+        CellOp::Floats => return globals::op_floats(file, defs, ndefs, count, cells, op, a, b, c),
+        CellOp::Values(t) => return globals::op_values(file, defs, ndefs, count, cells, op, t, a, b, c),
+        CellOp::Vectors(ta, tb) => return globals::op_vectors(
+            file,
+            defs,
+            ndefs,
+            count,
+            cells,
+            op,
+            ta,
+            a,
+            tb,
+            b,
+            c,
+        ),
+        CellOp::Dots => return globals::op_dots(file, defs, ndefs, count, cells, op, a, b, c),
+        CellOp::Strings => return globals::op_strings(file, defs, ndefs, count, cells, op, a, b, c),
+        CellOp::Nots(t) => return globals::op_nots(file, defs, ndefs, count, cells, op, t, a, b, c),
+        CellOp::NotV => return globals::op_not_v(file, defs, ndefs, count, cells, a, b, c),
+        CellOp::NotS => return globals::op_not_s(file, defs, ndefs, count, cells, a, b, c),
+        CellOp::Stores(t) => return globals::op_stores(file, defs, ndefs, count, cells, t, a, b, c),
+        CellOp::StoreV => return globals::op_store_v(file, defs, ndefs, count, cells, a, b, c),
+    }
+}
+
+fn completed(k: usize, answer: Answer) -> Executed
+    requires { ⌜ k < 2147483648 ⌝ }
+    ensures { λ r. ⌜ r ≡ completedAs (pos k) answer ⌝ }
+{
+    match answer {
+        Answer::Accepted => return Executed::Next(fetch::after(k)),
+        Answer::Refused(n) => return Executed::Refused(n),
+    }
+}
+
+// If jumps where the float isn't zero, IfNot where it is.
+fn branch(
+    file: &[u8],
+    defs: usize,
+    ndefs: usize,
+    count: usize,
+    cells: &[u32],
+    k: usize,
+    when: bool,
+    a: usize,
+    by: u16,
+) -> Executed
+    requires { ⌜ (8 * ndefs ≤ length (now file) - defs) × (count ≤ length (now cells)) × (k < 2147483648) ⌝ }
+    ensures { λ r. ⌜ doesOf r (now (cells .entry)) ≡ branchesDo when (typing (now (file .entry)) defs ndefs count) (pos k) a (signed by) (now (cells .entry)) ⌝ }
+{
+    let r = typed::check_cell(file, defs, ndefs, count, typed::FLOAT, a);
+    if r != 0 {
+        return Executed::Refused(r);
+    }
+    if floats::is_zero(cells[a]) == when {
+        return Executed::Next(fetch::jump(k, by));
+    }
+    Executed::Next(fetch::after(k))
+}
+
+// A Call of the function with a number.
+fn callee(file: &[u8], functions: usize, nfunctions: usize, value: u32) -> Executed
+    requires { ⌜ lumpFits 36 (length (now file)) (lump functions nfunctions) ≡ true ⌝ }
+    ensures { λ r. ⌜ ((cells : List ℕ) → doesOf r cells ≡ callOf (functionsIn (now (file .entry)) functions nfunctions) value) ⌝ }
+{
+    if value == 0 {
+        return Executed::Refused(19);
+    }
+    let functions::FunctionId::Id(f) = functions::id_from_i32(value, nfunctions) else {
+        return Executed::Refused(20);
+    };
+    let def = functions::get_def(file, functions, nfunctions, f);
+    if functions::is_builtin(def) {
+        if functions::builtin_known(def) {
+            return Executed::HandedOver(Handover::Builtin(functions::builtin_of(def)));
+        }
+        return Executed::Refused(5);
+    }
+    Executed::Calls(f)
+}
+
+fn call(
+    file: &[u8],
+    defs: usize,
+    ndefs: usize,
+    functions: usize,
+    nfunctions: usize,
+    count: usize,
+    cells: &[u32],
+    a: usize,
+) -> Executed
+    requires { ⌜ (8 * ndefs ≤ length (now file) - defs) × (lumpFits 36 (length (now file)) (lump functions nfunctions) ≡ true) × (count ≤ length (now cells)) ⌝ }
+    ensures { λ r. ⌜ doesOf r (now (cells .entry)) ≡ callDoes (functionsIn (now (file .entry)) functions nfunctions) (typing (now (file .entry)) defs ndefs count) a (now (cells .entry)) ⌝ }
+{
+    let r = typed::check_cell(file, defs, ndefs, count, typed::FUNCTION, a);
+    if r != 0 {
+        return Executed::Refused(r);
+    }
+    callee(file, functions, nfunctions, cells[a])
+}
+
+// The statement k, whose opcode is op and whose operands are x, y and z.
+pub fn execute(
+    file: &[u8],
+    defs: usize,
+    ndefs: usize,
+    functions: usize,
+    nfunctions: usize,
+    count: usize,
+    cells: &mut [u32],
+    k: usize,
+    op: u16,
+    x: u16,
+    y: u16,
+    z: u16,
+) -> Executed
+    requires { ⌜ (8 * ndefs ≤ length (now file) - defs) × (lumpFits 36 (length (now file)) (lump functions nfunctions) ≡ true) × (count ≤ length (now cells)) × (k < 2147483648) × (op < 66) ⌝ }
+    ensures { λ r. ⌜ executed r (now (cells .exit)) ≡ execution (executeWith (functionsIn (now (file .entry)) functions nfunctions) (typing (now (file .entry)) defs ndefs count) (pos k) (statement op x y z) (now (cells .entry))) (now (cells .entry)) ⌝ }
+{
+    let a = fetch::cell_of(x);
+    let shape = shapes::shape_of(op);
+    match shape {
+        Shape::Cells(what) => {
+            let answer = write(
+                file,
+                defs,
+                ndefs,
+                count,
+                cells,
+                what,
+                op,
+                a,
+                fetch::cell_of(y),
+                fetch::cell_of(z),
+            );
+            return completed(k, answer);
+        }
+        Shape::Branch(when) => return branch(file, defs, ndefs, count, cells, k, when, a, y),
+        Shape::Goto => return Executed::Next(fetch::jump(k, x)),
+        Shape::Call => return call(file, defs, ndefs, functions, nfunctions, count, cells, a),
+        Shape::Return => return Executed::Returns(a),
+        Shape::Host => return Executed::HandedOver(Handover::Opcode(op as u32)),
+    }
+}

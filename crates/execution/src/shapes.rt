@@ -1,0 +1,98 @@
+// Opcodes by the shape of what they do.
+use typed::ENTITY;
+use typed::FIELD;
+use typed::FLOAT;
+use typed::FUNCTION;
+use typed::STRING;
+use typed::VECTOR;
+use functions::ops;
+ghost use mathlib.Core.Path.{_≡_};
+ghost use Prim.Native.Nat.{_<_};
+ghost use Rattle.definition.specs.Statements.{shapeOf};
+ghost use Rattle.execution.specs.Shapes.{shapeAs};
+
+// The shapes that write cells, with the types of their operands where these differ.
+pub enum CellOp {
+    Floats,
+    Values(u16),
+    Vectors(u16, u16),
+    Dots,
+    Strings,
+    Nots(u16),
+    NotV,
+    NotS,
+    Stores(u16),
+    StoreV,
+}
+
+// IfNot is the branch that jumps when the float is zero.
+pub enum Shape {
+    Cells(CellOp),
+    Branch(bool),
+    Goto,
+    Call,
+    Return,
+    Host,
+}
+
+// One number to an arm and a `return` in each: the prover reads consecutive numbers in one arm as ranges.
+pub fn shape_of(op: u16) -> Shape
+    requires { ⌜ op < 66 ⌝ }
+    ensures { λ r. ⌜ shapeAs r op ≡ shapeOf op ⌝ }
+{
+    match op {
+        ops::DONE => return Shape::Return,
+        ops::MUL_F => return Shape::Cells(CellOp::Floats),
+        ops::MUL_V => return Shape::Cells(CellOp::Dots),
+        ops::MUL_FV => return Shape::Cells(CellOp::Vectors(FLOAT, VECTOR)),
+        ops::MUL_VF => return Shape::Cells(CellOp::Vectors(VECTOR, FLOAT)),
+        ops::DIV => return Shape::Cells(CellOp::Floats),
+        ops::ADD_F => return Shape::Cells(CellOp::Floats),
+        ops::ADD_V => return Shape::Cells(CellOp::Vectors(VECTOR, VECTOR)),
+        ops::SUB_F => return Shape::Cells(CellOp::Floats),
+        ops::SUB_V => return Shape::Cells(CellOp::Vectors(VECTOR, VECTOR)),
+        ops::EQ_F => return Shape::Cells(CellOp::Floats),
+        ops::EQ_V => return Shape::Cells(CellOp::Dots),
+        ops::EQ_S => return Shape::Cells(CellOp::Strings),
+        ops::EQ_ENT => return Shape::Cells(CellOp::Values(ENTITY)),
+        ops::EQ_FNC => return Shape::Cells(CellOp::Values(FUNCTION)),
+        ops::NE_F => return Shape::Cells(CellOp::Floats),
+        ops::NE_V => return Shape::Cells(CellOp::Dots),
+        ops::NE_S => return Shape::Cells(CellOp::Strings),
+        ops::NE_ENT => return Shape::Cells(CellOp::Values(ENTITY)),
+        ops::NE_FNC => return Shape::Cells(CellOp::Values(FUNCTION)),
+        ops::LE => return Shape::Cells(CellOp::Floats),
+        ops::GE => return Shape::Cells(CellOp::Floats),
+        ops::LT => return Shape::Cells(CellOp::Floats),
+        ops::GT => return Shape::Cells(CellOp::Floats),
+        ops::STORE_F => return Shape::Cells(CellOp::Stores(FLOAT)),
+        ops::STORE_V => return Shape::Cells(CellOp::StoreV),
+        ops::STORE_S => return Shape::Cells(CellOp::Stores(STRING)),
+        ops::STORE_ENT => return Shape::Cells(CellOp::Stores(ENTITY)),
+        ops::STORE_FLD => return Shape::Cells(CellOp::Stores(FIELD)),
+        ops::STORE_FNC => return Shape::Cells(CellOp::Stores(FUNCTION)),
+        ops::RETURN => return Shape::Return,
+        ops::NOT_F => return Shape::Cells(CellOp::Nots(FLOAT)),
+        ops::NOT_V => return Shape::Cells(CellOp::NotV),
+        ops::NOT_S => return Shape::Cells(CellOp::NotS),
+        ops::NOT_ENT => return Shape::Cells(CellOp::Nots(ENTITY)),
+        ops::NOT_FNC => return Shape::Cells(CellOp::Nots(FUNCTION)),
+        ops::IF => return Shape::Branch(false),
+        ops::IF_NOT => return Shape::Branch(true),
+        ops::CALL_0 => return Shape::Call,
+        ops::CALL_1 => return Shape::Call,
+        ops::CALL_2 => return Shape::Call,
+        ops::CALL_3 => return Shape::Call,
+        ops::CALL_4 => return Shape::Call,
+        ops::CALL_5 => return Shape::Call,
+        ops::CALL_6 => return Shape::Call,
+        ops::CALL_7 => return Shape::Call,
+        ops::CALL_8 => return Shape::Call,
+        ops::GOTO => return Shape::Goto,
+        ops::AND => return Shape::Cells(CellOp::Floats),
+        ops::OR => return Shape::Cells(CellOp::Floats),
+        ops::BIT_AND => return Shape::Cells(CellOp::Floats),
+        ops::BIT_OR => return Shape::Cells(CellOp::Floats),
+        _ => return Shape::Host,
+    }
+}

@@ -1,0 +1,42 @@
+use Rattle.typed.specs.Laws.{neither}
+use native.Mathlib.Omega.{arith}
+use mathlib.Core.Path.{sym, _∙_}
+use Rattle.globals.proofs.Statements.{refused, accepted, reach-move, negates-is}
+use borrow.Author.Needs.{needs}
+use Rattle.globals.proofs.op_nots.Statement.{statement}
+use Rattle.globals.proofs.op_nots.Tie as tie
+
+must-be-positive-requires : tie.Need-must-be-positive-requires
+must-be-positive-requires c κs = search needs
+
+check-unary-requires : tie.Need-check-unary-requires
+check-unary-requires c κs = search needs
+
+same-length : tie.Need-same-length
+same-length c = search needs
+
+returns : tie.Need-returns
+returns c = refused _ _ (negates-is _ _ _ _ _ _ _) _ (c .if1 .taken) (cc)
+
+apply-nots-requires : tie.Need-apply-nots-requires
+apply-nots-requires c κs =
+    let h = reach-move _ _ _ _ _ _ _ (neither _ _ (sym (c .before .before .check-unary .ensures) ∙ c .before .if1 .left) .1) in
+    (omega arith, omega arith)
+
+same-length-2 : tie.Need-same-length-2
+same-length-2 c = search needs
+
+returns-2 : tie.Need-returns-2
+returns-2 c = accepted _ _ (negates-is _ _ _ _ _ _ _) _ (cc) (cc)
+
+pub op-nots-spec : {M : Type 1} → statement M
+op-nots-spec =
+    tie.close
+    (tie.spec
+    must-be-positive-requires
+    check-unary-requires
+    same-length
+    returns
+    apply-nots-requires
+    same-length-2
+    returns-2)

@@ -1,0 +1,26 @@
+use Rattle.typed.specs.Laws.{cell-untyped, cell-below, cell-above}
+use borrow.Author.Needs.{needs}
+use Rattle.typed.proofs.check_cell.Statement.{statement}
+use Rattle.typed.proofs.check_cell.Tie as tie
+
+type-check-requires : tie.Need-type-check-requires
+type-check-requires c κs = search needs
+
+enum-told : tie.Need-enum-told
+enum-told c = search needs
+
+returns : tie.Need-returns
+returns c = cell-untyped _ _ _ (cc)
+
+enum-told-2 : tie.Need-enum-told-2
+enum-told-2 c = search needs
+
+returns-2 : tie.Need-returns-2
+returns-2 c = cell-below _ _ _ (cc) (c .if1 .taken)
+
+returns-3 : tie.Need-returns-3
+returns-3 c = cell-above _ _ _ (cc) (c .if1 .left)
+
+pub check-cell-spec : {M : Type 1} → statement M
+check-cell-spec =
+    tie.close (tie.spec type-check-requires enum-told returns enum-told-2 returns-2 returns-3)

@@ -1,0 +1,33 @@
+use Rattle.typed.specs.Laws.{stop, go-on}
+use borrow.Author.Needs.{needs}
+use Rattle.typed.proofs.check_three.Statement.{statement}
+use Rattle.typed.proofs.check_three.Tie as tie
+
+check-access-requires : tie.Need-check-access-requires
+check-access-requires c κs = search needs
+
+returns : tie.Need-returns
+returns c = stop _ _ _ (c .if1 .taken) (cc)
+
+check-access-requires-2 : tie.Need-check-access-requires-2
+check-access-requires-2 c κs = search needs
+
+returns-2 : tie.Need-returns-2
+returns-2 c = go-on _ _ _ (cc) (stop _ _ _ (c .if2 .taken) (cc))
+
+check-access-requires-3 : tie.Need-check-access-requires-3
+check-access-requires-3 c κs = search needs
+
+returns-3 : tie.Need-returns-3
+returns-3 c = go-on _ _ _ (cc) (go-on _ _ _ (cc) (cc))
+
+pub check-three-spec : {M : Type 1} → statement M
+check-three-spec =
+    tie.close
+    (tie.spec
+    check-access-requires
+    returns
+    check-access-requires-2
+    returns-2
+    check-access-requires-3
+    returns-3)
