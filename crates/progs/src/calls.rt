@@ -79,6 +79,7 @@ impl ExecutionContext {
         requires { ⌜ self .saved ≤ 2048 ⌝ }
         ensures { λ r. ⌜ ((P : Program) (f : ℕ) → f < length (P .functions) → def ≡ functionOf P f → r ≡ judge (entryConditions P f (bare self))) ⌝ }
     {
+        let count = self.cell_count();
         let start = def.start as usize;
         let locals = def.locals as usize;
         let argsz = def.argsz;
@@ -89,13 +90,13 @@ impl ExecutionContext {
         if 2048 < self.saved + locals {
             return 23;
         }
-        if !copies::in_range(start, locals, self.cell_count()) {
+        if !copies::in_range(start, locals, count) {
             return 15;
         }
         if 8 < def.argc {
             return 24;
         }
-        if !copies::arguments_in_range(argsz, start, def.argc as usize, self.cell_count()) {
+        if !copies::arguments_in_range(argsz, start, def.argc as usize, count) {
             return 15;
         }
         if functions::is_builtin(def) { 21 } else { 0 }

@@ -1,3 +1,4 @@
+use mathlib.Core.Path.{sym, _∙_}
 use borrow.Author.Tests.{not-true, not-false}
 use Rattle.progs.proofs.LeaveLaws.{leave-25, leave-26, leave-15, leave-0}
 use borrow.Author.Needs.{needs}
@@ -26,11 +27,11 @@ in-range-requires c κs = search needs
 
 -- src/calls.rt:157:13
 returns-3 : tie.Need-returns-3
-returns-3 c = λ P e. leave-15 _ _ P e (search needs) (search needs) (cc (not-true (c .before .in-range .result) (c .if3 .taken)))
+returns-3 c = λ P e. leave-15 _ _ P e _ (c .before .before .cell-count .ensures) (search needs) (search needs) (sym (c .before .in-range .ensures) ∙ not-true _ (c .if3 .taken))
 
 -- src/calls.rt:147:5
 returns-4 : tie.Need-returns-4
-returns-4 c = λ P e. leave-0 _ _ P e (search needs) (search needs) (cc (not-false (c .before .in-range .result) (c .if3 .left)))
+returns-4 c = λ P e. leave-0 _ _ P e _ (c .before .before .cell-count .ensures) (search needs) (search needs) (sym (c .before .in-range .ensures) ∙ not-false _ (c .if3 .left))
 
 pub leave-refusal-spec : {M : Type 1} → statement M
 leave-refusal-spec =

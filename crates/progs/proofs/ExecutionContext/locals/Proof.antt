@@ -1,3 +1,5 @@
+use mathlib.Core.Path.{ap}
+use Rattle.progs.specs.Contexts.{rangeOf}
 use Rattle.progs.proofs.FileLaws.{no-locals}
 use borrow.Author.Needs.{needs}
 use Rattle.progs.proofs.ExecutionContext.locals.Statement.{statement}
@@ -29,7 +31,7 @@ cast-t7 c = search needs
 
 -- src/calls.rt:62:5
 returns-2 : tie.Need-returns-2
-returns-2 c = cc
+returns-2 c = ap rangeOf (c .before .before .get-def .ensures)
 
 pub locals-spec : {M : Type 1} → statement M
 locals-spec =
