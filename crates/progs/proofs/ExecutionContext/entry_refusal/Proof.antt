@@ -4,70 +4,49 @@ use Rattle.progs.proofs.EntryLaws.{entry-22, entry-23, entry-15, entry-
 use borrow.Author.Needs.{needs}
 use Rattle.progs.proofs.ExecutionContext.entry_refusal.Statement.{statement}
 use Rattle.progs.proofs.ExecutionContext.entry_refusal.Tie as tie
-use Rattle.progs.proofs.ExecutionContext.entry_refusal.Reads as reads
-use Rattle.progs.proofs.ExecutionContext.entry_refusal.Lts as lts
-use Rattle.functions.proofs.is_builtin.Reads as is-builtin-reads
-use Rattle.progs.proofs.ExecutionContext.cell_count.Reads as cell-count-reads
-use Rattle.progs.proofs.copies.arguments_in_range.Reads as arguments-in-range-reads
-use Rattle.progs.proofs.copies.in_range.Reads as in-range-reads
 
--- src/calls.rt:82:13
 cell-count-requires : tie.Need-cell-count-requires
 cell-count-requires c κs = search needs
 
--- src/calls.rt:83:21
 cast-start : tie.Need-cast-start
 cast-start c = search needs
 
--- src/calls.rt:84:22
 cast-locals : tie.Need-cast-locals
 cast-locals c = search needs
 
--- src/calls.rt:87:13
 returns : tie.Need-returns
 returns c = λ P f h e. entry-22 _ _ P f h e (search needs)
 
--- src/calls.rt:90:19
 add-if2 : tie.Need-add-if2
 add-if2 c = search needs
 
--- src/calls.rt:91:13
 returns-2 : tie.Need-returns-2
 returns-2 c = λ P f h e. entry-23 _ _ P f h e (search needs) (search needs)
 
--- src/calls.rt:93:13
 in-range-requires : tie.Need-in-range-requires
 in-range-requires c κs = search needs
 
--- src/calls.rt:94:13
 returns-3 : tie.Need-returns-3
 returns-3 c = λ P f h e. entry-15 _ _ P f h e _ (c .before .before .before .before .before .before .before .before .before .cell-count .ensures) (search needs) (sym (c .before .in-range .ensures) ∙ not-true _ (c .if3 .taken))
 
--- src/calls.rt:97:13
 returns-4 : tie.Need-returns-4
 returns-4 c = λ P f h e. entry-24 _ _ P f h e _ (c .before .before .before .before .before .before .before .before .before .before .before .cell-count .ensures) (search needs) (sym (c .before .before .before .in-range .ensures) ∙ not-false _ (c .before .before .if3 .left)) (search needs)
 
--- src/calls.rt:99:54
 cast-arguments-in-range : tie.Need-cast-arguments-in-range
 cast-arguments-in-range c = search needs
 
--- src/calls.rt:99:13
 arguments-in-range-requires : tie.Need-arguments-in-range-requires
 arguments-in-range-requires c κs = search needs
 
--- src/calls.rt:100:13
 returns-5 : tie.Need-returns-5
 returns-5 c = λ P f h e. entry-15-arguments _ _ P f h e _ (c .before .before .before .before .before .before .before .before .before .before .before .before .before .before .cell-count .ensures) (search needs) (sym (c .before .before .before .before .before .before .in-range .ensures) ∙ not-false _ (c .before .before .before .before .before .if3 .left)) (search needs) (sym (c .before .arguments-in-range .ensures) ∙ not-true _ (c .if5 .taken))
 
--- src/calls.rt:102:12
 is-builtin-requires : tie.Need-is-builtin-requires
 is-builtin-requires c κs = search needs
 
--- src/calls.rt:78:5
 returns-6 : tie.Need-returns-6
 returns-6 c = λ P f h e. entry-21 _ _ P f h e _ (c .before .before .before .before .before .before .before .before .before .before .before .before .before .before .before .before .cell-count .ensures) (search needs) (sym (c .before .before .before .before .before .before .before .before .in-range .ensures) ∙ not-false _ (c .before .before .before .before .before .before .before .if3 .left)) (search needs) (sym (c .before .before .before .arguments-in-range .ensures) ∙ not-false _ (c .before .before .if5 .left)) (sym (c .before .is-builtin .ensures) ∙ c .if6 .taken)
 
--- src/calls.rt:78:5
 returns-7 : tie.Need-returns-7
 returns-7 c = λ P f h e. entry-0 _ _ P f h e _ (c .before .before .before .before .before .before .before .before .before .before .before .before .before .before .before .before .cell-count .ensures) (search needs) (sym (c .before .before .before .before .before .before .before .before .in-range .ensures) ∙ not-false _ (c .before .before .before .before .before .before .before .if3 .left)) (search needs) (sym (c .before .before .before .arguments-in-range .ensures) ∙ not-false _ (c .before .before .if5 .left)) (sym (c .before .is-builtin .ensures) ∙ c .if6 .left)
 
