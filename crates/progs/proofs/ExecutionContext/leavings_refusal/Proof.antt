@@ -9,7 +9,7 @@ use Rattle.definition.specs.Load.{programOf}
 use Rattle.definition.specs.Operations.{leavingsConditions}
 use Rattle.progs.specs.Contexts.{stateOf, bare, Loaded}
 use Rattle.progs.proofs.LeaveLaws.{Leaves, leaves}
-use Rattle.progs.proofs.StateLaws.{depth-falls, loaded-left}
+use Rattle.progs.proofs.StateLaws.{depth-falls, left-loaded}
 use Rattle.progs.proofs.AbandonLaws.{leavings-refused, leavings-on, leavings-end}
 use Rattle.progs.proofs.ExecutionContext.leavings_refusal.Statement.{statement}
 use Rattle.progs.proofs.ExecutionContext.leavings_refusal.Tie as tie
@@ -55,7 +55,7 @@ loop-less : tie.Need-loop-less Inv-loop μ-loop
 loop-less c = omega (arith, depth-falls _ _ _ (after c))
 
 loop-again : tie.Need-loop-again Inv-loop μ-loop
-loop-again c = ((loaded-left _ _ _ (after c) _ (c .before .before .before .before .before .before .loop .inv .0 .0), omega (arith, depth-falls _ _ _ (after c))), leavings-on _ _ _ (c .before .before .before .before .if1 .taken) _ (after c) (clear (c .before)) ∙ c .before .before .before .before .before .before .loop .inv .1)
+loop-again c = ((left-loaded _ _ _ (after c) _ (c .before .before .before .before .before .before .loop .inv .0 .0), omega (arith, depth-falls _ _ _ (after c))), leavings-on _ _ _ (c .before .before .before .before .if1 .taken) _ (after c) (clear (c .before)) ∙ c .before .before .before .before .before .before .loop .inv .1)
 
 returns-2 : tie.Need-returns-2 Inv-loop μ-loop
 returns-2 c = leavings-end _ _ _ (c .if1 .left) ∙ c .before .before .loop .inv .1

@@ -11,7 +11,7 @@ use Rattle.definition.specs.Operations.{leavingsConditions, leftTimes}
 use Rattle.progs.specs.Contexts.{stateOf, config, bare, Within}
 use Rattle.progs.proofs.CopyLaws.{present-more}
 use Rattle.progs.proofs.LeaveLaws.{Leaves, leaves, left-state}
-use Rattle.progs.proofs.StateLaws.{depth-falls, within-left}
+use Rattle.progs.proofs.StateLaws.{depth-falls, left-within}
 use Rattle.progs.proofs.AbandonLaws.{leaves-first, leavings-on, times-on, times-end}
 use Rattle.progs.proofs.ExecutionContext.unwound.Statement.{statement}
 use Rattle.progs.proofs.ExecutionContext.unwound.Tie as tie
@@ -57,7 +57,7 @@ loop-again c =
     let m = c .before .before .before .before .before .if1 .taken in (
       (
         omega (arith, k),
-        (rw k (within-left _ _ _ (after c) _ _ _ (l .loop .inv .0 .1 .0)), leavings-on _ _ _ m _ (after c) (leaves-first _ _ _ m j) ∙ j),
+        (rw k (left-within _ _ _ _ _ (l .loop .inv .0 .1 .0) _ (after c)), leavings-on _ _ _ m _ (after c) (leaves-first _ _ _ m j) ∙ j),
       ),
       times-on _ _ _ m _ _ _ _ (gives c) ∙ l .loop .inv .1,
     )
