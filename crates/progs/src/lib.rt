@@ -11,6 +11,7 @@ use functions::fetch;
 mod abandon;
 mod calls;
 mod copies;
+pub mod load;
 mod raw;
 mod state;
 
