@@ -51,38 +51,40 @@ module _ (x : ExecutionContext) (d : FunctionDef) where
     unfolding entryConditions judge limits
     entry-23 h k = rw (lt-ltb f (length (P .functions)) there, lt-ltb (x .depth) 31 h, ← e, over (x .saved) (d .locals) k)
 
-    past : Room → number
-        ≡ judge
-        ((present (d .start) (d .locals) (x .file .globals .count) otherwise 15)
-        ∷ (leb (d .argc) 8 otherwise 24)
-        ∷ (copiesPresent (x .file .globals .count) (argumentsOf d) otherwise 15)
-        ∷ (not (isBuiltin d) otherwise 21)
-        ∷ [])
-    unfolding entryConditions judge limits
-    past h = rw (lt-ltb f (length (P .functions)) there, lt-ltb (x .depth) 31 (h .frame-free), ← e, within (x .saved) (d .locals) (h .locals-fit))
+    -- the tests of cells, below a count that is the file's
+    module _ (count : ℕ) (n : count ≡ x .file .globals .count) (h : Room) where
+      past : number
+          ≡ judge
+          ((present (d .start) (d .locals) count otherwise 15)
+          ∷ (leb (d .argc) 8 otherwise 24)
+          ∷ (copiesPresent count (argumentsOf d) otherwise 15)
+          ∷ (not (isBuiltin d) otherwise 21)
+          ∷ [])
+      unfolding entryConditions judge limits
+      past = rw (lt-ltb f (length (P .functions)) there, lt-ltb (x .depth) 31 (h .frame-free), ← e, within (x .saved) (d .locals) (h .locals-fit), n)
 
-    pub entry-15 : Room → present (d .start) (d .locals) (x .file .globals .count) ≡ false → 15 ≡ number
-    unfolding judge
-    entry-15 h a = rw (past h, a)
-
-    module _ (h : Room) (a : present (d .start) (d .locals) (x .file .globals .count) ≡ true) where
-      pub entry-24 : 8 < d .argc → 24 ≡ number
+      pub entry-15 : present (d .start) (d .locals) count ≡ false → 15 ≡ number
       unfolding judge
-      entry-24 b = rw (past h, a, lt-leb (d .argc) 8 b)
+      entry-15 a = rw (past, a)
 
-      module _ (b : d .argc ≤ 8) where
-        pub entry-15-arguments : copiesPresent (x .file .globals .count) (argumentsOf d) ≡ false → 15 ≡ number
+      module _ (a : present (d .start) (d .locals) count ≡ true) where
+        pub entry-24 : 8 < d .argc → 24 ≡ number
         unfolding judge
-        entry-15-arguments k = rw (past h, a, le-leb (d .argc) 8 b, k)
+        entry-24 b = rw (past, a, lt-leb (d .argc) 8 b)
 
-        module _ (k : copiesPresent (x .file .globals .count) (argumentsOf d) ≡ true) where
-          pub entry-21 : isBuiltin d ≡ true → 21 ≡ number
+        module _ (b : d .argc ≤ 8) where
+          pub entry-15-arguments : copiesPresent count (argumentsOf d) ≡ false → 15 ≡ number
           unfolding judge
-          entry-21 u = rw (past h, a, le-leb (d .argc) 8 b, k, u)
+          entry-15-arguments k = rw (past, a, le-leb (d .argc) 8 b, k)
 
-          pub entry-0 : isBuiltin d ≡ false → 0 ≡ number
-          unfolding judge
-          entry-0 u = rw (past h, a, le-leb (d .argc) 8 b, k, u)
+          module _ (k : copiesPresent count (argumentsOf d) ≡ true) where
+            pub entry-21 : isBuiltin d ≡ true → 21 ≡ number
+            unfolding judge
+            entry-21 u = rw (past, a, le-leb (d .argc) 8 b, k, u)
+
+            pub entry-0 : isBuiltin d ≡ false → 0 ≡ number
+            unfolding judge
+            entry-0 u = rw (past, a, le-leb (d .argc) 8 b, k, u)
 
     pub accepted : number ≡ 0 → Accepted
     unfolding entryConditions limits

@@ -5,20 +5,18 @@ use mathlib.Core.List.{List}
 use lib.ListN.{length, getD, List·getD-eq-default}
 use Rattle.definition.specs.declared.FileRecord.{FileRecord}
 use Rattle.definition.specs.declared.FunctionDef.{FunctionDef}
-use Rattle.definition.specs.File.{fileOf, readFunction, recordsIn, contentsAt, noFunction}
+use Rattle.definition.specs.File.{readFunction, recordsIn, noFunction}
 use Rattle.definition.specs.Machine.{Program, functionOf}
-use Rattle.definition.specs.Load.{programAt, programOf}
-use Rattle.definition.specs.RecordLaws.{length-records}
+use Rattle.definition.specs.Load.{programOf}
+use Rattle.functions.specs.Laws.{function-of, count-functions}
 use Rattle.progs.specs.Contexts.{Loaded, rangeOf}
 
 module _ (file : List ℕ) (r : FileRecord) (h : Loaded file r) where
   pub function-is : (f : ℕ) (d : FunctionDef) → d ≡ getD (recordsIn (readFunction file) 36 (r .functions)) f noFunction → d ≡ functionOf (programOf file) f
-  unfolding programAt contentsAt
-  function-is f d e = rw (← h .same) e
+  function-is f d e = (rw (h .same) at e) ∙ function-of file f
 
   pub function-count : length (programOf file .functions) ≡ r .functions .count
-  unfolding programAt contentsAt
-  function-count = rw (← h .same) (length-records (readFunction file) 36 (r .functions .count) (r .functions .offset))
+  function-count = rw (h .same) (count-functions file)
 
   pub function-there : (f : ℕ) → f < r .functions .count → f < length (programOf file .functions)
   function-there f k = rw function-count k

@@ -2,7 +2,7 @@
 use Prim.Native.Nat.{ℕ, zero, suc, _+_, _-_, _≤_, _<_}
 use mathlib.Core.Path.{_≡_, refl, sym, _∙_, ap}
 use mathlib.Core.List.{List, [], _∷_}
-use mathlib.Core.Bool.{Bool, true, false}
+use mathlib.Core.Bool.{Bool, true, false, true≢false}
 use native.Mathlib.Omega.{arith}
 use borrow.Author.Tests.{lt-ltb, le-ltb, ltb-true}
 use lib.IntN.{ℤ, pos, negsuc}
@@ -13,18 +13,29 @@ use Rattle.definition.specs.declared.ReadAnswer.the-variants as read
 use Rattle.definition.specs.Checks.{judge, guard}
 use Rattle.definition.specs.Statements.{placeOf}
 use Rattle.definition.specs.Machine.{Program, Config, entryConditions, enter}
-use Rattle.definition.specs.Operations.{sound, natural, below, hostEnter, leftTimes, leavingsConditions, abandonConditions, abandon, rawRead, rawWrite}
+use Rattle.definition.specs.Operations.{sound, natural, below, hostEnter, leftTimes, leavingsConditions, abandonConditions, abandon, rawConditions, rawRead, rawWrite}
+use Rattle.definition.specs.Load.{programOf}
 use Rattle.definition.specs.Answers.{Outcome, outcome, readAnswer}
+use Rattle.definition.specs.CheckLaws.{judge-passed}
 use Rattle.progs.specs.declared.ExecutionContext.{ExecutionContext}
 use Rattle.progs.specs.declared.Answered.{Answered}
 use Rattle.progs.specs.Contexts.{config, bare, outcomeOf, after, refusing, accepting}
 use Rattle.progs.proofs.OutcomeLaws.{refused-outcome, accepted-outcome, guard-past}
+use Rattle.progs.proofs.StateLaws.{passed}
 use Rattle.progs.proofs.AbandonLaws.{leavings-alone}
 
 -- a place is below the number of places exactly where the signed number is from 0 up to below it
 below-place : (n : ℕ) (a : ℤ) → below a n ≡ ltb (placeOf n a) n
 below-place n (pos i) = refl
 below-place n (negsuc i) = sym (le-ltb n n (omega arith))
+
+below-natural : (n : ℕ) (a : ℤ) → below a n ≡ true → natural a < n
+below-natural n (pos i) h = ltb-true i n h
+below-natural n (negsuc i) h = absurd (true≢false (sym h))
+
+place-zero : (a : ℤ) → placeOf 0 a ≡ natural a
+place-zero (pos i) = refl
+place-zero (negsuc i) = refl
 
 place-natural : (n : ℕ) (a : ℤ) → placeOf n a < n → natural a ≡ placeOf n a
 place-natural n (pos i) h = refl
@@ -48,39 +59,40 @@ module _ (P : Program) (x : ExecutionContext) (cells saved : List ℕ) where
   -- ---- raw access
 
   module _ (a : ℤ) where
-    pub read-13 : sound P here ≡ false → read.Refused 13 ≡ readAnswer (rawRead P a here)
-    unfolding rawRead guard judge
-    read-13 s = rw s
+    pub raw-13 : sound P here ≡ false → 13 ≡ judge (rawConditions P a here)
+    unfolding judge
+    raw-13 s = rw s
 
-    pub write-13 : (v : ℕ) (r : Answered) → sound P here ≡ false → r ≡ refusing x 13 → outcomeOf r cells saved ≡ after here (rawWrite P a v)
-    unfolding rawWrite judge
-    write-13 v r s h = refused-outcome x cells saved _ _ 13 r (rw s) (λ z. absurd (omega arith)) h
+    module _ (count at : ℕ) (n : count ≡ x .file .globals .count) (s : sound P here ≡ true) (e : at ≡ placeOf count a) where
+      pub raw-15 : count ≤ at → 15 ≡ judge (rawConditions P a here)
+      unfolding judge
+      raw-15 k = rw (s, ← n, below-place count a, ← e, le-ltb at count k)
 
-    module _ (at : ℕ) (s : sound P here ≡ true) (e : at ≡ placeOf (x .file .globals .count) a) where
-      outside : x .file .globals .count ≤ at → below a (x .file .globals .count) ≡ false
-      outside k = below-place (x .file .globals .count) a ∙ le-ltb _ _ (rw e at k)
+      pub raw-0 : at < count → 0 ≡ judge (rawConditions P a here)
+      unfolding judge
+      raw-0 k = rw (s, ← n, below-place count a, ← e, lt-ltb at count k)
 
-      inside : at < x .file .globals .count → below a (x .file .globals .count) ≡ true
-      inside k = below-place (x .file .globals .count) a ∙ lt-ltb _ _ (rw e at k)
+    -- what an access that is accepted knows
+    raw-passed : judge (rawConditions P a here) ≡ 0 → (sound P here ≡ true) × (natural a < x .file .globals .count)
+    raw-passed z = let h = judge-passed (rawConditions P a here) z in (h .0, below-natural (x .file .globals .count) a (h .1 .0))
 
-      same-place : at < x .file .globals .count → natural a ≡ at
-      same-place k = place-natural (x .file .globals .count) a (rw e at k) ∙ sym e
+    pub read-refused : (n : ℕ) → n ≡ judge (rawConditions P a here) → (n ≡ 0 → ⊥) → read.Refused n ≡ readAnswer (rawRead P a here)
+    unfolding rawRead guard
+    read-refused zero e z = absurd (z refl)
+    read-refused (suc n) e z = rw (← e)
 
-      pub read-15 : x .file .globals .count ≤ at → read.Refused 15 ≡ readAnswer (rawRead P a here)
-      unfolding rawRead guard judge
-      read-15 k = rw (s, outside k)
+    pub write-refused : (v n : ℕ) (r : Answered) → n ≡ judge (rawConditions P a here) → (n ≡ 0 → ⊥) → r ≡ refusing x n → outcomeOf r cells saved ≡ after here (rawWrite P a v)
+    unfolding rawWrite
+    write-refused v n r e z h = refused-outcome x cells saved _ _ n r e z h
 
-      pub read-value : at < x .file .globals .count → read.Value (getD cells at 0) ≡ readAnswer (rawRead P a here)
-      unfolding rawRead guard judge
-      read-value k = rw (s, inside k, same-place k)
+    module _ (at : ℕ) (e : at ≡ placeOf 0 a) (z : judge (rawConditions P a here) ≡ 0) where
+      pub read-value : read.Value (getD cells at 0) ≡ readAnswer (rawRead P a here)
+      unfolding rawRead guard
+      read-value = rw (z, e, place-zero a)
 
-      pub write-15 : (v : ℕ) (r : Answered) → x .file .globals .count ≤ at → r ≡ refusing x 15 → outcomeOf r cells saved ≡ after here (rawWrite P a v)
-      unfolding rawWrite judge
-      write-15 v r k h = refused-outcome x cells saved _ _ 15 r (rw (s, outside k)) (λ z. absurd (omega arith)) h
-
-      pub write-done : (v : ℕ) → at < x .file .globals .count → outcomeOf (accepting x) (set cells at v) saved ≡ after here (rawWrite P a v)
-      unfolding rawWrite judge
-      write-done v k = accepted-outcome x cells saved _ _ x (set cells at v) saved (rw (s, inside k)) (rw (same-place k))
+      pub write-done : (v : ℕ) → outcomeOf (accepting x) (set cells at v) saved ≡ after here (rawWrite P a v)
+      unfolding rawWrite
+      write-done v = accepted-outcome x cells saved _ _ x (set cells at v) saved z (rw (e, place-zero a))
 
   -- ---- abandonment
 
@@ -127,3 +139,10 @@ module _ (P : Program) (x : ExecutionContext) (cells saved : List ℕ) where
             → outcomeOf (accepting y) cells′ saved ≡ after here (abandon P target)
         unfolding abandon
         abandon-done y cells′ z h = accepted-outcome x cells saved _ _ y cells′ saved (numbers ∙ z) (rw same-target h)
+
+-- the cell of an access that is accepted is there
+pub raw-there : (file : List ℕ) (x : ExecutionContext) (cells saved : List ℕ) (a : ℤ) (at : ℕ) → at ≡ placeOf 0 a → judge (rawConditions (programOf file) a (config x cells saved)) ≡ 0 → at < length cells
+raw-there file x cells saved a at e z =
+    let h = raw-passed (programOf file) x cells saved a z in
+    let w = passed file cells saved x (h .0) in
+    omega (arith, e, place-zero a, h .1, w .lent)

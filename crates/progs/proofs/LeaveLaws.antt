@@ -41,17 +41,19 @@ module _ (x : ExecutionContext) (l : Locals) (P : Program) (e : l ≡ rangeOf (f
   unfolding leaveConditions judge
   leave-26 h k = rw (lt-ltb 0 (x .depth) (omega arith), count-is, lt-leb (l .count) (x .saved) k)
 
-  past : (x .depth ≡ 0 → ⊥) → l .count ≤ x .saved → number ≡ judge ((present (l .start) (l .count) (x .file .globals .count) otherwise 15) ∷ [])
-  unfolding leaveConditions judge
-  past h k = rw (lt-ltb 0 (x .depth) (omega arith), start-is, count-is, le-leb (l .count) (x .saved) k)
+  -- the test of cells, below a count that is the file's
+  module _ (count : ℕ) (n : count ≡ x .file .globals .count) (h : x .depth ≡ 0 → ⊥) (k : l .count ≤ x .saved) where
+    past : number ≡ judge ((present (l .start) (l .count) count otherwise 15) ∷ [])
+    unfolding leaveConditions judge
+    past = rw (lt-ltb 0 (x .depth) (omega arith), start-is, count-is, le-leb (l .count) (x .saved) k, n)
 
-  pub leave-15 : (x .depth ≡ 0 → ⊥) → l .count ≤ x .saved → present (l .start) (l .count) (x .file .globals .count) ≡ false → 15 ≡ number
-  unfolding judge
-  leave-15 h k a = rw (past h k, a)
+    pub leave-15 : present (l .start) (l .count) count ≡ false → 15 ≡ number
+    unfolding judge
+    leave-15 a = rw (past, a)
 
-  pub leave-0 : (x .depth ≡ 0 → ⊥) → l .count ≤ x .saved → present (l .start) (l .count) (x .file .globals .count) ≡ true → 0 ≡ number
-  unfolding judge
-  leave-0 h k a = rw (past h k, a)
+    pub leave-0 : present (l .start) (l .count) count ≡ true → 0 ≡ number
+    unfolding judge
+    leave-0 a = rw (past, a)
 
   pub leaves : number ≡ 0 → Leaves x l
   unfolding leaveConditions
@@ -89,21 +91,21 @@ module _ (P : Program) (x : ExecutionContext) (cells saved : List ℕ) where
   unfolding leaveConditions
   leave-accepted y cells′ z h = accepted-outcome x cells saved _ _ y cells′ saved z h
 
-  module _ (a : ℕ) where
-    pub return-15 : (r : Answered) → present a 3 (x .file .globals .count) ≡ false → r ≡ refusing x 15
+  module _ (a count : ℕ) (n : count ≡ x .file .globals .count) where
+    pub return-15 : (r : Answered) → present a 3 count ≡ false → r ≡ refusing x 15
         → outcomeOf r cells saved ≡ after (config x cells saved) (return P a)
     unfolding judge
-    return-15 r p h = refused-outcome x cells saved _ _ 15 r (rw p) (λ z. absurd (omega arith)) h
+    return-15 r p h = refused-outcome x cells saved _ _ 15 r (rw (← n, p)) (λ z. absurd (omega arith)) h
 
-    module _ (p : present a 3 (x .file .globals .count) ≡ true) where
-      pub return-refused : (n : ℕ) (r : Answered) → n ≡ judge (leaveConditions P (bare x)) → (n ≡ 0 → ⊥) → r ≡ refusing x n
+    module _ (p : present a 3 count ≡ true) where
+      pub return-refused : (m : ℕ) (r : Answered) → m ≡ judge (leaveConditions P (bare x)) → (m ≡ 0 → ⊥) → r ≡ refusing x m
           → outcomeOf r cells saved ≡ after (config x cells saved) (return P a)
       unfolding judge leaveConditions
-      return-refused n r e z h = refused-outcome x cells saved _ _ n r (rw p e) z h
+      return-refused m r e z h = refused-outcome x cells saved _ _ m r (rw (rw n at p) e) z h
 
       pub return-accepted : (y : ExecutionContext) (cells₁ cells′ : List ℕ) → judge (leaveConditions P (bare x)) ≡ 0
           → cells₁ ≡ copied (successive 3 a 1) cells
           → config y cells′ saved ≡ left P (config x cells₁ saved)
           → outcomeOf (accepting y) cells′ saved ≡ after (config x cells saved) (return P a)
       unfolding judge leaveConditions
-      return-accepted y cells₁ cells′ z e h = accepted-outcome x cells saved _ _ y cells′ saved (rw p z) (rw e at h)
+      return-accepted y cells₁ cells′ z e h = accepted-outcome x cells saved _ _ y cells′ saved (rw (rw n at p) z) (rw e at h)

@@ -6,3 +6,4 @@ pub mod LeaveLaws
 pub mod StateLaws
 pub mod AbandonLaws
 pub mod HostLaws
+pub mod LoadLaws

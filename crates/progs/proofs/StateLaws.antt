@@ -1,24 +1,29 @@
 -- Laws of check 13: what is left of the entered functions, and what it is to pass.
 use Prim.Native.Nat.{ℕ, zero, suc, _+_, _-_, _≤_, _<_}
 use mathlib.Core.Path.{_≡_, refl, sym, _∙_, ap}
+use mathlib.Core.Logic.{⊎-elim}
 use mathlib.Core.List.{List, [], _∷_}
 use mathlib.Core.Bool.{Bool, true, false, not, _&&_, and-true, and-false}
 use native.Mathlib.Omega.{arith}
 use native.Mathlib.Nat.{add-assoc, add-zero}
-use borrow.Author.Tests.{lt-ltb, le-ltb, le-leb, lt-leb, leb-true}
+use borrow.Author.Tests.{lt-ltb, le-ltb, le-leb, lt-leb, leb-true, ltb-true}
+use lib.IntN.{ℤ}
 use lib.ListN.{length, getD}
 use lib.Dec.{leb, ltb, eqb}
 use Rattle.definition.specs.declared.FileRecord.{FileRecord}
 use Rattle.definition.specs.declared.StackFrame.{StackFrame}
 use Rattle.definition.specs.declared.FunctionDef.{FunctionDef}
+use Rattle.definition.specs.Checks.{judge}
 use Rattle.definition.specs.File.{negative}
-use Rattle.definition.specs.Machine.{Program, functionOf, State, limits, zeroFrame, left}
+use Rattle.definition.specs.Machine.{Program, functionOf, State, Config, limits, zeroFrame, entryConditions, entered, enter, left, returnConditions, returned}
 use Rattle.definition.specs.Load.{programAt, programOf, recordedIn}
 use Rattle.definition.specs.Operations.{frameFunctions, enteredAt, enteredFunctions, allPresent, localsOf, sound}
-use Rattle.definition.specs.CheckLaws.{and-left, and-right}
+use Rattle.definition.specs.CheckLaws.{judge-passed, and-left, and-right}
 use Rattle.functions.specs.Laws.{Recorded, recorded}
 use Rattle.progs.specs.declared.ExecutionContext.{ExecutionContext}
-use Rattle.progs.specs.Contexts.{stateOf, config, bare, Loaded, Within}
+use Rattle.progs.specs.declared.Answered.{Answered}
+use Rattle.progs.specs.Contexts.{stateOf, config, bare, outcomeOf, after, return, Loaded, Within}
+use Rattle.progs.proofs.OutcomeLaws.{outcome-cases}
 
 -- ---- the entered functions that are left, when the local counts of the others are summed
 
@@ -120,32 +125,70 @@ module _ (file cells saved : List ℕ) (x : ExecutionContext) where
 pub loaded-of : (file : List ℕ) (r : FileRecord) (cells : ℕ) → recordedIn file r cells ≡ true → Loaded file r
 loaded-of file r cells h = let k = recorded file r cells h in record { same = k .same; lumps = k .lumps }
 
--- ---- kept by a leaving
+-- ---- what check 13 establishes is kept by every entry and leaving
+
+module _ (file : List ℕ) (cells saved : ℕ) (x y : ExecutionContext) (h : Within file x cells saved) where
+  moved-within : y .file ≡ x .file → y .depth ≤ 31 → y .saved ≤ 2048 → Within file y cells saved
+  moved-within e d s =
+      record {
+        loaded = rw e (h .loaded);
+        least = rw e (h .least);
+        most = rw e (h .most);
+        lent = rw e (h .lent);
+        store = h .store;
+        depth = d;
+        held = s;
+      }
+
+  same-within : stateOf y ≡ stateOf x → Within file y cells saved
+  same-within e =
+      let d : y .depth ≡ x .depth = ap (λ (s : State). s .depth) e in
+      let s : y .saved ≡ x .saved = ap (λ (s : State). s .saved) e in
+      moved-within (ap (λ (s : State). s .file) e) (rw d (h .depth)) (rw s (h .held))
+
+  pub left-within : (P : Program) → stateOf y ≡ left P (bare x) .state → Within file y cells saved
+  unfolding left
+  left-within P e =
+      let d : y .depth ≡ x .depth - 1 = ap (λ (s : State). s .depth) e in
+      let s : y .saved ≡ x .saved - functionOf P (x .«current_function») .locals = ap (λ (s : State). s .saved) e in
+      moved-within (ap (λ (s : State). s .file) e) (omega (arith, h .depth)) (omega (arith, h .held))
+
+  entered-within : (P : Program) (f : ℕ) (back : ℤ) → judge (entryConditions P f (bare x)) ≡ 0 → stateOf y ≡ entered P f back (bare x) .state → Within file y cells saved
+  unfolding entered entryConditions limits
+  entered-within P f back z e =
+      let l = functionOf P f .locals in
+      let k = judge-passed (entryConditions P f (bare x)) z in
+      let free : x .depth < 31 = ltb-true (x .depth) 31 (k .1 .0) in
+      let fits : x .saved + l ≤ 2048 = leb-true _ _ (and-right (not (negative l)) (leb (x .saved + l) 2048) (k .1 .1 .0)) in
+      let d : y .depth ≡ x .depth + 1 = ap (λ (s : State). s .depth) e in
+      let s : y .saved ≡ x .saved + l = ap (λ (s : State). s .saved) e in
+      moved-within (ap (λ (s : State). s .file) e) (omega arith) (omega arith)
+
+-- after whatever an entry or a Return answers
+module _ (file : List ℕ) (P : Program) (x : ExecutionContext) (cells saved : List ℕ) (r : Answered) (cells′ saved′ : List ℕ) (h : Within file x (length cells) (length saved)) where
+  pub enter-within : (f : ℕ) (back : ℤ) → outcomeOf r cells′ saved′ ≡ after (config x cells saved) (enter P f back) → Within file (r .context) (length cells) (length saved)
+  unfolding entered entryConditions
+  enter-within f back e =
+      ⊎-elim
+      (λ s. same-within _ _ _ x (r .context) h s)
+      (λ s. entered-within _ _ _ x (r .context) h P f back (s .0) (ap (λ (c : Config). c .state) (s .1)))
+      (outcome-cases x cells saved (entryConditions P f (config x cells saved)) (entered P f back (config x cells saved)) r cells′ saved′ e)
+
+  pub return-within : (a : ℕ) → outcomeOf r cells′ saved′ ≡ after (config x cells saved) (return P a) → Within file (r .context) (length cells) (length saved)
+  unfolding left
+  return-within a e =
+      ⊎-elim
+      (λ s. same-within _ _ _ x (r .context) h s)
+      (λ s. left-within _ _ _ x (r .context) h P (ap (λ (c : Config). c .state) (s .1)))
+      (outcome-cases x cells saved (returnConditions P a (config x cells saved)) (returned P a (config x cells saved)) r cells′ saved′ e)
+
+-- ---- a leaving, on contexts alone
 
 module _ (P : Program) (x y : ExecutionContext) (e : stateOf y ≡ left P (bare x) .state) where
-  file-stays : y .file ≡ x .file
-  unfolding left
-  file-stays = ap (λ (s : State). s .file) e
-
   pub depth-falls : y .depth ≡ x .depth - 1
   unfolding left
   depth-falls = ap (λ (s : State). s .depth) e
 
-  saved-falls : y .saved ≤ x .saved
+  pub left-loaded : (file : List ℕ) → Loaded file (x .file) → Loaded file (y .file)
   unfolding left
-  saved-falls = let h : y .saved ≡ x .saved - functionOf P (x .«current_function») .locals = ap (λ (s : State). s .saved) e in omega arith
-
-  pub loaded-left : (file : List ℕ) → Loaded file (x .file) → Loaded file (y .file)
-  loaded-left file h = rw file-stays h
-
-  pub within-left : (file : List ℕ) (cells saved : ℕ) → Within file x cells saved → Within file y cells saved
-  within-left file cells saved h =
-      record {
-        loaded = loaded-left file (h .loaded);
-        least = rw file-stays (h .least);
-        most = rw file-stays (h .most);
-        lent = rw file-stays (h .lent);
-        store = h .store;
-        depth = omega (arith, depth-falls, h .depth);
-        held = omega (arith, saved-falls, h .held);
-      }
+  left-loaded file h = let f : y .file ≡ x .file = ap (λ (s : State). s .file) e in rw f h

@@ -21,7 +21,7 @@ pub struct Locals {
 }
 
 impl ExecutionContext {
-    pub fn refused(self, n: u8) -> Answered
+    pub(crate) fn refused(self, n: u8) -> Answered
         ensures { λ r. ⌜ r ≡ refusing self n ⌝ }
     {
         Answered {
@@ -31,7 +31,7 @@ impl ExecutionContext {
     }
 
     // The file's count of cells, by which 15 refuses.
-    pub fn cell_count(self) -> usize
+    pub(crate) fn cell_count(self) -> usize
         ensures { λ r. ⌜ r ≡ self .file .globals .count ⌝ }
     {
         let file = self.file;
@@ -39,7 +39,7 @@ impl ExecutionContext {
         globals.count
     }
 
-    pub fn function_count(self) -> usize
+    pub(crate) fn function_count(self) -> usize
         ensures { λ r. ⌜ r ≡ self .file .functions .count ⌝ }
     {
         let file = self.file;
@@ -48,7 +48,7 @@ impl ExecutionContext {
     }
 
     // The record of a function that is there.
-    pub fn get_def(self, file: &[u8], f: usize) -> FunctionDef
+    pub(crate) fn get_def(self, file: &[u8], f: usize) -> FunctionDef
         requires { ⌜ Loaded (now file) (self .file) ⌝ }
         requires { ⌜ f < self .file .functions .count ⌝ }
         ensures { λ r. ⌜ r ≡ functionOf (programOf (now (file .entry))) f ⌝ }
@@ -59,7 +59,7 @@ impl ExecutionContext {
     }
 
     // The local range of the current function; one that isn't there has no locals.
-    pub fn locals(self, file: &[u8]) -> Locals
+    pub(crate) fn locals(self, file: &[u8]) -> Locals
         requires { ⌜ Loaded (now file) (self .file) ⌝ }
         ensures { λ r. ⌜ r ≡ rangeOf (functionOf (programOf (now (file .entry))) (self .«current_function»)) ⌝ }
     {
@@ -79,6 +79,7 @@ impl ExecutionContext {
         requires { ⌜ self .saved ≤ 2048 ⌝ }
         ensures { λ r. ⌜ ((P : Program) (f : ℕ) → f < length (P .functions) → def ≡ functionOf P f → r ≡ judge (entryConditions P f (bare self))) ⌝ }
     {
+        let count = self.cell_count();
         let start = def.start as usize;
         let locals = def.locals as usize;
         let argsz = def.argsz;
@@ -89,13 +90,13 @@ impl ExecutionContext {
         if 2048 < self.saved + locals {
             return 23;
         }
-        if !copies::in_range(start, locals, self.cell_count()) {
+        if !copies::in_range(start, locals, count) {
             return 15;
         }
         if 8 < def.argc {
             return 24;
         }
-        if !copies::arguments_in_range(argsz, start, def.argc as usize, self.cell_count()) {
+        if !copies::arguments_in_range(argsz, start, def.argc as usize, count) {
             return 15;
         }
         if functions::is_builtin(def) { 21 } else { 0 }
@@ -151,7 +152,7 @@ impl ExecutionContext {
     }
 
     // 0, or the number of the refusal to leave the current function, whose local range is `locals`.
-    pub fn leave_refusal(self, locals: Locals) -> u8
+    pub(crate) fn leave_refusal(self, locals: Locals) -> u8
         ensures { λ r. ⌜ ((P : Program) → locals ≡ rangeOf (functionOf P (self .«current_function»)) → r ≡ judge (leaveConditions P (bare self))) ⌝ }
     {
         if self.depth == 0 {
@@ -167,7 +168,7 @@ impl ExecutionContext {
     }
 
     // The context after the current function, with so many locals, is left.
-    pub fn left(self, locals: Locals) -> ExecutionContext
+    pub(crate) fn left(self, locals: Locals) -> ExecutionContext
         requires { ⌜ (0 < self .depth) × ((self .depth ≤ 31) × (locals .count ≤ self .saved)) ⌝ }
         ensures { λ r. ⌜ ((P : Program) → locals ≡ rangeOf (functionOf P (self .«current_function»)) → stateOf r ≡ left P (bare self) .state) ⌝ }
     {
@@ -187,7 +188,12 @@ impl ExecutionContext {
     }
 
     // Leaves the current function: restores its locals, and gives the context after.
-    pub fn restored(self, locals: Locals, cells: &mut [u32], saved: &[u32]) -> ExecutionContext
+    pub(crate) fn restored(
+        self,
+        locals: Locals,
+        cells: &mut [u32],
+        saved: &[u32],
+    ) -> ExecutionContext
         requires { ⌜ (0 < self .depth) × (self .depth ≤ 31) ⌝ }
         requires { ⌜ (locals .count ≤ self .saved) × (self .saved ≤ length (now saved)) ⌝ }
         requires { ⌜ present (locals .start) (locals .count) (length (now cells)) ≡ true ⌝ }

@@ -16,13 +16,6 @@ use Rattle.progs.proofs.HostLaws.{abandon-13, abandon-29, abandon-refus
 use borrow.Author.Needs.{needs}
 use Rattle.progs.proofs.ExecutionContext.abandon.Statement.{statement}
 use Rattle.progs.proofs.ExecutionContext.abandon.Tie as tie
-use Rattle.progs.proofs.ExecutionContext.abandon.Reads as reads
-use Rattle.progs.proofs.ExecutionContext.abandon.Lts as lts
-use Rattle.functions.proofs.fetch.place_of.Reads as place-of-reads
-use Rattle.progs.proofs.ExecutionContext.check_state.Reads as check-state-reads
-use Rattle.progs.proofs.ExecutionContext.leavings_refusal.Reads as leavings-refusal-reads
-use Rattle.progs.proofs.ExecutionContext.refused.Reads as refused-reads
-use Rattle.progs.proofs.ExecutionContext.unwound.Reads as unwound-reads
 
 -- check 13 passed
 sound-here : (c : tie.Else1) → let s = c .before .before .before .before .before .before in sound (programOf (s .args .file .now)) (config (s .args .self) (s .args .cells .now) (s .args .saved .now)) ≡ true
@@ -37,67 +30,51 @@ place c =
     let g : SFits w64 (c .before .before .before .before .before .before .before .before .args .target) = search needs in
     (rw (toZ-ofZ g) at (c .place-of .ensures))
 
--- src/abandon.rt:51:13
 check-state-requires : tie.Need-check-state-requires
 check-state-requires c κs = search needs
 
--- src/abandon.rt:52:13
 refused-requires : tie.Need-refused-requires
 refused-requires c κs = search needs
 
--- src/abandon.rt:52:13
 same-length : tie.Need-same-length
 same-length c = search needs
 
--- src/abandon.rt:52:13
 returns : tie.Need-returns
 returns c = abandon-13 _ _ _ _ _ _ (sym (c .before .before .check-state .ensures) ∙ not-true _ (c .before .if1 .taken)) (search needs)
 
--- src/abandon.rt:54:36
 add-place-of : tie.Need-add-place-of
 add-place-of c = omega (arith, within (c .before) .depth)
 
--- src/abandon.rt:54:13
 place-of-requires : tie.Need-place-of-requires
 place-of-requires c κs = search needs
 
--- src/abandon.rt:56:13
 refused-requires-2 : tie.Need-refused-requires-2
 refused-requires-2 c κs = search needs
 
--- src/abandon.rt:56:13
 same-length-2 : tie.Need-same-length-2
 same-length-2 c = search needs
 
--- src/abandon.rt:56:13
 returns-2 : tie.Need-returns-2
 returns-2 c = abandon-29 _ _ _ _ _ _ (sound-here (c .before .before .before .before .before)) (place (c .before .before .before)) _ (c .before .if2 .taken) (search needs)
 
--- src/abandon.rt:58:13
 leavings-refusal-requires : tie.Need-leavings-refusal-requires
 leavings-refusal-requires c κs = let w = within (c .before .before .before .before) in (w .loaded, w .depth)
 
--- src/abandon.rt:60:13
 refused-requires-3 : tie.Need-refused-requires-3
 refused-requires-3 c κs = search needs
 
--- src/abandon.rt:60:13
 same-length-3 : tie.Need-same-length-3
 same-length-3 c = search needs
 
--- src/abandon.rt:60:13
 returns-3 : tie.Need-returns-3
 returns-3 c = abandon-refused _ _ _ _ _ _ (sound-here (c .before .before .before .before .before .before .before)) (place (c .before .before .before .before .before)) (c .before .before .before .if2 .left) _ _ (c .before .before .leavings-refusal .ensures) (c .before .if3 .taken) (search needs)
 
--- src/abandon.rt:63:22
 unwound-requires : tie.Need-unwound-requires
 unwound-requires c κs = (within (c .before .before .before .before .before .before .before), sym (c .before .before .leavings-refusal .ensures) ∙ c .before .if3 .left)
 
--- src/abandon.rt:48:5
 same-length-4 : tie.Need-same-length-4
 same-length-4 c = search needs
 
--- src/abandon.rt:48:5
 returns-4 : tie.Need-returns-4
 returns-4 c = abandon-done _ _ _ _ _ _ (sound-here (c .before .before .before .before .before .before .before .before .before .before)) (place (c .before .before .before .before .before .before .before .before)) (c .before .before .before .before .before .before .if2 .left) _ _ (sym (c .before .before .before .before .before .leavings-refusal .ensures) ∙ c .before .before .before .before .if3 .left) (c .before .before .unwound .ensures)
 

@@ -7,40 +7,29 @@ use Rattle.progs.proofs.StateLaws.{unrecorded, short-store, too-deep, t
 use borrow.Author.Needs.{needs}
 use Rattle.progs.proofs.ExecutionContext.check_state.Statement.{statement}
 use Rattle.progs.proofs.ExecutionContext.check_state.Tie as tie
-use Rattle.progs.proofs.ExecutionContext.check_state.Reads as reads
-use Rattle.progs.proofs.ExecutionContext.check_state.Lts as lts
-use Rattle.functions.proofs.header.recorded_in.Reads as recorded-in-reads
-use Rattle.progs.proofs.ExecutionContext.locals_add_up.Reads as locals-add-up-reads
 
 -- the file is as the context records
 as-recorded : (c : tie.Else1) → let s = c .before .before .before .before .before .before in recordedIn (s .args .file .now) (s .args .self .file) (length (s .args .cells .now)) ≡ true
 as-recorded c = sym (c .before .recorded-in .ensures) ∙ not-false _ (c .if1 .left)
 
--- src/state.rt:44:13
 recorded-in-requires : tie.Need-recorded-in-requires
 recorded-in-requires c κs = search needs
 
--- src/state.rt:45:13
 returns : tie.Need-returns
 returns c = unrecorded _ _ _ _ (sym (c .before .recorded-in .ensures) ∙ not-true _ (c .if1 .taken))
 
--- src/state.rt:48:13
 returns-2 : tie.Need-returns-2
 returns-2 c = short-store _ _ _ _ (c .if2 .taken)
 
--- src/state.rt:51:13
 returns-3 : tie.Need-returns-3
 returns-3 c = too-deep _ _ _ _ (c .if3 .taken)
 
--- src/state.rt:54:13
 returns-4 : tie.Need-returns-4
 returns-4 c = too-full _ _ _ _ (c .if4 .taken)
 
--- src/state.rt:56:9
 locals-add-up-requires : tie.Need-locals-add-up-requires
 locals-add-up-requires c κs = (loaded-of _ _ _ (as-recorded (c .before .before .before .before .before)), c .before .before .if3 .left)
 
--- src/state.rt:40:5
 returns-5 : tie.Need-returns-5
 returns-5 c = c .locals-add-up .ensures ∙ adding-up _ _ _ _ (as-recorded (c .before .before .before .before .before .before)) (c .before .before .before .before .before .if2 .left) (c .before .before .before .if3 .left) (c .before .if4 .left)
 

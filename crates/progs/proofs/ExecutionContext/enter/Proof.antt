@@ -15,13 +15,6 @@ use Rattle.progs.proofs.HostLaws.{enter-13, enter-host}
 use borrow.Author.Needs.{needs}
 use Rattle.progs.proofs.ExecutionContext.enter.Statement.{statement}
 use Rattle.progs.proofs.ExecutionContext.enter.Tie as tie
-use Rattle.progs.proofs.ExecutionContext.enter.Reads as reads
-use Rattle.progs.proofs.ExecutionContext.enter.Lts as lts
-use Rattle.functions.proofs.fetch.place_of.Reads as place-of-reads
-use Rattle.progs.proofs.ExecutionContext.check_state.Reads as check-state-reads
-use Rattle.progs.proofs.ExecutionContext.enter_function.Reads as enter-function-reads
-use Rattle.progs.proofs.ExecutionContext.function_count.Reads as function-count-reads
-use Rattle.progs.proofs.ExecutionContext.refused.Reads as refused-reads
 
 -- check 13 passed
 sound-here : (c : tie.Else1) → let s = c .before .before .before .before .before .before .before in sound (programOf (s .args .file .now)) (config (s .args .self) (s .args .cells .now) (s .args .saved .now)) ≡ true
@@ -35,47 +28,36 @@ place c =
     let n = function-count _ _ (passed _ _ _ _ (sound-here (c .before .before)) .loaded) in
     rw (n, ← c .before .function-count .ensures) (rw (toZ-ofZ g) at (c .place-of .ensures))
 
--- src/lib.rt:40:13
 check-state-requires : tie.Need-check-state-requires
 check-state-requires c κs = search needs
 
--- src/lib.rt:41:13
 refused-requires : tie.Need-refused-requires
 refused-requires c κs = search needs
 
--- src/lib.rt:41:13
 same-length : tie.Need-same-length
 same-length c = search needs
 
--- src/lib.rt:41:13
 same-length-2 : tie.Need-same-length-2
 same-length-2 c = search needs
 
--- src/lib.rt:41:13
 returns : tie.Need-returns
 returns c = enter-13 _ _ _ _ _ _ (sym (c .before .before .check-state .ensures) ∙ not-true _ (c .before .if1 .taken)) (search needs)
 
--- src/lib.rt:43:33
 function-count-requires : tie.Need-function-count-requires
 function-count-requires c κs = search needs
 
--- src/lib.rt:43:13
 place-of-requires : tie.Need-place-of-requires
 place-of-requires c κs = search needs
 
--- src/lib.rt:44:9
 enter-function-requires : tie.Need-enter-function-requires
 enter-function-requires c κs = passed _ _ _ _ (sound-here (c .before .before .before .before .before))
 
--- src/lib.rt:37:5
 same-length-3 : tie.Need-same-length-3
 same-length-3 c = search needs
 
--- src/lib.rt:37:5
 same-length-4 : tie.Need-same-length-4
 same-length-4 c = search needs
 
--- src/lib.rt:37:5
 returns-2 : tie.Need-returns-2
 returns-2 c =
     let s = c .before .before .before .before .before .before .before .before .before .before .before .before .before .before .before .before .before in

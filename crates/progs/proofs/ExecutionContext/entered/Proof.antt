@@ -6,34 +6,25 @@ use Rattle.definition.specs.Machine.{entered}
 use borrow.Author.Needs.{needs}
 use Rattle.progs.proofs.ExecutionContext.entered.Statement.{statement}
 use Rattle.progs.proofs.ExecutionContext.entered.Tie as tie
-use Rattle.progs.proofs.ExecutionContext.entered.Reads as reads
-use Rattle.progs.proofs.ExecutionContext.entered.Lts as lts
 
--- src/calls.rt:115:9
 mul-frame : tie.Need-mul-frame
 mul-frame c = search needs
 
--- src/calls.rt:115:9
 element-set-from-frame : tie.Need-element-set-from-frame
 element-set-from-frame c = search needs
 
--- src/calls.rt:116:22
 add-next : tie.Need-add-next
 add-next c = search needs
 
--- src/calls.rt:117:35
 cast-next : tie.Need-cast-next
 cast-next c = search needs
 
--- src/calls.rt:117:22
 add-next-2 : tie.Need-add-next-2
 add-next-2 c = search needs
 
--- src/calls.rt:119:19
 cast-next-2 : tie.Need-cast-next-2
 cast-next-2 c = search needs
 
--- src/calls.rt:105:5
 returns : tie.Need-returns
 unfolding entered
 returns c P e =

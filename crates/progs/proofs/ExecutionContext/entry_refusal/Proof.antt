@@ -1,94 +1,69 @@
+use mathlib.Core.Path.{sym, _∙_}
 use borrow.Author.Tests.{not-true, not-false}
 use Rattle.progs.proofs.EntryLaws.{entry-22, entry-23, entry-15, entry-24, entry-15-arguments, entry-21, entry-0}
 use borrow.Author.Needs.{needs}
 use Rattle.progs.proofs.ExecutionContext.entry_refusal.Statement.{statement}
 use Rattle.progs.proofs.ExecutionContext.entry_refusal.Tie as tie
-use Rattle.progs.proofs.ExecutionContext.entry_refusal.Reads as reads
-use Rattle.progs.proofs.ExecutionContext.entry_refusal.Lts as lts
-use Rattle.functions.proofs.is_builtin.Reads as is-builtin-reads
-use Rattle.progs.proofs.ExecutionContext.cell_count.Reads as cell-count-reads
-use Rattle.progs.proofs.copies.arguments_in_range.Reads as arguments-in-range-reads
-use Rattle.progs.proofs.copies.in_range.Reads as in-range-reads
 
--- src/calls.rt:82:21
-cast-start : tie.Need-cast-start
-cast-start c = search needs
-
--- src/calls.rt:83:22
-cast-locals : tie.Need-cast-locals
-cast-locals c = search needs
-
--- src/calls.rt:86:13
-returns : tie.Need-returns
-returns c = λ P f h e. entry-22 _ _ P f h e (search needs)
-
--- src/calls.rt:89:19
-add-if2 : tie.Need-add-if2
-add-if2 c = search needs
-
--- src/calls.rt:90:13
-returns-2 : tie.Need-returns-2
-returns-2 c = λ P f h e. entry-23 _ _ P f h e (search needs) (search needs)
-
--- src/calls.rt:92:45
 cell-count-requires : tie.Need-cell-count-requires
 cell-count-requires c κs = search needs
 
--- src/calls.rt:92:13
+cast-start : tie.Need-cast-start
+cast-start c = search needs
+
+cast-locals : tie.Need-cast-locals
+cast-locals c = search needs
+
+returns : tie.Need-returns
+returns c = λ P f h e. entry-22 _ _ P f h e (search needs)
+
+add-if2 : tie.Need-add-if2
+add-if2 c = search needs
+
+returns-2 : tie.Need-returns-2
+returns-2 c = λ P f h e. entry-23 _ _ P f h e (search needs) (search needs)
+
 in-range-requires : tie.Need-in-range-requires
 in-range-requires c κs = search needs
 
--- src/calls.rt:93:13
 returns-3 : tie.Need-returns-3
-returns-3 c = λ P f h e. entry-15 _ _ P f h e (search needs) (cc (not-true (c .before .in-range .result) (c .if3 .taken)))
+returns-3 c = λ P f h e. entry-15 _ _ P f h e _ (c .before .before .before .before .before .before .before .before .before .cell-count .ensures) (search needs) (sym (c .before .in-range .ensures) ∙ not-true _ (c .if3 .taken))
 
--- src/calls.rt:96:13
 returns-4 : tie.Need-returns-4
-returns-4 c = λ P f h e. entry-24 _ _ P f h e (search needs) (cc (not-false (c .before .before .before .in-range .result) (c .before .before .if3 .left))) (search needs)
+returns-4 c = λ P f h e. entry-24 _ _ P f h e _ (c .before .before .before .before .before .before .before .before .before .before .before .cell-count .ensures) (search needs) (sym (c .before .before .before .in-range .ensures) ∙ not-false _ (c .before .before .if3 .left)) (search needs)
 
--- src/calls.rt:98:54
 cast-arguments-in-range : tie.Need-cast-arguments-in-range
 cast-arguments-in-range c = search needs
 
--- src/calls.rt:98:73
-cell-count-requires-2 : tie.Need-cell-count-requires-2
-cell-count-requires-2 c κs = search needs
-
--- src/calls.rt:98:13
 arguments-in-range-requires : tie.Need-arguments-in-range-requires
 arguments-in-range-requires c κs = search needs
 
--- src/calls.rt:99:13
 returns-5 : tie.Need-returns-5
-returns-5 c = λ P f h e. entry-15-arguments _ _ P f h e (search needs) (cc (not-false (c .before .before .before .before .before .before .before .in-range .result) (c .before .before .before .before .before .before .if3 .left))) (search needs) (cc (not-true (c .before .arguments-in-range .result) (c .if5 .taken)))
+returns-5 c = λ P f h e. entry-15-arguments _ _ P f h e _ (c .before .before .before .before .before .before .before .before .before .before .before .before .before .before .cell-count .ensures) (search needs) (sym (c .before .before .before .before .before .before .in-range .ensures) ∙ not-false _ (c .before .before .before .before .before .if3 .left)) (search needs) (sym (c .before .arguments-in-range .ensures) ∙ not-true _ (c .if5 .taken))
 
--- src/calls.rt:101:12
 is-builtin-requires : tie.Need-is-builtin-requires
 is-builtin-requires c κs = search needs
 
--- src/calls.rt:78:5
 returns-6 : tie.Need-returns-6
-returns-6 c = λ P f h e. entry-21 _ _ P f h e (search needs) (cc (not-false (c .before .before .before .before .before .before .before .before .before .in-range .result) (c .before .before .before .before .before .before .before .before .if3 .left))) (search needs) (cc (not-false (c .before .before .before .arguments-in-range .result) (c .before .before .if5 .left))) (cc)
+returns-6 c = λ P f h e. entry-21 _ _ P f h e _ (c .before .before .before .before .before .before .before .before .before .before .before .before .before .before .before .before .cell-count .ensures) (search needs) (sym (c .before .before .before .before .before .before .before .before .in-range .ensures) ∙ not-false _ (c .before .before .before .before .before .before .before .if3 .left)) (search needs) (sym (c .before .before .before .arguments-in-range .ensures) ∙ not-false _ (c .before .before .if5 .left)) (sym (c .before .is-builtin .ensures) ∙ c .if6 .taken)
 
--- src/calls.rt:78:5
 returns-7 : tie.Need-returns-7
-returns-7 c = λ P f h e. entry-0 _ _ P f h e (search needs) (cc (not-false (c .before .before .before .before .before .before .before .before .before .in-range .result) (c .before .before .before .before .before .before .before .before .if3 .left))) (search needs) (cc (not-false (c .before .before .before .arguments-in-range .result) (c .before .before .if5 .left))) (cc)
+returns-7 c = λ P f h e. entry-0 _ _ P f h e _ (c .before .before .before .before .before .before .before .before .before .before .before .before .before .before .before .before .cell-count .ensures) (search needs) (sym (c .before .before .before .before .before .before .before .before .in-range .ensures) ∙ not-false _ (c .before .before .before .before .before .before .before .if3 .left)) (search needs) (sym (c .before .before .before .arguments-in-range .ensures) ∙ not-false _ (c .before .before .if5 .left)) (sym (c .before .is-builtin .ensures) ∙ c .if6 .left)
 
 pub entry-refusal-spec : {M : Type 1} → statement M
 entry-refusal-spec =
     tie.close
     (tie.spec
+    cell-count-requires
     cast-start
     cast-locals
     returns
     add-if2
     returns-2
-    cell-count-requires
     in-range-requires
     returns-3
     returns-4
     cast-arguments-in-range
-    cell-count-requires-2
     arguments-in-range-requires
     returns-5
     is-builtin-requires

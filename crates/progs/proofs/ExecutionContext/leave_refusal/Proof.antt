@@ -1,36 +1,27 @@
+use mathlib.Core.Path.{sym, _∙_}
 use borrow.Author.Tests.{not-true, not-false}
 use Rattle.progs.proofs.LeaveLaws.{leave-25, leave-26, leave-15, leave-0}
 use borrow.Author.Needs.{needs}
 use Rattle.progs.proofs.ExecutionContext.leave_refusal.Statement.{statement}
 use Rattle.progs.proofs.ExecutionContext.leave_refusal.Tie as tie
-use Rattle.progs.proofs.ExecutionContext.leave_refusal.Reads as reads
-use Rattle.progs.proofs.ExecutionContext.leave_refusal.Lts as lts
-use Rattle.progs.proofs.ExecutionContext.cell_count.Reads as cell-count-reads
-use Rattle.progs.proofs.copies.in_range.Reads as in-range-reads
 
--- src/calls.rt:151:13
 returns : tie.Need-returns
 returns c = λ P e. leave-25 _ _ P e (c .if1 .taken)
 
--- src/calls.rt:154:13
 returns-2 : tie.Need-returns-2
 returns-2 c = λ P e. leave-26 _ _ P e (search needs) (search needs)
 
--- src/calls.rt:156:58
 cell-count-requires : tie.Need-cell-count-requires
 cell-count-requires c κs = search needs
 
--- src/calls.rt:156:13
 in-range-requires : tie.Need-in-range-requires
 in-range-requires c κs = search needs
 
--- src/calls.rt:157:13
 returns-3 : tie.Need-returns-3
-returns-3 c = λ P e. leave-15 _ _ P e (search needs) (search needs) (cc (not-true (c .before .in-range .result) (c .if3 .taken)))
+returns-3 c = λ P e. leave-15 _ _ P e _ (c .before .before .cell-count .ensures) (search needs) (search needs) (sym (c .before .in-range .ensures) ∙ not-true _ (c .if3 .taken))
 
--- src/calls.rt:147:5
 returns-4 : tie.Need-returns-4
-returns-4 c = λ P e. leave-0 _ _ P e (search needs) (search needs) (cc (not-false (c .before .in-range .result) (c .if3 .left)))
+returns-4 c = λ P e. leave-0 _ _ P e _ (c .before .before .cell-count .ensures) (search needs) (search needs) (sym (c .before .in-range .ensures) ∙ not-false _ (c .if3 .left))
 
 pub leave-refusal-spec : {M : Type 1} → statement M
 leave-refusal-spec =

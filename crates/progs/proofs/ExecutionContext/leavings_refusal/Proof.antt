@@ -9,15 +9,10 @@ use Rattle.definition.specs.Load.{programOf}
 use Rattle.definition.specs.Operations.{leavingsConditions}
 use Rattle.progs.specs.Contexts.{stateOf, bare, Loaded}
 use Rattle.progs.proofs.LeaveLaws.{Leaves, leaves}
-use Rattle.progs.proofs.StateLaws.{depth-falls, loaded-left}
+use Rattle.progs.proofs.StateLaws.{depth-falls, left-loaded}
 use Rattle.progs.proofs.AbandonLaws.{leavings-refused, leavings-on, leavings-end}
 use Rattle.progs.proofs.ExecutionContext.leavings_refusal.Statement.{statement}
 use Rattle.progs.proofs.ExecutionContext.leavings_refusal.Tie as tie
-use Rattle.progs.proofs.ExecutionContext.leavings_refusal.Reads as reads
-use Rattle.progs.proofs.ExecutionContext.leavings_refusal.Lts as lts
-use Rattle.progs.proofs.ExecutionContext.leave_refusal.Reads as leave-refusal-reads
-use Rattle.progs.proofs.ExecutionContext.left.Reads as left-reads
-use Rattle.progs.proofs.ExecutionContext.locals.Reads as locals-reads
 
 abbrev Inv-loop : tie.InvT-loop
 Inv-loop file target context₀ context =
@@ -41,35 +36,27 @@ ok c = leaves _ _ _ (c .before .before .locals .ensures) (clear c)
 after : (c : tie.After-left Inv-loop μ-loop) → let l = c .before .before .before .before .before .before in stateOf (c .left .result) ≡ left (programOf (l .before .before .args .file .now)) (bare (l .loop .context)) .state
 after c = c .left .ensures _ (c .before .before .before .locals .ensures)
 
--- src/abandon.rt:23:9
 loop-holds : tie.Need-loop-holds Inv-loop μ-loop
 loop-holds c = ((c .before .pre .0, c .before .pre .1), refl)
 
--- src/abandon.rt:24:17
 locals-requires : tie.Need-locals-requires Inv-loop μ-loop
 locals-requires c κs = c .before .before .loop .inv .0 .0
 
--- src/abandon.rt:25:17
 leave-refusal-requires : tie.Need-leave-refusal-requires Inv-loop μ-loop
 leave-refusal-requires c κs = search needs
 
--- src/abandon.rt:27:17
 returns : tie.Need-returns Inv-loop μ-loop
 returns c = leavings-refused _ _ _ (c .before .before .before .if1 .taken) _ (number (c .before)) (c .if2 .taken) ∙ c .before .before .before .before .before .loop .inv .1
 
--- src/abandon.rt:29:13
 left-requires : tie.Need-left-requires Inv-loop μ-loop
 left-requires c κs = let a = ok c in (a .inside, (c .before .before .before .before .before .loop .inv .0 .1, a .enough))
 
--- src/abandon.rt:23:9
 loop-less : tie.Need-loop-less Inv-loop μ-loop
 loop-less c = omega (arith, depth-falls _ _ _ (after c))
 
--- src/abandon.rt:23:9
 loop-again : tie.Need-loop-again Inv-loop μ-loop
-loop-again c = ((loaded-left _ _ _ (after c) _ (c .before .before .before .before .before .before .loop .inv .0 .0), omega (arith, depth-falls _ _ _ (after c))), leavings-on _ _ _ (c .before .before .before .before .if1 .taken) _ (after c) (clear (c .before)) ∙ c .before .before .before .before .before .before .loop .inv .1)
+loop-again c = ((left-loaded _ _ _ (after c) _ (c .before .before .before .before .before .before .loop .inv .0 .0), omega (arith, depth-falls _ _ _ (after c))), leavings-on _ _ _ (c .before .before .before .before .if1 .taken) _ (after c) (clear (c .before)) ∙ c .before .before .before .before .before .before .loop .inv .1)
 
--- src/abandon.rt:17:5
 returns-2 : tie.Need-returns-2 Inv-loop μ-loop
 returns-2 c = leavings-end _ _ _ (c .if1 .left) ∙ c .before .before .loop .inv .1
 

@@ -1,35 +1,27 @@
+use mathlib.Core.Path.{ap}
+use Rattle.progs.specs.Contexts.{rangeOf}
 use Rattle.progs.proofs.FileLaws.{no-locals}
 use borrow.Author.Needs.{needs}
 use Rattle.progs.proofs.ExecutionContext.locals.Statement.{statement}
 use Rattle.progs.proofs.ExecutionContext.locals.Tie as tie
-use Rattle.progs.proofs.ExecutionContext.locals.Reads as reads
-use Rattle.progs.proofs.ExecutionContext.locals.Lts as lts
-use Rattle.progs.proofs.ExecutionContext.function_count.Reads as function-count-reads
-use Rattle.progs.proofs.ExecutionContext.get_def.Reads as get-def-reads
 
--- src/calls.rt:67:12
 function-count-requires : tie.Need-function-count-requires
 function-count-requires c κs = search needs
 
--- src/calls.rt:68:13
 returns : tie.Need-returns
 returns c = no-locals _ _ (c .before .before .before .pre) _ (search needs)
 
--- src/calls.rt:70:13
 get-def-requires : tie.Need-get-def-requires
 get-def-requires c κs = search needs
 
--- src/calls.rt:72:20
 cast-t5 : tie.Need-cast-t5
 cast-t5 c = search needs
 
--- src/calls.rt:73:20
 cast-t7 : tie.Need-cast-t7
 cast-t7 c = search needs
 
--- src/calls.rt:62:5
 returns-2 : tie.Need-returns-2
-returns-2 c = cc
+returns-2 c = ap rangeOf (c .before .before .get-def .ensures)
 
 pub locals-spec : {M : Type 1} → statement M
 locals-spec =

@@ -12,10 +12,6 @@ use Rattle.progs.proofs.FileLaws.{function-there, function-absent}
 use Rattle.progs.proofs.StateLaws.{adds-up, add-start, add-absent, add-negative, add-on, add-none}
 use Rattle.progs.proofs.ExecutionContext.locals_add_up.Statement.{statement}
 use Rattle.progs.proofs.ExecutionContext.locals_add_up.Tie as tie
-use Rattle.progs.proofs.ExecutionContext.locals_add_up.Reads as reads
-use Rattle.progs.proofs.ExecutionContext.locals_add_up.Lts as lts
-use Rattle.progs.proofs.ExecutionContext.function_count.Reads as function-count-reads
-use Rattle.progs.proofs.ExecutionContext.get_def.Reads as get-def-reads
 
 abbrev Inv-loop : tie.InvT-loop
 Inv-loop file self count sum₀ k₀ f₀ sum k f =
@@ -26,55 +22,42 @@ Inv-loop file self count sum₀ k₀ f₀ sum k f =
 abbrev μ-loop : tie.MeasureT-loop
 μ-loop file self count sum₀ k₀ f₀ sum k f = k
 
--- src/state.rt:20:13
 function-count-requires : tie.Need-function-count-requires Inv-loop μ-loop
 function-count-requires c κs = search needs
 
--- src/state.rt:24:9
 loop-holds : tie.Need-loop-holds Inv-loop μ-loop
 loop-holds c = (omega arith, add-start _ _)
 
--- src/state.rt:26:17
 returns : tie.Need-returns Inv-loop μ-loop
 returns c = add-absent _ _ _ _ _ _ (c .before .loop-test .taken) (function-absent _ _ (c .before .before .before .before .before .pre .0) _ (omega arith)) ∙ c .before .before .loop .inv .1
 
--- src/state.rt:28:17
 get-def-requires : tie.Need-get-def-requires Inv-loop μ-loop
 get-def-requires c κs = (c .before .before .before .before .before .pre .0, omega arith)
 
--- src/state.rt:30:17
 returns-2 : tie.Need-returns-2 Inv-loop μ-loop
 returns-2 c = add-negative _ _ _ _ _ _ (c .before .before .before .before .loop-test .taken) _ (function-there _ _ (c .before .before .before .before .before .before .before .before .pre .0) _ (omega arith)) (c .before .before .get-def .ensures) (search needs) ∙ c .before .before .before .before .before .loop .inv .1
 
--- src/state.rt:32:20
 cast-sum : tie.Need-cast-sum Inv-loop μ-loop
 cast-sum c = search needs
 
--- src/state.rt:32:13
 add-sum : tie.Need-add-sum Inv-loop μ-loop
 add-sum c = omega arith
 
--- src/state.rt:33:13
 sub-k : tie.Need-sub-k Inv-loop μ-loop
 sub-k c = omega arith
 
--- src/state.rt:34:25
 mul-frame : tie.Need-mul-frame Inv-loop μ-loop
 mul-frame c = omega arith
 
--- src/state.rt:34:25
 element-copy-out-frame : tie.Need-element-copy-out-frame Inv-loop μ-loop
 element-copy-out-frame c = omega arith
 
--- src/state.rt:24:9
 loop-less : tie.Need-loop-less Inv-loop μ-loop
 loop-less c = omega arith
 
--- src/state.rt:24:9
 loop-again : tie.Need-loop-again Inv-loop μ-loop
 loop-again c = (omega arith, add-on _ _ _ _ _ _ (c .before .before .before .before .before .before .loop-test .taken) _ (function-there _ _ (c .before .before .before .before .before .before .before .before .before .before .pre .0) _ (omega arith)) (c .before .before .before .before .get-def .ensures) (omega arith) ∙ c .before .before .before .before .before .before .before .loop .inv .1)
 
--- src/state.rt:15:5
 returns-3 : tie.Need-returns-3 Inv-loop μ-loop
 returns-3 c = add-none _ _ _ _ _ _ (c .loop-test .left) ∙ c .before .loop .inv .1
 

@@ -12,19 +12,10 @@ use Rattle.progs.proofs.LeaveLaws.{Leaves, leaves, return-15, return-re
 use borrow.Author.Needs.{needs}
 use Rattle.progs.proofs.ExecutionContext.op_return.Statement.{statement}
 use Rattle.progs.proofs.ExecutionContext.op_return.Tie as tie
-use Rattle.progs.proofs.ExecutionContext.op_return.Reads as reads
-use Rattle.progs.proofs.ExecutionContext.op_return.Lts as lts
-use Rattle.progs.proofs.ExecutionContext.cell_count.Reads as cell-count-reads
-use Rattle.progs.proofs.ExecutionContext.leave_refusal.Reads as leave-refusal-reads
-use Rattle.progs.proofs.ExecutionContext.locals.Reads as locals-reads
-use Rattle.progs.proofs.ExecutionContext.refused.Reads as refused-reads
-use Rattle.progs.proofs.ExecutionContext.restored.Reads as restored-reads
-use Rattle.progs.proofs.copies.copy_cells.Reads as copy-cells-reads
-use Rattle.progs.proofs.copies.in_range.Reads as in-range-reads
 
 -- the operand cells are there
-given : (c : tie.Else1) → let s = c .before .before .before .before .before .before in present (s .args .a) 3 (s .args .self .file .globals .count) ≡ true
-given c = cc (not-false (c .before .in-range .result) (c .if1 .left))
+given : (c : tie.Else1) → present (c .before .before .before .before .before .before .args .a) 3 (c .before .before .cell-count .result) ≡ true
+given c = sym (c .before .in-range .ensures) ∙ not-false _ (c .if1 .left)
 
 -- the number that is found is that of the conditions
 number : (c : tie.After-leave-refusal) → let s = c .before .before .before .before .before .before .before .before in c .leave-refusal .result ≡ judge (leaveConditions (programOf (s .args .file .now)) (bare (s .args .self)))
@@ -37,53 +28,41 @@ clear c = sym (number (c .before)) ∙ c .if2 .left
 ok : (c : tie.Else2) → let s = c .before .before .before .before .before .before .before .before .before in Leaves (s .args .self) (c .before .before .locals .result)
 ok c = leaves _ _ _ (c .before .before .locals .ensures) (clear c)
 
--- src/calls.rt:214:36
 cell-count-requires : tie.Need-cell-count-requires
 cell-count-requires c κs = search needs
 
--- src/calls.rt:214:13
 in-range-requires : tie.Need-in-range-requires
 in-range-requires c κs = search needs
 
--- src/calls.rt:215:13
 refused-requires : tie.Need-refused-requires
 refused-requires c κs = search needs
 
--- src/calls.rt:215:13
 returns : tie.Need-returns
-returns c = return-15 _ _ _ _ _ _ (cc (not-true (c .before .before .in-range .result) (c .before .if1 .taken))) (search needs)
+returns c = return-15 _ _ _ _ _ _ (c .before .before .before .cell-count .ensures) _ (sym (c .before .before .in-range .ensures) ∙ not-true _ (c .before .if1 .taken)) (search needs)
 
--- src/calls.rt:217:13
 locals-requires : tie.Need-locals-requires
 locals-requires c κs = search needs
 
--- src/calls.rt:218:13
 leave-refusal-requires : tie.Need-leave-refusal-requires
 leave-refusal-requires c κs = search needs
 
--- src/calls.rt:220:13
 refused-requires-2 : tie.Need-refused-requires-2
 refused-requires-2 c κs = search needs
 
--- src/calls.rt:220:13
 returns-2 : tie.Need-returns-2
-returns-2 c = return-refused _ _ _ _ _ (given (c .before .before .before .before)) _ _ (number (c .before .before)) (search needs) (search needs)
+returns-2 c = return-refused _ _ _ _ _ _ (c .before .before .before .before .before .before .cell-count .ensures) (given (c .before .before .before .before)) _ _ (number (c .before .before)) (search needs) (search needs)
 
--- src/calls.rt:222:9
 copy-cells-requires : tie.Need-copy-cells-requires
-copy-cells-requires c κs = let s = c .before .before .before .before .before .before .before .before .before .before in (present-more _ _ _ _ (s .pre .lent) (given (c .before .before .before .before)), present-of _ _ _ (omega arith))
+copy-cells-requires c κs = let s = c .before .before .before .before .before .before .before .before .before .before in (present-more _ _ _ _ (omega (arith, c .before .before .before .before .before .before .cell-count .ensures, s .pre .lent)) (given (c .before .before .before .before)), present-of _ _ _ (omega arith))
 
--- src/calls.rt:224:22
 restored-requires : tie.Need-restored-requires
 restored-requires c κs = let a = ok (c .before .before .before .before .before) in let s = c .before .before .before .before .before .before .before .before .before .before .before .before .before .before in ((a .inside, s .pre .depth), ((a .enough, omega arith), present-more _ _ _ _ (omega (arith, c .before .before .before .copy-cells .kept .0)) (a .locals-there)))
 
--- src/calls.rt:210:5
 same-length : tie.Need-same-length
 same-length c = search needs
 
--- src/calls.rt:210:5
 returns-3 : tie.Need-returns-3
-returns-3 c = return-accepted _ _ _ _ _ (given (c .before .before .before .before .before .before .before .before .before .before .before)) _ _ _ (clear (c .before .before .before .before .before .before .before .before)) (c .before .before .before .before .before .before .copy-cells .ensures) (c .before .before .restored .ensures _ (c .before .before .before .before .before .before .before .before .before .before .locals .ensures))
+returns-3 c = return-accepted _ _ _ _ _ _ (c .before .before .before .before .before .before .before .before .before .before .before .before .before .cell-count .ensures) (given (c .before .before .before .before .before .before .before .before .before .before .before)) _ _ _ (clear (c .before .before .before .before .before .before .before .before)) (c .before .before .before .before .before .before .copy-cells .ensures) (c .before .before .restored .ensures _ (c .before .before .before .before .before .before .before .before .before .before .locals .ensures))
 
 pub op-return-spec : {M : Type 1} → statement M
 op-return-spec =

@@ -11,14 +11,10 @@ use Rattle.definition.specs.Operations.{leavingsConditions, leftTimes}
 use Rattle.progs.specs.Contexts.{stateOf, config, bare, Within}
 use Rattle.progs.proofs.CopyLaws.{present-more}
 use Rattle.progs.proofs.LeaveLaws.{Leaves, leaves, left-state}
-use Rattle.progs.proofs.StateLaws.{depth-falls, within-left}
+use Rattle.progs.proofs.StateLaws.{depth-falls, left-within}
 use Rattle.progs.proofs.AbandonLaws.{leaves-first, leavings-on, times-on, times-end}
 use Rattle.progs.proofs.ExecutionContext.unwound.Statement.{statement}
 use Rattle.progs.proofs.ExecutionContext.unwound.Tie as tie
-use Rattle.progs.proofs.ExecutionContext.unwound.Reads as reads
-use Rattle.progs.proofs.ExecutionContext.unwound.Lts as lts
-use Rattle.progs.proofs.ExecutionContext.locals.Reads as locals-reads
-use Rattle.progs.proofs.ExecutionContext.restored.Reads as restored-reads
 
 abbrev Inv-loop : tie.InvT-loop
 Inv-loop file target cells₀ saved context₀ cells context =
@@ -40,23 +36,18 @@ gives c = c .before .before .restored .ensures (programOf (c .before .before .be
 after : (c : tie.After-slice-known2 Inv-loop μ-loop) → let l = c .before .before .before .before .before .before .before in stateOf (c .before .before .restored .result) ≡ left (programOf (l .before .before .before .before .args .file .now)) (bare (l .loop .context)) .state
 after c = left-state _ _ _ _ _ _ (gives c)
 
--- src/abandon.rt:41:9
 loop-holds : tie.Need-loop-holds Inv-loop μ-loop
 loop-holds c = ((refl, (c .before .before .before .pre .0, c .before .before .before .pre .1)), refl)
 
--- src/abandon.rt:42:17
 locals-requires : tie.Need-locals-requires Inv-loop μ-loop
 locals-requires c κs = c .before .before .loop .inv .0 .1 .0 .loaded
 
--- src/abandon.rt:43:13
 restored-requires : tie.Need-restored-requires Inv-loop μ-loop
 restored-requires c κs = let a = ok (c .before) in let w = c .before .before .before .before .loop .inv .0 .1 .0 in ((a .inside, w .depth), ((a .enough, omega (arith, w .store, w .held)), present-more _ _ _ _ (w .lent) (a .locals-there)))
 
--- src/abandon.rt:41:9
 loop-less : tie.Need-loop-less Inv-loop μ-loop
 loop-less c = omega (arith, depth-falls _ _ _ (after c))
 
--- src/abandon.rt:41:9
 loop-again : tie.Need-loop-again Inv-loop μ-loop
 loop-again c =
     let l = c .before .before .before .before .before .before .before in
@@ -66,16 +57,14 @@ loop-again c =
     let m = c .before .before .before .before .before .if1 .taken in (
       (
         omega (arith, k),
-        (rw k (within-left _ _ _ (after c) _ _ _ (l .loop .inv .0 .1 .0)), leavings-on _ _ _ m _ (after c) (leaves-first _ _ _ m j) ∙ j),
+        (rw k (left-within _ _ _ _ _ (l .loop .inv .0 .1 .0) _ (after c)), leavings-on _ _ _ m _ (after c) (leaves-first _ _ _ m j) ∙ j),
       ),
       times-on _ _ _ m _ _ _ _ (gives c) ∙ l .loop .inv .1,
     )
 
--- src/abandon.rt:35:5
 same-length : tie.Need-same-length Inv-loop μ-loop
 same-length c = search needs
 
--- src/abandon.rt:35:5
 returns : tie.Need-returns Inv-loop μ-loop
 returns c = times-end _ _ _ _ _ (c .if1 .left) ∙ c .before .before .loop .inv .1
 
