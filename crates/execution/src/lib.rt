@@ -48,7 +48,18 @@ fn write(
 {
     match what {
         CellOp::Floats => return globals::op_floats(file, defs, ndefs, count, cells, op, a, b, c),
-        CellOp::Values(t) => return globals::op_values(file, defs, ndefs, count, cells, op, t, a, b, c),
+        CellOp::Values(t) => return globals::op_values(
+            file,
+            defs,
+            ndefs,
+            count,
+            cells,
+            op,
+            t,
+            a,
+            b,
+            c,
+        ),
         CellOp::Vectors(ta, tb) => return globals::op_vectors(
             file,
             defs,

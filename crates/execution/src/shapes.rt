@@ -1,11 +1,11 @@
 // Opcodes by the shape of what they do.
+use functions::ops;
 use typed::ENTITY;
 use typed::FIELD;
 use typed::FLOAT;
 use typed::FUNCTION;
 use typed::STRING;
 use typed::VECTOR;
-use functions::ops;
 ghost use mathlib.Core.Path.{_≡_};
 ghost use Prim.Native.Nat.{_<_};
 ghost use Rattle.definition.specs.Statements.{shapeOf};
