@@ -14,7 +14,7 @@ use Rattle.definition.specs.declared.FunctionDef.{FunctionDef}
 use Rattle.definition.specs.Checks.{judge, Checked, refused, accepted, guard}
 use Rattle.definition.specs.File.{byteAt, u16At, u32At, fileOf, lumpsFit, records, Contents, contentsAt, builtinNumber}
 use Rattle.definition.specs.Cells.{float, entity, lookup, scalar, passes, signed, cellOf, cellAccess, vectorAccess, access, readAccess}
-use Rattle.definition.specs.Statements.{shapeOf, floatsEffect, vectorResult, vectorsEffect, dotsEffect, negatesVEffect, storesEffect, storesVEffect, branchesDo}
+use Rattle.definition.specs.Statements.{shapeOf, floatsEffect, vectorResult, vectorsEffect, dotsEffect, negatesVEffect, storesEffect, storesVEffect, branchesDo, callOf, callDoes}
 use Rattle.definition.specs.Statements.{fetchConditions, execute, doesAt}
 use Rattle.definition.specs.Machine.{Program, Config, limits, zeroFrame, present, copied, successive, arguments, copiesPresent}
 use Rattle.definition.specs.Machine.{entryConditions, entered, leaveConditions, left, Stepped, completed, refusedStep, handedStep, stepAs, step, runFor}
@@ -95,6 +95,12 @@ notV = op 45
 
 abbrev if : ℕ → ℕ → ℕ → Statement
 if = op 49
+
+abbrev call : ℕ → ℕ → ℕ → Statement
+call = op 51
+
+abbrev goto : ℕ → ℕ → ℕ → Statement
+goto = op 61
 
 abbrev bitAnd : ℕ → ℕ → ℕ → Statement
 bitAnd = op 64
@@ -254,6 +260,13 @@ reading definitions = from (typedProgram definitions (storeF 28 30 0 ∷ []) (pl
 abbrev show : Scenario → Seen
 show = from (program (addF 28 29 30 ∷ return 30 0 0 ∷ []) (fn 1 30 1 0 [] ∷ []) (set (set (replicate 64 0) 28 0x3fc00000) 29 0x40100000))
 
+-- function 1 calls function 2, which is in cell 40 and has cell 30 for its local; function 2 stores to it, jumps over a statement and returns it
+abbrev nested : Scenario → Seen
+nested rest =
+    from
+    (program (call 40 0 0 ∷ return 28 0 0 ∷ storeF 29 30 0 ∷ goto 2 0 0 ∷ storeF 64 0 0 ∷ return 30 0 0 ∷ []) (plain ∷ fn 3 30 1 0 [] ∷ []) (set numbered 40 2))
+    (enter 1 rest)
+
 -- ---- the table
 
 -- words of the paper, what the definition gives, what the paper says
@@ -333,6 +346,14 @@ rows =
     ∷ row "address equal to the count: a local cell" (entering (fn 1 63 2 0 []) state) (refused 15)
     ∷ row "address equal to the count: an argument cell, one less" (entering (fn 1 63 0 1 (1 ∷ [])) (cells 1 63)) (accepted (4 ∷ []))
     ∷ row "address equal to the count: an argument cell" (entering (fn 1 64 0 1 (1 ∷ [])) state) (refused 15)
+    -- calls
+    ∷ row "A Call records the position after itself" (nested (complete (state and frame 1))) (accepted (3 ∷ 2 ∷ 2 ∷ 1 ∷ 1 ∷ 2 ∷ []))
+    ∷ row "a frame that is left becomes zeros again"
+    (nested (complete (complete (complete (complete (state and frame 1 and cells 3 1 and cells 1 30))))))
+    (accepted (2 ∷ 1 ∷ 1 ∷ 0 ∷ 0 ∷ 0 ∷ 29 ∷ 31 ∷ 32 ∷ 30 ∷ []))
+    ∷ row "A run goes on until the call depth equals a target"
+    (nested (runToEnd (state and cells 3 1)))
+    (accepted (101 ∷ 110 ∷ 100 ∷ 101 ∷ 100 ∷ 0 ∷ 5 ∷ 0 ∷ 0 ∷ 0 ∷ 0 ∷ 28 ∷ 29 ∷ 30 ∷ []))
     -- other sentences
     ∷ row "A refusal gives its number and leaves state and buffers"
     (from (program [] (fn 1 30 1 0 [] ∷ fn 0xffffffff 40 1 1 (1 ∷ []) ∷ []) numbered)
@@ -348,7 +369,7 @@ unfolding judge guard
     byteAt u16At u32At fileOf lumpsFit records contentsAt builtinNumber
     Ieee.ofBits Ieee.toBits Ieee.add Ieee.mul Ieee.div Ieee.eq Ieee.toSigned Ieee.ofInt
     lookup scalar passes signed cellOf cellAccess vectorAccess access readAccess
-    shapeOf floatsEffect vectorResult vectorsEffect dotsEffect negatesVEffect storesEffect storesVEffect branchesDo fetchConditions execute doesAt
+    shapeOf floatsEffect vectorResult vectorsEffect dotsEffect negatesVEffect storesEffect storesVEffect branchesDo callOf callDoes fetchConditions execute doesAt
     limits present copied successive arguments copiesPresent entryConditions entered leaveConditions left stepAs step runFor
     each headerConditions recordConditions cellConditions loaded load sameFile recordedIn programAt
     frameFunctions enteredFunctions allPresent localsOf sound hostEnter statement runConditions run rawRead rawWrite
