@@ -39,7 +39,7 @@ part-pasted d at s n hd hs =
 
 -- ---- ranges that are present: there are none, or they lie below the count
 
-pub Present : ℕ → ℕ → ℕ → Type 0
+unfoldable pub Present : ℕ → ℕ → ℕ → Type 0
 Present a n count = (n ≡ 0) ⊎ (a + n ≤ count)
 
 pub present-true : (a n count : ℕ) → present a n count ≡ true → Present a n count

@@ -20,7 +20,7 @@ use Rattle.definition.specs.Machine.{Program, Config, limits, zeroFrame,
 use Rattle.definition.specs.Machine.{entryConditions, entered, leaveConditions, left, Stepped, completed, refusedStep, handedStep, stepAs, step, runFor}
 use Rattle.definition.specs.Load.{each, headerConditions, recordConditions, cellConditions, loaded, load, sameFile, recordedIn, programAt, programOf}
 use Rattle.definition.specs.Operations.{frameFunctions, enteredFunctions, allPresent, localsOf, sound}
-use Rattle.definition.specs.Operations.{hostEnter, statement, runConditions, run, rawRead, rawWrite}
+use Rattle.definition.specs.Operations.{hostEnter, statement, runConditions, run, carryOnConditions, carryOn, leftTimes, leavingsConditions, abandonConditions, abandon, rawRead, rawWrite}
 use Rattle.definition.specs.Answers.{outcome, refusalNumber, outcomeWord, outcomeDetail, letters}
 
 -- ---- an assembler: the bytes of a file with these contents
@@ -223,6 +223,27 @@ runToEnd rest P c =
     let r = run P (pos 0) (pos 99999) c in
     also (letters (outcomeWord (r .answer)) ++ (outcomeDetail (r .answer) ∷ r .count ∷ [])) (rest P (r .config))
 
+-- a run: its detail and its statements, and what is seen after it
+abbrev runBy : ℤ → ℤ → Scenario → Scenario
+runBy target limit rest P c = let r = run P target limit c in also (outcomeDetail (r .answer) ∷ r .count ∷ []) (rest P (r .config))
+
+abbrev carry : Scenario → Scenario
+carry rest P c = andThen (carryOn P c) (rest P)
+
+abbrev abandonTo : ℤ → Scenario → Scenario
+abandonTo target rest P c = andThen (abandon P target c) (rest P)
+
+-- a state that a host made up: one saved cell more than there is
+abbrev oneMoreSaved : Scenario → Scenario
+oneMoreSaved rest P c =
+    let s = c .state in
+    rest P
+    (record {
+      state = record { file = s .file; pc = s .pc; function = s .function; depth = s .depth; saved = s .saved + 1; frames = s .frames };
+      cells = c .cells;
+      saved = c .saved;
+    })
+
 -- a load of the file with these contents, which is lent two cells more than it has, and what is seen after it
 abbrev from : Contents → Scenario → Seen
 from k scenario =
@@ -354,6 +375,25 @@ rows =
     ∷ row "A run goes on until the call depth equals a target"
     (nested (runToEnd (state and cells 3 1)))
     (accepted (101 ∷ 110 ∷ 100 ∷ 101 ∷ 100 ∷ 0 ∷ 5 ∷ 0 ∷ 0 ∷ 0 ∷ 0 ∷ 28 ∷ 29 ∷ 30 ∷ []))
+    ∷ row "19: function 0" (after (call 0 0 0) [] state) (refused 19)
+    ∷ row "20: no such function" (after (call 28 0 0) [] state) (refused 20)
+    -- 98 117 105 108 116 105 110 is "builtin", 111 112 99 111 100 101 is "opcode"
+    ∷ row "a builtin is then handed over"
+    (from (program (call 40 0 0 ∷ []) (plain ∷ fn 0xffffffdc 0 0 0 [] ∷ []) (set numbered 40 2)) (enter 1 (runToEnd (carry state))))
+    (accepted (98 ∷ 117 ∷ 105 ∷ 108 ∷ 116 ∷ 105 ∷ 110 ∷ 36 ∷ 0 ∷ 2 ∷ 1 ∷ 1 ∷ 0 ∷ []))
+    ∷ row "The position stays there until the host carries on by one"
+    (from (program (op 60 0 0 0 ∷ []) (plain ∷ []) numbered) (enter 1 (runToEnd (state and carry state))))
+    (accepted (111 ∷ 112 ∷ 99 ∷ 111 ∷ 100 ∷ 101 ∷ 60 ∷ 0 ∷ 1 ∷ 1 ∷ 1 ∷ 0 ∷ 2 ∷ 1 ∷ 1 ∷ 0 ∷ []))
+    ∷ row "27: that statement would not be handed over" (from (program (storeF 28 30 0 ∷ []) (plain ∷ []) numbered) (enter 1 (carry state))) (refused 27)
+    ∷ row "28: limit outside 1 to 99,999, before 29"
+    (entering plain (runBy (pos 9) (pos 0) (runBy (pos 9) (pos 100000) state))) (accepted (28 ∷ 0 ∷ 28 ∷ 0 ∷ 1 ∷ 1 ∷ 1 ∷ 0 ∷ []))
+    ∷ row "29: target below 0, or not below the depth"
+    (entering plain (runBy (negsuc 0) (pos 1) (runBy (pos 1) (pos 1) state))) (accepted (29 ∷ 0 ∷ 29 ∷ 0 ∷ 1 ∷ 1 ∷ 1 ∷ 0 ∷ []))
+    ∷ row "Spent is given when the limit's statements are completed" (nested (runBy (pos 0) (pos 4) state)) (accepted (0 ∷ 4 ∷ 2 ∷ 1 ∷ 1 ∷ 0 ∷ []))
+    ∷ row "abandon to a depth (leaving innermost first, no return value)"
+    (nested (complete (complete (abandonTo (pos 0) (state and cells 4 0 and cells 1 30))))) (accepted (0 ∷ 0 ∷ 0 ∷ 0 ∷ 0 ∷ 1 ∷ 2 ∷ 3 ∷ 30 ∷ []))
+    ∷ row "29 (abandon: above it)" (nested (abandonTo (pos 2) state)) (refused 29)
+    ∷ row "13: saved count not the sum of their local counts" (entering plain (oneMoreSaved (enter 1 state))) (refused 13)
     -- other sentences
     ∷ row "A refusal gives its number and leaves state and buffers"
     (from (program [] (fn 1 30 1 0 [] ∷ fn 0xffffffff 40 1 1 (1 ∷ []) ∷ []) numbered)
@@ -372,5 +412,5 @@ unfolding judge guard
     shapeOf floatsEffect vectorResult vectorsEffect dotsEffect negatesVEffect storesEffect storesVEffect branchesDo callOf callDoes fetchConditions execute doesAt
     limits present copied successive arguments copiesPresent entryConditions entered leaveConditions left stepAs step runFor
     each headerConditions recordConditions cellConditions loaded load sameFile recordedIn programAt
-    frameFunctions enteredFunctions allPresent localsOf sound hostEnter statement runConditions run rawRead rawWrite
+    frameFunctions enteredFunctions allPresent localsOf sound hostEnter statement runConditions run carryOnConditions carryOn leftTimes leavingsConditions abandonConditions abandon rawRead rawWrite
 starred = tt

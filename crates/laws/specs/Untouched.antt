@@ -2,6 +2,7 @@
 -- entry newly saves.
 use Prim.Native.Nat.{ℕ, zero, suc, _+_, _-_, _≤_, _<_}
 use mathlib.Core.Path.{_≡_, refl, sym, _∙_, ap, subst}
+use mathlib.Core.Logic.{_⊎_, inl, inr}
 use mathlib.Core.List.{List, [], _∷_, _++_, append-assoc}
 use mathlib.Core.Bool.{Bool, true, false, not, _&&_}
 use native.Mathlib.Omega.{arith}
@@ -18,7 +19,7 @@ use Rattle.definition.specs.Load.{headerConditions, recordConditions, cellCondi
 use Rattle.definition.specs.Calls.{Call}
 use Rattle.definition.specs.Returns.{Log, Kind, entry, leaving, other, StepClaim, Through}
 use Rattle.definition.specs.CheckLaws.{All, and-left, and-right, all-back, WhenAccepted, guarded}
-use Rattle.definition.specs.Parts.{Present, present-true, present-more, present-source, length-pasted, drop-pasted, length-copied, drop-copied}
+use Rattle.definition.specs.Parts.{Present, present-true, present-more, present-source, paste-none, length-pasted, drop-pasted, length-copied, drop-copied}
 use Rattle.definition.specs.RecordLaws.{length-globals}
 use Rattle.definition.specs.StatementLaws.{Keeps}
 use Rattle.definition.specs.Walk.{Good, Steps, through}
@@ -39,6 +40,16 @@ pub record Touches (file : List ℕ) (κ : Kind) (c : Config) (l : Log) (c′ : 
 
 keeps-more : (count : ℕ) (a b c : List ℕ) → Keeps count a b → Keeps count b c → Keeps count a c
 keeps-more count a b c p q = record { same-length = q .same-length ∙ p .same-length; same-above = q .same-above ∙ p .same-above }
+
+-- pasting changes nothing outside its range
+pasted-only : (d : List ℕ) (at : ℕ) (s : List ℕ) (n : ℕ) → Present at n (length d) → n ≤ length s
+    → (take at (paste d at s n) ≡ take at d) × (drop (at + n) (paste d at s n) ≡ drop (at + n) d)
+unfolding Present
+pasted-only d at s n (inl z) hs = (ap (take at) (paste-none d at s n z), ap (drop (at + n)) (paste-none d at s n z))
+pasted-only d at s n (inr le) hs = (
+  ap (take at) (append-assoc (take at d) (take n s) (drop (at + n) d)) ∙ take-at (take at d) _ at (length-take-le at d (omega arith)),
+  drop-paste d at s n (omega arith) hs,
+)
 
 -- steady, and the cells kept since `cells`
 record Since (file cells : List ℕ) (c : Config) : Type 0 where
@@ -105,6 +116,21 @@ module _ (file lent : List ℕ) where
         same-length = length-pasted cells (d .start) from (d .locals) (present-more _ _ count _ all there) source;
         same-above = drop-pasted cells (d .start) from (d .locals) count there all source;
       }
+
+  -- a leaving changes no cell outside the local range of the function left
+  pub left-only : (c : Config) → Steady file c → All (leaveConditions P c)
+      → (take (functionOf P (c .state .function) .start) (left P c .cells) ≡ take (functionOf P (c .state .function) .start) (c .cells))
+      × (drop (functionOf P (c .state .function) .start + functionOf P (c .state .function) .locals) (left P c .cells)
+      ≡ drop (functionOf P (c .state .function) .start + functionOf P (c .state .function) .locals) (c .cells))
+  unfolding leaveConditions left
+  left-only c k h =
+      let s = c .state in
+      let d = functionOf P (s .function) in
+      let fewer : d .locals ≤ s .saved = leb-true (d .locals) (s .saved) (h .1 .0) in
+      let from : List ℕ = drop (s .saved - d .locals) (c .saved) in
+      pasted-only (c .cells) (d .start) from (d .locals)
+      (present-more _ _ (countOf c) _ (k .enough) (present-true (d .start) (d .locals) (countOf c) (h .1 .1 .0)))
+      (omega (arith, fewer, k .balanced .saved-most, k .long, length-drop (s .saved - d .locals) (c .saved)))
 
   least : (c : Config) → Steady file c → 36 ≤ count
   least c k =
