@@ -10,6 +10,8 @@ pub mod Operations
 pub mod Answers
 pub mod Starred
 pub mod Calls
+pub mod Log
+pub mod Along
 pub mod Returns
 pub mod CheckLaws
 pub mod Parts

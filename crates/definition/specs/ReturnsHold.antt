@@ -17,7 +17,9 @@ use Rattle.definition.specs.Machine.{Program, functionOf, Config, countO
 use Rattle.definition.specs.Machine.{entryConditions, entered, leaveConditions, left, returnConditions, returned}
 use Rattle.definition.specs.Load.{headerConditions, recordConditions, cellConditions, loadConditions, loaded, load, programAt, programOf}
 use Rattle.definition.specs.Calls.{Call}
-use Rattle.definition.specs.Returns.{Note, Log, functionIn, localCells, Kind, entry, leaving, other, localsNoted, Standing, Back, Right, logAfter, Holds, Demand3}
+use Rattle.definition.specs.Log.{Note, Log, functionIn, localCells, Kind, entry, leaving, other}
+use Rattle.definition.specs.Along.{logAfter}
+use Rattle.definition.specs.Returns.{localsNoted, Standing, Back, Right, Holds, Demand3}
 use Rattle.definition.specs.CheckLaws.{All, and-right, all-back, WhenAccepted, guarded}
 use Rattle.definition.specs.Parts.{part, part-below, part-pasted, Present, present-true, present-more, present-source, length-pasted, part-restored, length-copied}
 use Rattle.definition.specs.StatementLaws.{Keeps}

@@ -24,7 +24,7 @@ use Rattle.definition.specs.Statements.{floatsEffect, valuesEffect, vect
 use Rattle.definition.specs.Statements.{storedPositive, storesEffect, argumentCell, moveAccess, storesVEffect, branchesDo, callOf, callDoes, statementAt, fetchConditions, executeAs, execute, doesAt}
 use Rattle.definition.specs.Machine.{Program}
 use Rattle.definition.specs.Load.{programAt, programOf}
-use Rattle.definition.specs.Returns.{functionIn, Kind, entry, leaving, other, statementKind}
+use Rattle.definition.specs.Log.{functionIn, Kind, entry, leaving, other, statementKind}
 use Rattle.definition.specs.CheckLaws.{All, judge-passed, all-front, all-back, and-left, and-right}
 
 -- ---- the table of opcodes

@@ -19,7 +19,8 @@ use Rattle.definition.specs.Operations.{sound, natural, below, hostEnter
 use Rattle.definition.specs.Operations.{leftTimes, leavingsConditions, leavingsTo, abandonConditions, abandon, rawConditions, rawWrite}
 use Rattle.definition.specs.Answers.{kept, statementOutcome}
 use Rattle.definition.specs.Calls.{Call, enters, steps, runs, carries, abandons, reads, writes, after, ifAccepted, ifCompleted, unlessEnded, stepsAs, runSteps, runStepsAfter, leavings, leavingsAfter, smallSteps}
-use Rattle.definition.specs.Returns.{Log, Kind, entry, leaving, other, statementKind, kindOf, kindAt, logAfter, Own, StepClaim, Along, logAlong, Counted, Through}
+use Rattle.definition.specs.Log.{Log, Kind, entry, leaving, other, statementKind, kindOf}
+use Rattle.definition.specs.Along.{kindAt, logAfter, Own, StepClaim, Along, logAlong, Counted, Through}
 use Rattle.definition.specs.CheckLaws.{All, judge-passed, judge-all, all-front, all-back, WhenAccepted, guarded, guard-accepts}
 use Rattle.definition.specs.StatementLaws.{Keeps, Is, statement-is}
 

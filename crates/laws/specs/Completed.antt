@@ -15,7 +15,7 @@ use Rattle.definition.specs.Load.{programOf}
 use Rattle.definition.specs.Operations.{natural, hostEnter, statement, runConditions, runAfter, run, carryOn, abandon, rawRead, rawWrite}
 use Rattle.definition.specs.Answers.{statementOutcome}
 use Rattle.definition.specs.Calls.{Call, enters, steps, runs, carries, abandons, reads, writes, after}
-use Rattle.definition.specs.Returns.{Kind, entry, leaving, other, statementKind}
+use Rattle.definition.specs.Log.{Kind, entry, leaving, other, statementKind}
 use Rattle.definition.specs.StatementLaws.{Is, statement-is}
 
 -- what a completed statement made of c, by its kind

@@ -20,7 +20,8 @@ use Rattle.definition.specs.Machine.{entryConditions, entered, leaveConditions,
 use Rattle.definition.specs.Load.{headerConditions, recordConditions, cellConditions, loadConditions, loaded, load, sameLump, sameFile, recordedIn, programAt, programOf}
 use Rattle.definition.specs.Operations.{frameFunctions, enteredAt, enteredFunctions, allPresent, localsOf, sound}
 use Rattle.definition.specs.Calls.{Call}
-use Rattle.definition.specs.Returns.{Log, Kind, entry, leaving, other, StepClaim, Through}
+use Rattle.definition.specs.Log.{Log, Kind, entry, leaving, other}
+use Rattle.definition.specs.Along.{StepClaim, Through}
 use Rattle.definition.specs.CheckLaws.{All, and-left, and-right, and-both, all-front, all-back, WhenAccepted, guarded}
 use Rattle.definition.specs.Parts.{Present, present-true, present-more, present-source, length-pasted, length-copied}
 use Rattle.definition.specs.RecordLaws.{length-globals}

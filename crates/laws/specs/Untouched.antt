@@ -17,7 +17,8 @@ use Rattle.definition.specs.Machine.{Program, functionOf, Config, countOf, limi
 use Rattle.definition.specs.Machine.{entryConditions, entered, leaveConditions, left, returnConditions, returned}
 use Rattle.definition.specs.Load.{headerConditions, recordConditions, cellConditions, loadConditions, loaded, load, programOf}
 use Rattle.definition.specs.Calls.{Call}
-use Rattle.definition.specs.Returns.{Log, Kind, entry, leaving, other, StepClaim, Through}
+use Rattle.definition.specs.Log.{Log, Kind, entry, leaving, other}
+use Rattle.definition.specs.Along.{StepClaim, Through}
 use Rattle.definition.specs.CheckLaws.{All, and-left, and-right, all-back, WhenAccepted, guarded}
 use Rattle.definition.specs.Parts.{Present, present-true, present-more, present-source, paste-none, length-pasted, drop-pasted, length-copied, drop-copied}
 use Rattle.definition.specs.RecordLaws.{length-globals}
