@@ -12,10 +12,10 @@ use lib.Dec.{ltb}
 use Rattle.definition.specs.declared.RunAnswer.the-variants.{Refused}
 use Rattle.definition.specs.Checks.{Condition, Conditions, _otherwise_, judge, Checked, refused, accepted, guard}
 use Rattle.definition.specs.File.{leastCells}
-use Rattle.definition.specs.Statements.{returns, placeOf}
-use Rattle.definition.specs.Machine.{Program, Config, countOf, withCells, advanced, entryConditions, entered, leaveConditions, left, returnConditions, returned, asStep, stepAs, completed, refusedStep, step, Ran, runFor}
+use Rattle.definition.specs.Statements.{Does, next, calls, returns, refuses, handsOver, placeOf}
+use Rattle.definition.specs.Machine.{Program, Config, countOf, withCells, advanced, entryConditions, entered, leaveConditions, left, returnConditions, returned, asStep, stepAs, completed, refusedStep, handedStep, step, Ran, runFor}
 use Rattle.definition.specs.Load.{loadConditions, loaded, load}
-use Rattle.definition.specs.Operations.{sound, natural, below, hostEnter, runConditions, runAfter, run, carryOnConditions, carryOn, leftTimes, leavingsTo, abandonConditions, abandon, rawConditions, rawRead, rawWrite}
+use Rattle.definition.specs.Operations.{sound, natural, below, hostEnter, statement, runConditions, runAfter, run, carryOnConditions, carryOn, leftTimes, leavingsTo, abandonConditions, abandon, rawConditions, rawRead, rawWrite}
 use Rattle.definition.specs.CheckLaws.{All, FailsFirst, judge-all, judge-first, guard-accepts, accepted-all, guard-refuses, refused-first, WhenAccepted, guarded}
 
 -- x is accepted, with a, exactly where all of cs hold, and refused exactly with the number of the first that fails
@@ -59,14 +59,35 @@ pub write-exactly : (P : Program) (a : ℤ) (v : ℕ) (c : Config) → Exactly (
 unfolding rawWrite
 write-exactly P a v c = exactly _ _
 
--- a Return or Done is completed exactly where its row's conditions hold
-pub return-exactly : (P : Program) (a : ℕ) (c : Config) → P .does (c .state .pc) (c .cells) ≡ returns a
-    → (All (returnConditions P a c) → step P c ≡ completed (returned P a c)) × ((n : ℕ) → FailsFirst (suc n) (returnConditions P a c) → step P c ≡ refusedStep (suc n))
+-- one statement: 13 first, and then what the bytes say it does
+pub statement-exactly : (P : Program) (c : Config) → ((sound P c ≡ true) → statement P c ≡ step P c) × ((sound P c ≡ false) → statement P c ≡ refusedStep 13)
+unfolding statement
+statement-exactly P c = (λ e. rw e, λ e. rw e)
+
+-- "A Call records the position after itself"
+abbrev pub Done : Program → Config → Does → Type 0
+Done P c (next p cells) = step P c ≡ completed (advanced c p cells)
+Done P c (calls f) =
+    (All (entryConditions P f c) → step P c ≡ completed (entered P f (c .state .pc +ℤ pos 1) c))
+    × ((n : ℕ) → FailsFirst (suc n) (entryConditions P f c) → step P c ≡ refusedStep (suc n))
+Done P c (returns a) =
+    (All (returnConditions P a c) → step P c ≡ completed (returned P a c)) × ((n : ℕ) → FailsFirst (suc n) (returnConditions P a c) → step P c ≡ refusedStep (suc n))
+Done P c (refuses n) = step P c ≡ refusedStep n
+Done P c (handsOver h) = step P c ≡ handedStep h
+
+pub step-exactly : (P : Program) (c : Config) (x : Does) → P .does (c .state .pc) (c .cells) ≡ x → Done P c x
 unfolding step stepAs
-return-exactly P a c is = (
+step-exactly P c (next p cells) is = rw is
+step-exactly P c (calls f) is = (
+  λ h. rw is (ap asStep (guard-accepts (entryConditions P f c) (entered P f (c .state .pc +ℤ pos 1) c) h)),
+  λ n x. rw is (ap asStep (guard-refuses (entryConditions P f c) (entered P f (c .state .pc +ℤ pos 1) c) n x)),
+)
+step-exactly P c (returns a) is = (
   λ h. rw is (ap asStep (guard-accepts (returnConditions P a c) (returned P a c) h)),
   λ n f. rw is (ap asStep (guard-refuses (returnConditions P a c) (returned P a c) n f)),
 )
+step-exactly P c (refuses n) is = rw is
+step-exactly P c (handsOver h) is = rw is
 
 -- a run begins exactly where its row's conditions hold; otherwise it is refused with count 0 and changes nothing
 pub run-exactly : (P : Program) (target limit : ℤ) (c : Config)

@@ -37,14 +37,14 @@ frames-set zero j frames x h = refl
 frames-set (suc k) j frames x h =
     rw (getD-set-other frames j (suc k) x zeroFrame (omega arith), frames-set k j frames x (omega arith))
 
-entered-more : (k f : ℕ) (frames : List StackFrame) (x : StackFrame) → k < length frames
+pub entered-more : (k f : ℕ) (frames : List StackFrame) (x : StackFrame) → k < length frames
     → enteredAt (suc k) f (set frames k x) ≡ f ∷ enteredAt k (x .«func_id») frames
 unfolding frameFunctions
 entered-more zero f frames x h = refl
 entered-more (suc k) f frames x h =
     rw (getD-set-same frames (suc k) x zeroFrame h, frames-set k (suc k) frames x (omega arith))
 
-entered-less : (k f : ℕ) (frames : List StackFrame)
+pub entered-less : (k f : ℕ) (frames : List StackFrame)
     → enteredAt (suc k) f frames ≡ f ∷ enteredAt k (getD frames k zeroFrame .«func_id») (set frames k zeroFrame)
 unfolding frameFunctions
 entered-less zero f frames = refl
