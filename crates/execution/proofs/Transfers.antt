@@ -129,7 +129,7 @@ module _ (fs : List FunctionDef) (g : Typing) (p : ℤ) (op x y z : ℕ) (cells 
   abbrev does : code.Shape → Does
   does s = executeAs (shapeAs s op) (onlyFunctions fs) g p (statement op x y z) (cellOf x) (cellOf y) (cellOf z) cells
 
-  does-is : does s ≡ executeWith fs g p (statement op x y z) cells
+  pub does-is : does s ≡ executeWith fs g p (statement op x y z) cells
   unfolding executeWith
   does-is =
       rw (← told) (ap (λ (t : Shape). executeAs t (onlyFunctions fs) g p (statement op x y z) (cellOf x) (cellOf y) (cellOf z) cells) is)
@@ -146,7 +146,7 @@ module _ (fs : List FunctionDef) (g : Typing) (p : ℤ) (op x y z : ℕ) (cells 
       kept (HandedOver h) = refl
 
 -- the cells' shapes are effects
-effect-does : (what : CellOp) (fs : List FunctionDef) (g : Typing) (p : ℤ) (op x y z : ℕ) (cells : List ℕ)
+pub effect-does : (what : CellOp) (fs : List FunctionDef) (g : Typing) (p : ℤ) (op x y z : ℕ) (cells : List ℕ)
     → executeAs (cellShape what op) (onlyFunctions fs) g p (statement op x y z) (cellOf x) (cellOf y) (cellOf z) cells
     ≡ effectDoes p (effectAs what op g (cellOf x) (cellOf y) (cellOf z) cells)
 unfolding effectAs

@@ -7,11 +7,11 @@ use Rattle.definition.specs.declared.Answer.{Answer}
 use Rattle.definition.specs.declared.Answer.the-variants as answer
 use Rattle.definition.specs.declared.Statement.{Statement}
 use Rattle.definition.specs.declared.FunctionDef.{FunctionDef}
-use Rattle.definition.specs.File.{Contents, records, readFunction}
+use Rattle.definition.specs.File.{Contents, records, readStatement, readFunction}
 use Rattle.definition.specs.Cells.{cellOf, Typing, typingOf}
 use Rattle.definition.specs.Statements.{Does, next, calls, returns, refuses, handsOver}
 use Rattle.definition.specs.Statements.{Shape, floats, values, vectors, dots, strings, negates, negatesV, negatesS, stores, storesV, branches, jumps, call, return, host, shapeOf}
-use Rattle.definition.specs.Statements.{executeAs, execute}
+use Rattle.definition.specs.Statements.{executeAs, execute, provided, fetchConditions, statementAt, doesAt}
 use Rattle.execution.specs.declared.Executed.{Executed}
 use Rattle.execution.specs.declared.Executed.the-variants.{Next, Calls, Returns, Refused, HandedOver}
 
@@ -52,6 +52,17 @@ execute-with k p st cells = go (shapeOf (st .opcode))
     go call = refl
     go return = refl
     go host = refl
+
+abbrev pub statementsIn : List ℕ → ℕ → ℕ → List Statement
+statementsIn file statements nstatements = records (readStatement file) 8 nstatements statements
+
+-- the statement at a position, by what execution looks at
+unfoldable pub doesWith : List Statement → List FunctionDef → Typing → ℤ → List ℕ → Does
+doesWith statements functions g p cells = provided (fetchConditions statements p) (executeWith functions g p (statementAt statements p) cells)
+
+pub does-with : (k : Contents) (p : ℤ) (cells : List ℕ) → doesWith (k .statements) (k .functions) (typingOf k) p cells ≡ doesAt k p cells
+unfolding doesWith doesAt
+does-with k p cells = ap (provided (fetchConditions (k .statements) p)) (execute-with k p (statementAt (k .statements) p) cells)
 
 -- ---- what it answers
 

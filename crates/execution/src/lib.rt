@@ -4,20 +4,22 @@ use crate::shapes::Shape;
 use definition::Answer;
 use definition::Handover;
 use functions::fetch;
+use functions::fetch::Fetched;
 ghost use mathlib.Core.Path.{_≡_};
 ghost use mathlib.Core.Bool.{true};
 ghost use mathlib.Core.List.{List};
 ghost use Prim.Native.Nat.{ℕ, _-_, _*_, _≤_, _<_};
-ghost use lib.IntN.{pos};
+ghost use lib.IntN.{ℤ, pos};
 ghost use lib.ListN.{length, getD};
 ghost use Rattle.definition.specs.File.{lumpFits};
 ghost use Rattle.definition.specs.Cells.{signed, cellOf};
 ghost use Rattle.definition.specs.Statements.{branchesDo, callOf, callDoes};
+ghost use Rattle.definition.specs.Operations.{isHandedOver};
 ghost use Rattle.functions.specs.Answers.{lump};
 ghost use Rattle.typed.specs.Typing.{typing};
 ghost use Rattle.globals.specs.Effects.{after, effectOn};
 ghost use Rattle.execution.specs.Shapes.{effectAs};
-ghost use Rattle.execution.specs.Execution.{functionsIn, statement, executeWith, completedAs, doesOf, executed, execution};
+ghost use Rattle.execution.specs.Execution.{functionsIn, statementsIn, statement, executeWith, doesWith, completedAs, doesOf, executed, execution};
 
 pub mod shapes;
 
@@ -200,5 +202,83 @@ pub fn execute(
         Shape::Call => return call(file, defs, ndefs, functions, nfunctions, count, cells, a),
         Shape::Return => return Executed::Returns(a),
         Shape::Host => return Executed::HandedOver(Handover::Opcode(op as u32)),
+    }
+}
+
+fn is_handed_over(done: Executed) -> bool
+    ensures { λ r. ⌜ ((cells : List ℕ) → r ≡ isHandedOver (doesOf done cells)) ⌝ }
+{
+    match done {
+        Executed::Next(_p) => return false,
+        Executed::Calls(_f) => return false,
+        Executed::Returns(_a) => return false,
+        Executed::Refused(_n) => return false,
+        Executed::HandedOver(_h) => return true,
+    }
+}
+
+// Whether a statement, with the cells as they are, would be handed over.
+pub fn hands_over(
+    file: &[u8],
+    defs: usize,
+    ndefs: usize,
+    functions: usize,
+    nfunctions: usize,
+    count: usize,
+    cells: &[u32],
+    op: u16,
+    x: u16,
+) -> bool
+    requires { ⌜ (8 * ndefs ≤ length (now file) - defs) × (lumpFits 36 (length (now file)) (lump functions nfunctions) ≡ true) × (count ≤ length (now cells)) × (op < 66) ⌝ }
+    ensures { λ r. ⌜ ((p : ℤ) (y z : ℕ) → r ≡ isHandedOver (executeWith (functionsIn (now (file .entry)) functions nfunctions) (typing (now (file .entry)) defs ndefs count) p (statement op x y z) (now (cells .entry)))) ⌝ }
+{
+    let shape = shapes::shape_of(op);
+    match shape {
+        Shape::Cells(_what) => return false,
+        Shape::Branch(_when) => return false,
+        Shape::Goto => return false,
+        Shape::Call => {
+            let a = fetch::cell_of(x);
+            let done = call(file, defs, ndefs, functions, nfunctions, count, cells, a);
+            return is_handed_over(done);
+        }
+        Shape::Return => return false,
+        Shape::Host => return true,
+    }
+}
+
+// What the statement at a position does; one that writes cells has done so.
+pub fn does(
+    file: &[u8],
+    statements: usize,
+    nstatements: usize,
+    defs: usize,
+    ndefs: usize,
+    functions: usize,
+    nfunctions: usize,
+    count: usize,
+    cells: &mut [u32],
+    pc: i64,
+) -> Executed
+    requires { ⌜ (lumpFits 8 (length (now file)) (lump statements nstatements) ≡ true) × (8 * ndefs ≤ length (now file) - defs) × (lumpFits 36 (length (now file)) (lump functions nfunctions) ≡ true) × (count ≤ length (now cells)) ⌝ }
+    ensures { λ r. ⌜ executed r (now (cells .exit)) ≡ execution (doesWith (statementsIn (now (file .entry)) statements nstatements) (functionsIn (now (file .entry)) functions nfunctions) (typing (now (file .entry)) defs ndefs count) pc (now (cells .entry))) (now (cells .entry)) ⌝ }
+{
+    let fetched = fetch::fetch(file, statements, nstatements, pc);
+    match fetched {
+        Fetched::Refused(n) => return Executed::Refused(n),
+        Fetched::At(k, s) => return execute(
+            file,
+            defs,
+            ndefs,
+            functions,
+            nfunctions,
+            count,
+            cells,
+            k,
+            s.opcode,
+            s.arg1,
+            s.arg2,
+            s.arg3,
+        ),
     }
 }

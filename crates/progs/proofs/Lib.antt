@@ -1,6 +1,7 @@
 pub mod CopyLaws
 pub mod FileLaws
 pub mod OutcomeLaws
+pub mod DoesLaws
 pub mod EntryLaws
 pub mod LeaveLaws
 pub mod StateLaws

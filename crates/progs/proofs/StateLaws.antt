@@ -128,7 +128,7 @@ loaded-of file r cells h = let k = recorded file r cells h in record { same = k 
 -- ---- what check 13 establishes is kept by every entry and leaving
 
 module _ (file : List ℕ) (cells saved : ℕ) (x y : ExecutionContext) (h : Within file x cells saved) where
-  moved-within : y .file ≡ x .file → y .depth ≤ 31 → y .saved ≤ 2048 → Within file y cells saved
+  pub moved-within : y .file ≡ x .file → y .depth ≤ 31 → y .saved ≤ 2048 → Within file y cells saved
   moved-within e d s =
       record {
         loaded = rw e (h .loaded);

@@ -1,14 +1,17 @@
 -- THE CONTEXT as the definition's state, and what a method answers as the definition's outcome.
-use Prim.Native.Nat.{ℕ, _≤_}
+use Prim.Native.Nat.{ℕ, _≤_, _<_}
 use mathlib.Core.Path.{_≡_}
-use mathlib.Core.List.{List, []}
+use mathlib.Core.List.{List, [], _∷_, _++_}
+use lib.IntN.{ℤ, pos}
 use lib.ListN.{length}
 use Rattle.definition.specs.declared.FileRecord.{FileRecord}
 use Rattle.definition.specs.declared.FunctionDef.{FunctionDef}
 use Rattle.definition.specs.declared.Answer.the-variants as answer
-use Rattle.definition.specs.Checks.{Checked, guard}
+use Rattle.definition.specs.Checks.{Conditions, _otherwise_, Checked, guard}
 use Rattle.definition.specs.File.{fileOf}
+use Rattle.definition.specs.Statements.{placeOf}
 use Rattle.definition.specs.Machine.{Program, State, Config, returnConditions, returned}
+use Rattle.definition.specs.Operations.{isHandedOver}
 use Rattle.definition.specs.Answers.{Outcome, outcome}
 use Rattle.functions.specs.Laws.{AllFit}
 use Rattle.progs.specs.declared.ExecutionContext.{ExecutionContext}
@@ -39,6 +42,10 @@ accepting x = record { answer = answer.Accepted; context = x }
 abbrev pub return : Program → ℕ → Config → Checked Config
 return P a c = guard (returnConditions P a c) (returned P a c)
 
+-- 14, 7 and 27: the conditions of carrying on, after check 13
+abbrev pub onward : Program → ℤ → List ℕ → Conditions
+onward P p cells = P .fetching p ++ ((isHandedOver (P .does p cells) otherwise 27) ∷ [])
+
 -- a context without its cells: no condition of a call, and no state after one, depends on a cell
 abbrev pub bare : ExecutionContext → Config
 bare x = config x [] []
@@ -60,3 +67,8 @@ pub record Within (file : List ℕ) (x : ExecutionContext) (cells saved : ℕ) :
   pub store : 2048 ≤ saved
   pub depth : x .depth ≤ 31
   pub held : x .saved ≤ 2048
+
+-- a position that is one of the statements: its number is below every bound of a lump
+pub record Standing (p : ℤ) : Type 0 where
+  pub is : p ≡ pos (placeOf 0 p)
+  pub small : placeOf 0 p < 2147483648

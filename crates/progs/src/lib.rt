@@ -10,6 +10,7 @@ use functions::fetch;
 
 mod abandon;
 mod calls;
+mod carry_on;
 mod copies;
 pub mod load;
 mod raw;

@@ -1,6 +1,5 @@
 -- WHAT A STATEMENT AND A RUN ANSWER, in terms of the definition.
 use Prim.Native.Nat.{ℕ}
-use mathlib.Core.Path.{_≡_, refl, sym, _∙_, ap}
 use mathlib.Core.List.{List}
 use lib.IntN.{ℤ}
 use Rattle.definition.specs.declared.Answer.{Answer}
@@ -9,29 +8,31 @@ use Rattle.definition.specs.declared.StatementAnswer.{StatementAnswer}
 use Rattle.definition.specs.declared.StatementAnswer.the-variants as statement
 use Rattle.definition.specs.declared.RunAnswer.{RunAnswer}
 use Rattle.definition.specs.declared.RunAnswer.the-variants as run
-use Rattle.definition.specs.declared.Statement.{Statement}
-use Rattle.definition.specs.declared.FunctionDef.{FunctionDef}
-use Rattle.definition.specs.File.{Contents, records, readStatement}
-use Rattle.definition.specs.Cells.{Typing, typingOf}
-use Rattle.definition.specs.Statements.{Does, provided, fetchConditions, statementAt, doesAt}
-use Rattle.execution.specs.Execution.{executeWith, execute-with}
+use Rattle.definition.specs.Machine as machine
+use Rattle.definition.specs.Answers.{StatementOutcome}
+use Rattle.execution.specs.declared.Executed.{Executed}
+use Rattle.execution.specs.declared.Executed.the-variants as does
 use Rattle.progs.specs.declared.Answered.{Answered}
 use Rattle.progs.specs.declared.ExecutionContext.{ExecutionContext}
+use Rattle.progs.specs.Contexts.{config, Standing}
 use Rattle.server.specs.declared.Stepped.{Stepped}
 use Rattle.server.specs.declared.Ran.{Ran}
 
-abbrev pub statementsIn : List ℕ → ℕ → ℕ → List Statement
-statementsIn file statements nstatements = records (readStatement file) 8 nstatements statements
+abbrev pub steppedOf : Stepped → List ℕ → List ℕ → StatementOutcome
+steppedOf r cells saved = record { answer = r .answer; config = config (r .context) cells saved }
 
--- the statement at a position, by what execution looks at
-unfoldable pub doesWith : List Statement → List FunctionDef → Typing → ℤ → List ℕ → Does
-doesWith statements functions g p cells = provided (fetchConditions statements p) (executeWith functions g p (statementAt statements p) cells)
+abbrev pub ranOf : Ran → List ℕ → List ℕ → machine.Ran
+ranOf r cells saved = record { answer = r .answer; count = r .count; config = config (r .context) cells saved }
 
-pub does-with : (k : Contents) (p : ℤ) (cells : List ℕ) → doesWith (k .statements) (k .functions) (typingOf k) p cells ≡ doesAt k p cells
-unfolding doesWith doesAt
-does-with k p cells = ap (provided (fetchConditions (k .statements) p)) (execute-with k p (statementAt (k .statements) p) cells)
+-- a Call is one of the statements, so that there is a position after it
+abbrev pub Stands : Executed → ℤ → Type 0
+Stands (does.Next q) p = Unit {0}
+Stands (does.Calls f) p = Standing p
+Stands (does.Returns a) p = Unit {0}
+Stands (does.Refused n) p = Unit {0}
+Stands (does.HandedOver h) p = Unit {0}
 
-abbrev statementAnswer : Answer → StatementAnswer
+abbrev pub statementAnswer : Answer → StatementAnswer
 statementAnswer answer.Accepted = statement.Completed
 statementAnswer (answer.Refused n) = statement.Refused n
 
@@ -47,3 +48,6 @@ runAnswer (statement.HandedOver h) = run.HandedOver h
 
 abbrev pub stoppedOf : ExecutionContext → StatementAnswer → ℕ → Ran
 stoppedOf x answer count = record { context = x; answer = runAnswer answer; count = count }
+
+abbrev pub notRun : ExecutionContext → ℕ → Ran
+notRun x n = record { context = x; answer = run.Refused n; count = 0 }

@@ -1,19 +1,20 @@
-// Parts of statements and runs (server/mod.rs, LevelState::execute_program): what the statement at a position does, and what a statement answers.
+// Statements and runs (server/mod.rs, LevelState::execute_program).
 ghost use mathlib.Core.Path.{_≡_};
-ghost use mathlib.Core.Bool.{true};
-ghost use Prim.Native.Nat.{ℕ, _-_, _*_, _≤_, _<_};
+ghost use mathlib.Core.Logic.{⊥};
+ghost use Prim.Native.Nat.{ℕ};
 ghost use lib.ListN.{length};
-ghost use Rattle.definition.specs.File.{lumpFits};
-ghost use Rattle.functions.specs.Answers.{lump};
-ghost use Rattle.typed.specs.Typing.{typing};
-ghost use Rattle.execution.specs.Execution.{functionsIn, executed, execution};
-ghost use Rattle.server.specs.Stepping.{statementsIn, doesWith, completedOf, stoppedOf};
+ghost use Rattle.definition.specs.Machine.{stepAs, step, runFor};
+ghost use Rattle.definition.specs.Load.{programOf};
+ghost use Rattle.definition.specs.Operations.{statement, run};
+ghost use Rattle.definition.specs.Answers.{statementOutcome};
+ghost use Rattle.execution.specs.Execution.{doesOf};
+ghost use Rattle.progs.specs.Contexts.{config, Within};
+ghost use Rattle.server.specs.Stepping.{completedOf, stoppedOf, steppedOf, ranOf, notRun, Stands};
 use definition::Answer;
 use definition::RunAnswer;
 use definition::StatementAnswer;
 use execution::Executed;
 use functions::fetch;
-use functions::fetch::Fetched;
 use progs::Answered;
 use progs::ExecutionContext;
 
@@ -30,44 +31,8 @@ pub struct Ran {
     pub count: u32,
 }
 
-// What the statement at a position does; one that writes cells has done so.
-pub fn does(
-    file: &[u8],
-    statements: usize,
-    nstatements: usize,
-    defs: usize,
-    ndefs: usize,
-    functions: usize,
-    nfunctions: usize,
-    count: usize,
-    cells: &mut [u32],
-    pc: i64,
-) -> Executed
-    requires { ⌜ (lumpFits 8 (length (now file)) (lump statements nstatements) ≡ true) × (8 * ndefs ≤ length (now file) - defs) × (lumpFits 36 (length (now file)) (lump functions nfunctions) ≡ true) × (count ≤ length (now cells)) ⌝ }
-    ensures { λ r. ⌜ executed r (now (cells .exit)) ≡ execution (doesWith (statementsIn (now (file .entry)) statements nstatements) (functionsIn (now (file .entry)) functions nfunctions) (typing (now (file .entry)) defs ndefs count) pc (now (cells .entry))) (now (cells .entry)) ⌝ }
-{
-    let fetched = fetch::fetch(file, statements, nstatements, pc);
-    match fetched {
-        Fetched::Refused(n) => return Executed::Refused(n),
-        Fetched::At(k, s) => return execution::execute(
-            file,
-            defs,
-            ndefs,
-            functions,
-            nfunctions,
-            count,
-            cells,
-            k,
-            s.opcode,
-            s.arg1,
-            s.arg2,
-            s.arg3,
-        ),
-    }
-}
-
 // An entry or a Return, as a statement.
-pub fn completed(a: Answered) -> Stepped
+fn completed(a: Answered) -> Stepped
     ensures { λ r. ⌜ r ≡ completedOf a ⌝ }
 {
     let context = a.context;
@@ -88,8 +53,95 @@ pub fn completed(a: Answered) -> Stepped
     }
 }
 
+// What is left to do about a statement: a position to go to, a function to enter or to leave.
+fn perform(
+    context: ExecutionContext,
+    file: &[u8],
+    done: Executed,
+    cells: &mut [u32],
+    saved: &mut [u32],
+) -> Stepped
+    requires { ⌜ Within (now file) context (length (now cells)) (length (now saved)) ⌝ }
+    requires { ⌜ Stands done (context .pc) ⌝ }
+    ensures { λ r. ⌜ steppedOf r (now (cells .exit)) (now (saved .exit)) ≡ statementOutcome (config context (now (cells .entry)) (now (saved .entry))) (stepAs (programOf (now (file .entry))) (doesOf done (now (cells .entry))) (config context (now (cells .entry)) (now (saved .entry)))) ⌝ }
+{
+    match done {
+        Executed::Next(p) => {
+            let mut next = context;
+            next.pc = p;
+            return Stepped {
+                context: next,
+                answer: StatementAnswer::Completed,
+            };
+        }
+        Executed::Calls(f) => {
+            let back = fetch::after(fetch::place_of(0, context.pc));
+            let entered = context.enter_function(file, f, back, cells, saved);
+            return completed(entered);
+        }
+        Executed::Returns(a) => {
+            let left = context.op_return(file, a, cells, saved);
+            return completed(left);
+        }
+        Executed::Refused(n) => {
+            return Stepped {
+                context,
+                answer: StatementAnswer::Refused(n),
+            };
+        }
+        Executed::HandedOver(h) => {
+            return Stepped {
+                context,
+                answer: StatementAnswer::HandedOver(h),
+            };
+        }
+    }
+}
+
+// The statement at the position.
+fn step(context: ExecutionContext, file: &[u8], cells: &mut [u32], saved: &mut [u32]) -> Stepped
+    requires { ⌜ Within (now file) context (length (now cells)) (length (now saved)) ⌝ }
+    ensures { λ r. ⌜ steppedOf r (now (cells .exit)) (now (saved .exit)) ≡ statementOutcome (config context (now (cells .entry)) (now (saved .entry))) (step (programOf (now (file .entry))) (config context (now (cells .entry)) (now (saved .entry)))) ⌝ }
+{
+    let recorded = context.file;
+    let statements = recorded.statements;
+    let defs = recorded.globaldefs;
+    let functions = recorded.functions;
+    let globals = recorded.globals;
+    let done = execution::does(
+        file,
+        statements.offset,
+        statements.count,
+        defs.offset,
+        defs.count,
+        functions.offset,
+        functions.count,
+        globals.count,
+        cells,
+        context.pc,
+    );
+    perform(context, file, done, cells, saved)
+}
+
+pub fn statement(
+    context: ExecutionContext,
+    file: &[u8],
+    cells: &mut [u32],
+    saved: &mut [u32],
+) -> Stepped
+    ensures { λ r. ⌜ steppedOf r (now (cells .exit)) (now (saved .exit)) ≡ statementOutcome (config context (now (cells .entry)) (now (saved .entry))) (statement (programOf (now (file .entry))) (config context (now (cells .entry)) (now (saved .entry)))) ⌝ }
+{
+    if !context.check_state(file, cells, saved) {
+        return Stepped {
+            context,
+            answer: StatementAnswer::Refused(13),
+        };
+    }
+    step(context, file, cells, saved)
+}
+
 // A run that stops at a statement.
-pub fn stopped(context: ExecutionContext, answer: StatementAnswer, count: u32) -> Ran
+fn stopped(context: ExecutionContext, answer: StatementAnswer, count: u32) -> Ran
     ensures { λ r. ⌜ r ≡ stoppedOf context answer count ⌝ }
 {
     match answer {
@@ -115,4 +167,101 @@ pub fn stopped(context: ExecutionContext, answer: StatementAnswer, count: u32) -
             };
         }
     }
+}
+
+// At most `limit` statements, until the depth is the target. A statement that neither enters nor leaves moves the position alone.
+fn run_for(
+    context: ExecutionContext,
+    file: &[u8],
+    limit: u32,
+    target: usize,
+    cells: &mut [u32],
+    saved: &mut [u32],
+) -> Ran
+    requires { ⌜ Within (now file) context (length (now cells)) (length (now saved)) ⌝ }
+    requires { ⌜ (context .depth ≡ target → ⊥) ⌝ }
+    ensures { λ r. ⌜ ranOf r (now (cells .exit)) (now (saved .exit)) ≡ runFor (programOf (now (file .entry))) limit target (config context (now (cells .entry)) (now (saved .entry))) ⌝ }
+{
+    let recorded = context.file;
+    let statements = recorded.statements;
+    let defs = recorded.globaldefs;
+    let functions = recorded.functions;
+    let globals = recorded.globals;
+    let mut now = context;
+    let mut count: u32 = 0;
+    while count < limit {
+        let done = execution::does(
+            file,
+            statements.offset,
+            statements.count,
+            defs.offset,
+            defs.count,
+            functions.offset,
+            functions.count,
+            globals.count,
+            cells,
+            now.pc,
+        );
+        match done {
+            Executed::Next(p) => {
+                now.pc = p;
+                count += 1;
+            }
+            _ => {
+                let stepped = perform(now, file, done, cells, saved);
+                let answer = stepped.answer;
+                now = stepped.context;
+                let StatementAnswer::Completed = answer else {
+                    return stopped(now, answer, count);
+                };
+                count += 1;
+                if now.depth == target {
+                    return Ran {
+                        context: now,
+                        answer: RunAnswer::Ended,
+                        count,
+                    };
+                }
+            }
+        }
+    }
+    Ran {
+        context: now,
+        answer: RunAnswer::Spent,
+        count,
+    }
+}
+
+fn not_run(context: ExecutionContext, n: u8) -> Ran
+    ensures { λ r. ⌜ r ≡ notRun context n ⌝ }
+{
+    Ran {
+        context,
+        answer: RunAnswer::Refused(n),
+        count: 0,
+    }
+}
+
+pub fn run(
+    context: ExecutionContext,
+    file: &[u8],
+    target: i64,
+    limit: i64,
+    cells: &mut [u32],
+    saved: &mut [u32],
+) -> Ran
+    ensures { λ r. ⌜ ranOf r (now (cells .exit)) (now (saved .exit)) ≡ run (programOf (now (file .entry))) target limit (config context (now (cells .entry)) (now (saved .entry))) ⌝ }
+{
+    if !context.check_state(file, cells, saved) {
+        return not_run(context, 13);
+    }
+    let most = fetch::place_of(0, limit);
+    if most == 0 || 99999 < most {
+        return not_run(context, 28);
+    }
+    let down = fetch::place_of(context.depth, target);
+    if context.depth <= down {
+        return not_run(context, 29);
+    }
+    run_for(context, file, most as u32, down, cells, saved)
 }

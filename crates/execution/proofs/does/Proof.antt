@@ -7,10 +7,10 @@ use Rattle.definition.specs.File.{readStatement}
 use Rattle.definition.specs.RecordLaws.{length-records}
 use Rattle.functions.specs.Answers.{lump}
 use Rattle.functions.specs.Laws.{fetch-accepts, lump-fitting}
-use Rattle.server.proofs.StepLaws.{not-fetched, is-fetched}
+use Rattle.execution.proofs.Fetching.{not-fetched, is-fetched}
 use borrow.Author.Needs.{needs}
-use Rattle.server.proofs.does.Statement.{statement}
-use Rattle.server.proofs.does.Tie as tie
+use Rattle.execution.proofs.does.Statement.{statement}
+use Rattle.execution.proofs.does.Tie as tie
 
 fetch-requires : tie.Need-fetch-requires
 fetch-requires c κs = search needs

@@ -1,0 +1,87 @@
+-- What the statement at a position does, by its fetch; and whether one would be handed over.
+use Prim.Native.Nat.{ℕ, zero, suc, _<_, _≤_}
+use mathlib.Core.Path.{_≡_, refl, sym, _∙_, ap}
+use mathlib.Core.List.{List}
+use mathlib.Core.Bool.{Bool, true, false, true≢false}
+use native.Mathlib.Omega.{arith}
+use lib.IntN.{ℤ, pos}
+use lib.ListN.{length}
+use Rattle.definition.specs.declared.Statement.{Statement}
+use Rattle.definition.specs.declared.FunctionDef.{FunctionDef}
+use Rattle.definition.specs.Checks.{Conditions, judge}
+use Rattle.definition.specs.Cells.{Typing, cellOf}
+use Rattle.definition.specs.Statements.{Does, refuses, orRefused, provided, fetchConditions, statementAt, branchesDo, effectDoes, callDoes, shapeOf}
+use Rattle.definition.specs.Operations.{isHandedOver}
+use Rattle.functions.specs.declared.fetch.Fetched.the-variants.{At, Refused}
+use Rattle.functions.specs.Answers.{fetched}
+use Rattle.functions.specs.Laws.{FetchedAt, fetch-accepts, fetch-refuses}
+use Rattle.execution.specs.declared.Executed.{Executed}
+use Rattle.execution.specs.declared.Executed.the-variants as does
+use Rattle.execution.specs.declared.shapes.CellOp.{CellOp}
+use Rattle.execution.specs.declared.shapes.Shape as code
+use Rattle.execution.specs.declared.shapes.Shape.the-variants.{Cells, Branch, Goto, Call, Return, Host}
+use Rattle.execution.specs.Shapes.{shapeAs, effectAs}
+use Rattle.execution.specs.Execution.{statement, executeWith, doesWith, doesOf, executed, execution}
+use Rattle.execution.proofs.Transfers.{does-is, effect-does}
+
+module _ (statements : List Statement) (functions : List FunctionDef) (g : Typing) (p : ℤ) (cells : List ℕ) where
+  refused-as : (n m : ℕ) (d : Does) → n ≡ m → 0 < n → executed (does.Refused n) cells ≡ execution (orRefused m d) cells
+  unfolding executed execution
+  refused-as n zero d e h = absurd (omega arith)
+  refused-as n (suc m) d e h = ap (λ (k : ℕ). executed (does.Refused k) cells) e
+
+  pub not-fetched : (n : ℕ) → Refused n ≡ fetched statements p → executed (does.Refused n) cells ≡ execution (doesWith statements functions g p cells) cells
+  unfolding doesWith
+  not-fetched n e =
+      let r = fetch-refuses statements p n e in
+      refused-as n (judge (fetchConditions statements p)) (executeWith functions g p (statementAt statements p) cells) (r .0) (r .1)
+
+  pub is-fetched : (k : ℕ) (st : Statement) (r : Executed) (cells′ : List ℕ) → At k st ≡ fetched statements p
+      → executed r cells′ ≡ execution (executeWith functions g (pos k) st cells) cells
+      → executed r cells′ ≡ execution (doesWith statements functions g p cells) cells
+  unfolding doesWith
+  is-fetched k st r cells′ e h =
+      let a : FetchedAt statements p k st = fetch-accepts statements p k st e in
+      h ∙ rw (a .conditions, a .statement, a .position)
+
+-- ---- handed over or not, by shape
+
+not-handed : (cs : Conditions) (d : Does) → isHandedOver d ≡ false → isHandedOver (provided cs d) ≡ false
+not-handed cs d h = by (judge cs)
+  where
+    by : (n : ℕ) → isHandedOver (orRefused n d) ≡ false
+    by zero = h
+    by (suc n) = refl
+
+-- only a Call and what is the host's can be
+abbrev mayBe : code.Shape → Bool
+mayBe (Cells what) = false
+mayBe (Branch when) = false
+mayBe Goto = false
+mayBe Call = true
+mayBe Return = false
+mayBe Host = true
+
+module _ (fs : List FunctionDef) (g : Typing) (p : ℤ) (op x y z : ℕ) (cells : List ℕ) (shape : code.Shape) (is : shapeAs shape op ≡ shapeOf op) where
+  abbrev goal : Bool → Type 0
+  goal b = b ≡ isHandedOver (executeWith fs g p (statement op x y z) cells)
+
+  pub never-handed : (s : code.Shape) → shape ≡ s → mayBe s ≡ false → goal false
+  unfolding branchesDo
+  never-handed (Cells what) t m =
+      sym (not-handed _ _ refl)
+      ∙ ap isHandedOver (sym (effect-does what fs g p op x y z cells) ∙ does-is fs g p op x y z cells shape (Cells what) t is)
+  never-handed (Branch when) t m = sym (not-handed _ _ refl) ∙ ap isHandedOver (does-is fs g p op x y z cells shape (Branch when) t is)
+  never-handed Goto t m = ap isHandedOver (does-is fs g p op x y z cells shape Goto t is)
+  never-handed Call t m = absurd (true≢false m)
+  never-handed Return t m = ap isHandedOver (does-is fs g p op x y z cells shape Return t is)
+  never-handed Host t m = absurd (true≢false m)
+
+  pub host-handed : shape ≡ Host → goal true
+  host-handed t = ap isHandedOver (does-is fs g p op x y z cells shape Host t is)
+
+  pub call-handed : shape ≡ Call → (a : ℕ) → a ≡ cellOf x → (b : Bool) (r : Executed) → b ≡ isHandedOver (doesOf r cells) → doesOf r cells ≡ callDoes fs g a cells → goal b
+  call-handed t a e b r h k = h ∙ ap isHandedOver (k ∙ (rw e) ∙ does-is fs g p op x y z cells shape Call t is)
+
+pub handed-known : (done known : Executed) (b : Bool) → done ≡ known → ((cells : List ℕ) → b ≡ isHandedOver (doesOf known cells)) → (cells : List ℕ) → b ≡ isHandedOver (doesOf done cells)
+handed-known done known b e h cells = h cells ∙ ap (λ (d : Executed). isHandedOver (doesOf d cells)) (sym e)

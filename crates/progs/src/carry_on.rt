@@ -1,0 +1,65 @@
+// Carrying on: past a statement that was handed over.
+ghost use mathlib.Core.Path.{_≡_};
+ghost use mathlib.Core.List.{[], _∷_, _++_};
+ghost use lib.ListN.{length};
+ghost use Rattle.definition.specs.Checks.{_otherwise_, judge};
+ghost use Rattle.definition.specs.Load.{programOf};
+ghost use Rattle.definition.specs.Operations.{isHandedOver, carryOn};
+ghost use Rattle.progs.specs.Contexts.{config, outcomeOf, after, onward, Within};
+use crate::Answered;
+use crate::ExecutionContext;
+use definition::Answer;
+use functions::fetch;
+use functions::fetch::Fetched;
+
+impl ExecutionContext {
+    // 0, or the number of the refusal: the statement at the position is looked at, not executed.
+    fn carry_on_refusal(self, file: &[u8], cells: &[u32], saved: &[u32]) -> u8
+        requires { ⌜ Within (now file) self (length (now cells)) (length (now saved)) ⌝ }
+        ensures { λ r. ⌜ r ≡ judge (onward (programOf (now (file .entry))) (self .pc) (now (cells .entry))) ⌝ }
+    {
+        let recorded = self.file;
+        let statements = recorded.statements;
+        let defs = recorded.globaldefs;
+        let functions = recorded.functions;
+        let count = self.cell_count();
+        let fetched = fetch::fetch(file, statements.offset, statements.count, self.pc);
+        match fetched {
+            Fetched::Refused(n) => return n,
+            Fetched::At(_k, s) => {
+                if execution::hands_over(
+                    file,
+                    defs.offset,
+                    defs.count,
+                    functions.offset,
+                    functions.count,
+                    count,
+                    cells,
+                    s.opcode,
+                    s.arg1,
+                ) {
+                    return 0;
+                }
+                return 27;
+            }
+        }
+    }
+
+    pub fn carry_on(self, file: &[u8], cells: &[u32], saved: &[u32]) -> Answered
+        ensures { λ r. ⌜ outcomeOf r (now (cells .entry)) (now (saved .entry)) ≡ after (config self (now (cells .entry)) (now (saved .entry))) (carryOn (programOf (now (file .entry)))) ⌝ }
+    {
+        if !self.check_state(file, cells, saved) {
+            return self.refused(13);
+        }
+        let refusal = self.carry_on_refusal(file, cells, saved);
+        if refusal != 0 {
+            return self.refused(refusal);
+        }
+        let mut next = self;
+        next.pc = fetch::after(fetch::place_of(0, self.pc));
+        Answered {
+            context: next,
+            answer: Answer::Accepted,
+        }
+    }
+}
