@@ -48,7 +48,6 @@ module _ (file : List ℕ) (r : FileRecord) (h : Loaded file r) where
       ∙ does-with (contentsOf file) p cells
     where
       globals-count : length (contentsAt r file .globals) ≡ r .globals .count
-      unfolding contentsAt
       globals-count = length-records _ 4 (r .globals .count) (r .globals .offset)
 
   pub fetching-here : (p : ℤ) → fetchConditions statements p ≡ programOf file .fetching p
@@ -105,12 +104,19 @@ module _ (file : List ℕ) (x : ExecutionContext) (cells saved : List ℕ) where
       unfolding doesWith
       does-st = rw (at .conditions, at .statement) at (does-here file (x .file) h (x .pc) cells)
 
-      pub carry-fetched : (b : Bool) → b ≡ isHandedOver (executeWith (functionsIn file (x .file .functions .offset) (x .file .functions .count)) (typing file (x .file .globaldefs .offset) (x .file .globaldefs .count) (x .file .globals .count)) (x .pc) st cells)
-          → cond b 0 27 ≡ judge (onward P (x .pc) cells)
-      unfolding judge
-      carry-fetched b is =
-          let c : judge (P .fetching (x .pc)) ≡ 0 = rw (← fetching-here file (x .file) h (x .pc)) (at .conditions) in
-          sym (judge-append (P .fetching (x .pc)) _ ∙ rw (c, ← does-st, ← is))
+      module _ (count : ℕ) (n : count ≡ x .file .globals .count) (b : Bool) (is : b ≡ isHandedOver (executeWith (functionsIn file (x .file .functions .offset) (x .file .functions .count)) (typing file (x .file .globaldefs .offset) (x .file .globaldefs .count) count) (x .pc) st cells)) where
+        number : cond b 0 27 ≡ judge (onward P (x .pc) cells)
+        unfolding judge
+        number =
+            let c : judge (P .fetching (x .pc)) ≡ 0 = rw (← fetching-here file (x .file) h (x .pc)) (at .conditions) in
+            let handed : b ≡ isHandedOver (P .does (x .pc) cells) = rw (← does-st, ← n) is in
+            sym (judge-append (P .fetching (x .pc)) _ ∙ rw (c, ← handed))
+
+        pub carry-handed : b ≡ true → 0 ≡ judge (onward P (x .pc) cells)
+        carry-handed t = rw t at number
+
+        pub carry-27 : b ≡ false → 27 ≡ judge (onward P (x .pc) cells)
+        carry-27 t = rw t at number
 
   abbrev before : Config
   before = config x cells saved
@@ -136,4 +142,4 @@ module _ (file : List ℕ) (x : ExecutionContext) (cells saved : List ℕ) where
           → config y cells saved ≡ advanced before q cells
           → outcomeOf (accepting y) cells saved ≡ after before (carryOn P)
       unfolding carryOn
-      carry-done y q f k = accepted-outcome x cells saved _ _ y cells saved (sym numbers ∙ z) (k ∙ rw (f, ← carry-stands .is))
+      carry-done y q f k = accepted-outcome x cells saved _ _ y cells saved (sym numbers ∙ z) (k ∙ ap (λ (p : ℤ). advanced before p cells) (f ∙ ap (λ (i : ℤ). i +ℤ pos 1) (sym (carry-stands .is))))

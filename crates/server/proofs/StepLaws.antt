@@ -156,10 +156,10 @@ module _ (P : Program) (x : ExecutionContext) (cells saved cells′ : List ℕ) 
 
 pub does-stands : (file : List ℕ) (x : ExecutionContext) (cells cells′ : List ℕ) (done : Executed) → Loaded file (x .file) → executed done cells′ ≡ execution (programOf file .does (x .pc) cells) cells
     → Stands done (x .pc)
+unfolding programAt doesAt
 does-stands file x cells cells′ done h e = by done (executed-does done cells′ (programOf file .does (x .pc) cells) cells e)
   where
     called : (f : ℕ) → calls f ≡ programOf file .does (x .pc) cells → judge (programOf file .fetching (x .pc)) ≡ 0
-    unfolding programAt doesAt
     called f k = go (judge (fetchConditions (contentsOf file .statements) (x .pc))) k
       where
         go : (n : ℕ) → calls f ≡ orRefused n (execute (contentsOf file) (x .pc) (statementAt (contentsOf file .statements) (x .pc)) cells) → n ≡ 0
