@@ -25,7 +25,7 @@ use Rattle.progs.proofs.StateLaws.{passed}
 use Rattle.progs.proofs.AbandonLaws.{leavings-alone}
 
 -- a place is below the number of places exactly where the signed number is from 0 up to below it
-below-place : (n : ℕ) (a : ℤ) → below a n ≡ ltb (placeOf n a) n
+pub below-place : (n : ℕ) (a : ℤ) → below a n ≡ ltb (placeOf n a) n
 below-place n (pos i) = refl
 below-place n (negsuc i) = sym (le-ltb n n (omega arith))
 
@@ -33,11 +33,11 @@ below-natural : (n : ℕ) (a : ℤ) → below a n ≡ true → natural a < n
 below-natural n (pos i) h = ltb-true i n h
 below-natural n (negsuc i) h = absurd (true≢false (sym h))
 
-place-zero : (a : ℤ) → placeOf 0 a ≡ natural a
+pub place-zero : (a : ℤ) → placeOf 0 a ≡ natural a
 place-zero (pos i) = refl
 place-zero (negsuc i) = refl
 
-place-natural : (n : ℕ) (a : ℤ) → placeOf n a < n → natural a ≡ placeOf n a
+pub place-natural : (n : ℕ) (a : ℤ) → placeOf n a < n → natural a ≡ placeOf n a
 place-natural n (pos i) h = refl
 place-natural n (negsuc i) h = absurd (omega arith)
 

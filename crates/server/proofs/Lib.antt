@@ -1,2 +1,4 @@
+pub mod HostLaws
 pub mod RunLaws
 pub mod StepLaws
+pub mod TurnLaws

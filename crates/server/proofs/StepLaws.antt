@@ -2,6 +2,7 @@
 use Prim.Native.Nat.{ℕ, zero, suc}
 use mathlib.Core.Path.{_≡_, refl, sym, _∙_, ap}
 use mathlib.Core.List.{List}
+use mathlib.Core.Bool.{true, false}
 use native.Mathlib.Omega.{arith}
 use lib.IntN.{ℤ, pos, _+ℤ_}
 use lib.ListN.{length}
@@ -13,11 +14,13 @@ use Rattle.definition.specs.Checks.{Checked, refused, accepted, judge}
 use Rattle.definition.specs.File.{contentsOf}
 use Rattle.definition.specs.Statements.{Does, next, calls, returns, refuses, handsOver, orRefused, placeOf, fetchConditions, statementAt, execute, doesAt}
 use Rattle.definition.specs.Machine.{Program, State, Config, enter, advanced, asStep, stepAs, step}
+use Rattle.definition.specs.Operations as operations
+use Rattle.definition.specs.Operations.{sound}
 use Rattle.definition.specs.Load.{programAt, programOf}
 use Rattle.definition.specs.Answers.{Outcome, answerOf, kept, outcome, StatementOutcome, statementOutcome}
 use Rattle.execution.specs.declared.Executed.{Executed}
 use Rattle.execution.specs.declared.Executed.the-variants as does
-use Rattle.execution.specs.Execution.{doesOf, executed, execution, executed-does, executed-cells}
+use Rattle.execution.specs.Execution.{doesOf, cellsAfter, executed, execution, executed-does, executed-cells}
 use Rattle.progs.specs.declared.Answered.{Answered}
 use Rattle.progs.specs.declared.ExecutionContext.{ExecutionContext}
 use Rattle.progs.specs.Contexts.{stateOf, config, outcomeOf, after, return, Loaded, Within, Standing}
@@ -132,7 +135,7 @@ module _ (P : Program) (x : ExecutionContext) (cells saved : List ℕ) (done : E
 -- ---- from what was done to the step
 
 module _ (P : Program) (x : ExecutionContext) (cells saved cells′ : List ℕ) (done : Executed) (e : executed done cells′ ≡ execution (P .does (x .pc) cells) cells) where
-  step-is : stepAs P (doesOf done cells′) (config x cells saved) ≡ step P (config x cells saved)
+  pub step-is : stepAs P (doesOf done cells′) (config x cells saved) ≡ step P (config x cells saved)
   unfolding step
   step-is = ap (λ (d : Does). stepAs P d (config x cells saved)) (executed-does done cells′ (P .does (x .pc) cells) cells e)
 
@@ -172,3 +175,23 @@ does-stands file x cells cells′ done h e = by done (executed-does done cells�
     by (does.Returns a) k = tt
     by (does.Refused n) k = tt
     by (does.HandedOver v) k = tt
+
+pub stands-call : (done : Executed) (f : ℕ) (p : ℤ) → done ≡ does.Calls f → Stands done p → Standing p
+stands-call done f p e h = rw e at h
+
+-- ---- a statement, after check 13
+
+module _ (P : Program) (x : ExecutionContext) (cells saved : List ℕ) where
+  pub statement-13 : sound P (config x cells saved) ≡ false
+      → steppedOf (record { context = x; answer = statement.Refused 13 }) cells saved ≡ statementOutcome (config x cells saved) (operations.statement P (config x cells saved))
+  unfolding operations.statement
+  statement-13 s = rw s
+
+  pub statement-steps : (o : StatementOutcome) → sound P (config x cells saved) ≡ true → o ≡ statementOutcome (config x cells saved) (step P (config x cells saved))
+      → o ≡ statementOutcome (config x cells saved) (operations.statement P (config x cells saved))
+  unfolding operations.statement
+  statement-steps o s h = rw s h
+
+-- the lent buffers keep their lengths
+pub within-lent : (file : List ℕ) (x : ExecutionContext) (n m n′ m′ : ℕ) → Within file x n m → n′ ≡ n → m′ ≡ m → Within file x n′ m′
+within-lent file x n m n′ m′ w e f = rw (e, f) w

@@ -1,6 +1,5 @@
 // Statements and runs (server/mod.rs, LevelState::execute_program).
 ghost use mathlib.Core.Path.{_≡_};
-ghost use mathlib.Core.Logic.{⊥};
 ghost use Prim.Native.Nat.{ℕ};
 ghost use lib.ListN.{length};
 ghost use Rattle.definition.specs.Machine.{stepAs, step, runFor};

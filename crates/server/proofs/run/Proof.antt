@@ -1,0 +1,124 @@
+use Rattle.server.proofs.HostLaws.{run-13, run-28-none, run-28-over, run-29, run-goes}
+use Rattle.progs.proofs.StateLaws.{passed}
+use Rattle.progs.specs.Contexts.{config}
+use Rattle.definition.specs.Operations.{sound}
+use Rattle.definition.specs.Load.{programOf}
+use Rattle.definition.specs.Statements.{placeOf}
+use borrow.Author.Tests.{not-true, not-false, ltb-true, ltb-false}
+use mir.Facts.{toZ-ofZ}
+use mir.Val.{SFits}
+use mir.Syntax.{w64}
+use mathlib.Core.Bool.{true}
+use mathlib.Core.Logic.{⊎-elim}
+use mathlib.Core.Path.{_≡_, refl, sym, _∙_, ap}
+use native.Mathlib.Omega.{arith}
+use borrow.Author.Needs.{needs}
+use Rattle.server.proofs.run.Statement.{statement}
+use Rattle.server.proofs.run.Tie as tie
+
+sound-here : (c : tie.Else1) → let s = c .before .before .before .before .before .before .before in sound (programOf (s .args .file .now)) (config (s .args .context) (s .args .cells .now) (s .args .saved .now)) ≡ true
+sound-here c = sym (c .before .check-state .ensures) ∙ not-false _ (c .if1 .left)
+
+most : (c : tie.After-place-of) → c .place-of .result ≡ placeOf 0 (c .before .before .before .before .before .before .before .before .args .limit)
+most c =
+    let g : SFits w64 (c .before .before .before .before .before .before .before .before .args .limit) = search needs in
+    (rw (toZ-ofZ g) at (c .place-of .ensures))
+
+down : (c : tie.After-place-of2) → let s = c .before .before .before .before .before .before .before .before .before .before .before in c .place-of2 .result ≡ placeOf (s .args .context .depth) (s .args .target)
+down c =
+    let g : SFits w64 (c .before .before .before .before .before .before .before .before .before .before .before .args .target) = search needs in
+    (rw (toZ-ofZ g) at (c .place-of2 .ensures))
+
+check-state-requires : tie.Need-check-state-requires
+check-state-requires c κs = search needs
+
+not-run-requires : tie.Need-not-run-requires
+not-run-requires c κs = search needs
+
+same-length : tie.Need-same-length
+same-length c = search needs
+
+same-length-2 : tie.Need-same-length-2
+same-length-2 c = search needs
+
+returns : tie.Need-returns
+returns c = run-13 _ _ _ _ _ _ _ (sym (c .before .before .check-state .ensures) ∙ not-true _ (c .before .if1 .taken)) (c .not-run .ensures)
+
+place-of-requires : tie.Need-place-of-requires
+place-of-requires c κs = search needs
+
+not-run-requires-2 : tie.Need-not-run-requires-2
+not-run-requires-2 c κs = search needs
+
+same-length-3 : tie.Need-same-length-3
+same-length-3 c = search needs
+
+same-length-4 : tie.Need-same-length-4
+same-length-4 c = search needs
+
+returns-2 : tie.Need-returns-2
+returns-2 c =
+    let m = c .before .before in
+    ⊎-elim
+    (λ z. run-28-none _ _ _ _ _ _ (sound-here (m .before)) _ (most m) (z .taken) _ (c .not-run2 .ensures))
+    (λ z. run-28-over _ _ _ _ _ _ (sound-here (m .before)) _ (most m) (ltb-true _ _ (z .1 .taken)) _ (c .not-run2 .ensures))
+    (c .before .if2 .came)
+
+place-of-requires-2 : tie.Need-place-of-requires-2
+place-of-requires-2 c κs = search needs
+
+not-run-requires-3 : tie.Need-not-run-requires-3
+not-run-requires-3 c κs = search needs
+
+same-length-5 : tie.Need-same-length-5
+same-length-5 c = search needs
+
+same-length-6 : tie.Need-same-length-6
+same-length-6 c = search needs
+
+returns-3 : tie.Need-returns-3
+returns-3 c =
+    let m = c .before .before .before .before .before .before in
+    run-29 _ _ _ _ _ _ (sound-here (m .before)) _ (most m) (c .before .before .before .before .before .if2 .left) (ltb-false _ _ (c .before .before .before .before .if3 .left)) _ (down (c .before .before .before)) (c .before .if4 .taken) _ (c .not-run3 .ensures)
+
+cast-run-for : tie.Need-cast-run-for
+cast-run-for c = let few = ltb-false 99999 (c .before .before .before .before .before .place-of .result) (c .before .before .before .if3 .left) in omega (arith, few)
+
+run-for-requires : tie.Need-run-for-requires
+run-for-requires c κs = (passed _ _ _ _ (sound-here (c .before .before .before .before .before .before .before .before)), λ z. absurd (omega (arith, z, c .before .before .if4 .left)))
+
+same-length-7 : tie.Need-same-length-7
+same-length-7 c = search needs
+
+same-length-8 : tie.Need-same-length-8
+same-length-8 c = search needs
+
+returns-4 : tie.Need-returns-4
+returns-4 c =
+    let m = c .before .before .before .before .before .before .before .before .before .before .before .before in
+    run-goes _ _ _ _ _ _ (sound-here (m .before)) _ (most m) (c .before .before .before .before .before .before .before .before .before .before .before .if2 .left) (ltb-false _ _ (c .before .before .before .before .before .before .before .before .before .before .if3 .left)) _ (down (c .before .before .before .before .before .before .before .before .before)) (c .before .before .before .before .before .before .before .if4 .left) _ (c .before .before .before .before .run-for .ensures)
+
+pub run-spec : {M : Type 1} → statement M
+run-spec =
+    tie.close
+    (tie.spec
+    check-state-requires
+    not-run-requires
+    same-length
+    same-length-2
+    returns
+    place-of-requires
+    not-run-requires-2
+    same-length-3
+    same-length-4
+    returns-2
+    place-of-requires-2
+    not-run-requires-3
+    same-length-5
+    same-length-6
+    returns-3
+    cast-run-for
+    run-for-requires
+    same-length-7
+    same-length-8
+    returns-4)
