@@ -370,11 +370,19 @@ reentered rest =
     (cellsWith 40 (2 ∷ 2 ∷ 3 ∷ [])))
     (enter 1 rest)
 
--- function 2, the builtin 36, is called, and carried on from when the bytes say that it is this
-abbrev calledAs : FunctionDef → Scenario → Seen
-calledAs d rest =
-    let file : FunctionDef → List ℕ = λ d. assembled (program (call 40 0 0 ∷ []) (plain ∷ d ∷ []) (set numbered 40 2)) in
-    fromThen (file (fn 0xffffffdc 0 0 0 [])) (file d) (enter 1 rest)
+-- a Call of the builtin 36
+abbrev builtin36 : Contents
+builtin36 = program (call 40 0 0 ∷ []) (plain ∷ fn 0xffffffdc 0 0 0 [] ∷ []) (set numbered 40 2)
+
+-- of which the bytes say, after the load, that it is the builtin 5
+abbrev builtin5 : Scenario → Seen
+builtin5 rest = fromThen (assembled builtin36) (assembled (program (call 40 0 0 ∷ []) (plain ∷ fn 0xfffffffb 0 0 0 [] ∷ []) (set numbered 40 2))) (enter 1 rest)
+
+-- in function 1 is statement 1, of which the bytes say, after the load, that its opcode is 66
+abbrev opcode66 : Scenario → Seen
+opcode66 rest =
+    let file : ℕ → List ℕ = λ opcode. assembled (program (op opcode 0 0 0 ∷ []) (plain ∷ []) numbered) in
+    fromThen (file 60) (file 66) (enter 1 rest)
 
 -- 36 cells, and nothing but statement 0 and function 0: 249 bytes
 abbrev least : List ℕ
@@ -387,10 +395,6 @@ leastWith at xs = loading (overwritten at xs least) 36 2048
 -- these functions, statements, global and field definitions, in a file with 35 cells
 abbrev records35 : List FunctionDef → List Statement → List Definition → List Definition → Seen
 records35 functions statements globaldefs fielddefs = loading (assembled (holding functions statements globaldefs fielddefs 35 105)) 36 2048
-
--- so many cells, all 0, and nothing else
-abbrev cellsAlone : ℕ → List ℕ
-cellsAlone n = bytes u32 (6 ∷ 5927 ∷ []) ++ replicate 40 0 ++ bytes u32 (60 ∷ n ∷ 105 ∷ []) ++ replicate (4 * n) 0
 
 -- each lump of the least file moved, so that it ends so many bytes past the end: the place of its offset in the header, its count and its size
 abbrev endingPast : ℕ → List ℕ
@@ -442,9 +446,9 @@ abbrev pub all : List Row → Bool
 all [] = true
 all (row words gives says ∷ rows) = same gives says && all rows
 
-abbrev pub rows : List Row
-rows =
-    -- the starred situations
+-- the starred situations, and the show program's line
+abbrev situations : List Row
+situations =
     row "BitAnd 2147483648.0, 1.0: 1.0" (after (bitAnd 28 29 30) (0x4f000000 ∷ 0x3f800000 ∷ []) (cells 1 30)) (accepted (0x3f800000 ∷ []))
     ∷ row "BitOr 16777216.0, 1.0: 16777216.0" (after (bitOr 28 29 30) (0x4b800000 ∷ 0x3f800000 ∷ []) (cells 1 30)) (accepted (0x4b800000 ∷ []))
     ∷ row "BitOr -1.5, 0.0: -1.0" (after (bitOr 28 29 30) (0xbfc00000 ∷ 0 ∷ []) (cells 1 30)) (accepted (0xbf800000 ∷ []))
@@ -470,13 +474,16 @@ rows =
     ∷ row "ended,0,2,0,0,0,0,40700000,00000000,00000000"
     (show (enter 1 (runToEnd (state and cells 3 1))))
     (accepted (101 ∷ 110 ∷ 100 ∷ 101 ∷ 100 ∷ 0 ∷ 2 ∷ 0 ∷ 0 ∷ 0 ∷ 0 ∷ 0x40700000 ∷ 0 ∷ 0 ∷ []))
-    -- a load
-    ∷ row "Position, function and depths start at 0" (show state) (accepted (0 ∷ 0 ∷ 0 ∷ 0 ∷ []))
+    ∷ []
+
+-- what a load leaves, and what it refuses: a file with two defects is refused for the first
+abbrev loads : List Row
+loads =
+    row "Position, function and depths start at 0" (show state) (accepted (0 ∷ 0 ∷ 0 ∷ 0 ∷ []))
     ∷ row "A load fills the lent cells from 0 and leaves those past the file's count"
     (from (program [] [] numbered) (lent 62)) (accepted (62 ∷ 63 ∷ 0xffffffff ∷ 0xffffffff ∷ []))
     ∷ row "A buffer written in part keeps the rest: the saved store at a load" (from (program [] [] numbered) (store 2)) (accepted (0xeeeeeeee ∷ 0xeeeeeeee ∷ []))
     ∷ row "Frames start as zeros" (show (frame 0 and frame 30)) (accepted (0 ∷ 0 ∷ 0 ∷ 0 ∷ []))
-    -- the refusals of a load; a file with two defects is refused for the first
     ∷ row "1: length under 60, before 2" (loading (replicate 59 0) 36 2048) (refused 1)
     ∷ row "1: length 60" (loading (replicate 60 0) 36 2048) (refused 2)
     ∷ row "2: version, before 3" (leastWith 0 (bytes u32 (7 ∷ 0 ∷ []))) (refused 2)
@@ -499,15 +506,17 @@ rows =
     ∷ row "field definitions, 9: save flag in a field definition, before 8" (records35 [] [] [] (defineNamed 0x8008 0 ∷ [])) (refused 9)
     ∷ row "field definitions, 8: type over 7, before 10" (records35 [] [] [] (defineNamed 8 0 ∷ [])) (refused 8)
     ∷ row "10: under 36, before 11" (leastWith 52 (bytes u32 (35 ∷ 104 ∷ []))) (refused 10)
-    ∷ row "10: over 32,768" (loading (cellsAlone 32769) 32769 2048) (refused 10)
-    ∷ row "10: 32,768" (loading (cellsAlone 32768) 32768 2048) (accepted (0 ∷ 0 ∷ 0 ∷ 0 ∷ []))
     ∷ row "11: entity cells under 105, before 12" (loading (overwritten 56 (u32 104) least) 35 2048) (refused 11)
     ∷ row "11: entity cells below 0" (leastWith 56 (u32 0xffffffff)) (refused 11)
     ∷ row "12: lent cells short" (loading least 35 2048) (refused 12)
     ∷ row "12: saved store under 2,048" (loading least 36 2047) (refused 12)
     ∷ row "12: as many as there must be" (loading least 36 2048) (accepted (0 ∷ 0 ∷ 0 ∷ 0 ∷ []))
-    -- check 13, before what each operation's own row refuses
-    ∷ row "13: not after a load" (fromThen thirteen thirteen everyOperation) own
+    ∷ []
+
+-- check 13, before what each operation's own row refuses
+abbrev checks : List Row
+checks =
+    row "13: not in a state that a load left" (fromThen thirteen thirteen everyOperation) own
     ∷ row "13: file length .. not as the state records" (fromThen thirteen (thirteen ++ (0 ∷ [])) everyOperation) all13
     ∷ row "13: header lumps or cells per entity not as the state records"
     (accepted (mapped oneLess (8 ∷ 12 ∷ 16 ∷ 20 ∷ 24 ∷ 28 ∷ 32 ∷ 36 ∷ 40 ∷ 44 ∷ 48 ∷ 52 ∷ 56 ∷ []))) (accepted (replicate 13 13))
@@ -530,13 +539,16 @@ rows =
     ∷ row "13: the sum of their local counts" (madeUpOver thirteen 1 3 3 (0 ∷ 1 ∷ 1 ∷ [])) own
     ∷ row "13: saved count not the sum of their local counts, but less" (madeUpOver thirteen 1 3 2 (0 ∷ 1 ∷ 1 ∷ [])) all13
     ∷ row "13: saved count not the sum of their local counts, but more" (madeUpOver thirteen 1 3 4 (0 ∷ 1 ∷ 1 ∷ [])) all13
-    -- the host enters a builtin
-    ∷ row "21: builtin" (entering (fn 0xffffffff 0 0 0 []) state) (refused 21)
+    ∷ []
+
+-- what entries and statements refuse, and 01's "Tempting"; 114 101 102 117 115 101 100 is "refused"
+abbrev operands : List Row
+operands =
+    row "21: builtin" (entering (fn 0xffffffff 0 0 0 []) state) (refused 21)
     ∷ row "24: argument count outside 0 to 8" (entering (fn 0xffffffff 0 0 0xffffffff []) state) (refused 24)
     ∷ row "24: argument count 9" (entering (fn 1 40 8 9 (replicate 8 1)) state) (refused 24)
     ∷ row "24: argument count 8, argument i from cell 4+3i" (entering (fn 1 40 8 8 (replicate 8 1)) (cells 8 40))
     (accepted (4 ∷ 7 ∷ 10 ∷ 13 ∷ 16 ∷ 19 ∷ 22 ∷ 25 ∷ []))
-    -- "Tempting"; 114 101 102 117 115 101 100 is "refused"
     ∷ row "counting the refused statement"
     (from (program (storeF 28 30 0 ∷ storeF 64 30 0 ∷ []) (plain ∷ []) numbered) (enter 1 (runToEnd state)))
     (accepted (114 ∷ 101 ∷ 102 ∷ 117 ∷ 115 ∷ 101 ∷ 100 ∷ 15 ∷ 1 ∷ 2 ∷ 1 ∷ 1 ∷ 0 ∷ []))
@@ -560,8 +572,12 @@ rows =
     ∷ row "address equal to the count: a local cell" (entering (fn 1 63 2 0 []) state) (refused 15)
     ∷ row "address equal to the count: an argument cell, one less" (entering (fn 1 63 0 1 (1 ∷ [])) (cells 1 63)) (accepted (4 ∷ []))
     ∷ row "address equal to the count: an argument cell" (entering (fn 1 64 0 1 (1 ∷ [])) state) (refused 15)
-    -- calls
-    ∷ row "A Call records the position after itself" (nested (complete (state and frame 1))) (accepted (3 ∷ 2 ∷ 2 ∷ 1 ∷ 1 ∷ 2 ∷ []))
+    ∷ []
+
+-- entries and returns
+abbrev calls : List Row
+calls =
+    row "A Call records the position after itself" (nested (complete (state and frame 1))) (accepted (3 ∷ 2 ∷ 2 ∷ 1 ∷ 1 ∷ 2 ∷ []))
     ∷ row "a host entry the present one" (nested (enter 2 (state and frame 1))) (accepted (3 ∷ 2 ∷ 2 ∷ 1 ∷ 1 ∷ 1 ∷ []))
     ∷ row "a frame that is left becomes zeros again"
     (nested (complete (complete (complete (complete (state and frame 1 and cells 3 1 and cells 1 30))))))
@@ -592,33 +608,36 @@ rows =
     ∷ row "Call, 16: type" (from (typedProgram (define float 40 ∷ []) (call 40 0 0 ∷ []) (plain ∷ []) (set numbered 40 1)) (enter 1 (complete state))) (refused 16)
     ∷ row "19: function 0" (after (call 0 0 0) [] state) (refused 19)
     ∷ row "20: no such function" (after (call 28 0 0) [] state) (refused 20)
-    ∷ row "Call, 5 again" (calledAs (fn 0xfffffffb 0 0 0 []) (complete state)) (refused 5)
-    -- 98 117 105 108 116 105 110 is "builtin", 111 112 99 111 100 101 is "opcode"
-    ∷ row "a builtin is then handed over"
-    (from (program (call 40 0 0 ∷ []) (plain ∷ fn 0xffffffdc 0 0 0 [] ∷ []) (set numbered 40 2)) (enter 1 (runToEnd (carry state))))
+    ∷ row "Call, 5 again" (builtin5 (complete state)) (refused 5)
+    ∷ []
+
+-- runs, carry on, abandon; 98 117 105 108 116 105 110 is "builtin", 111 112 99 111 100 101 is "opcode", 115 112 101 110 116 is "spent"
+abbrev runs : List Row
+runs =
+    row "a builtin is then handed over"
+    (from builtin36 (enter 1 (runToEnd (carry state))))
     (accepted (98 ∷ 117 ∷ 105 ∷ 108 ∷ 116 ∷ 105 ∷ 110 ∷ 36 ∷ 0 ∷ 2 ∷ 1 ∷ 1 ∷ 0 ∷ []))
     ∷ row "The position stays there until the host carries on by one"
     (from (program (op 60 0 0 0 ∷ []) (plain ∷ []) numbered) (enter 1 (runToEnd (state and carry state))))
     (accepted (111 ∷ 112 ∷ 99 ∷ 111 ∷ 100 ∷ 101 ∷ 60 ∷ 0 ∷ 1 ∷ 1 ∷ 1 ∷ 0 ∷ 2 ∷ 1 ∷ 1 ∷ 0 ∷ []))
     ∷ row "27: that statement would not be handed over" (from (program (storeF 28 30 0 ∷ []) (plain ∷ []) numbered) (enter 1 (carry state))) (refused 27)
-    ∷ row "27: a Return or Done" (from (program [] [] numbered) (carry state)) (refused 27)
+    ∷ row "27: a Return" (from (program (return 30 0 0 ∷ []) (plain ∷ []) numbered) (enter 1 (carry state))) (refused 27)
+    ∷ row "27: a Done" (from (program [] [] numbered) (carry state)) (refused 27)
     ∷ row "27: a Call that would be entered" (nested (carry state)) (refused 27)
     ∷ row "27: a Call that would be refused" (from (program (call 0 0 0 ∷ []) (plain ∷ []) numbered) (enter 1 (carry state))) (refused 27)
     ∷ row "27: with the cells as they now are"
-    (from (program (call 40 0 0 ∷ []) (plain ∷ fn 0xffffffdc 0 0 0 [] ∷ []) (set numbered 40 2)) (enter 1 (runBy (pos 0) (pos 9) (write 40 1 (carry state)))))
+    (from builtin36 (enter 1 (runBy (pos 0) (pos 9) (write 40 1 (carry state)))))
     (refused 27)
     ∷ row "carry on: 14, above the statements" (entering plain (carry state)) (refused 14)
     ∷ row "carry on: 14, below 0" (after (goto 0xfff0 0 0) [] (carry state)) (refused 14)
-    ∷ row "carry on: 7"
-    (let file : ℕ → List ℕ = λ opcode. assembled (program (op opcode 0 0 0 ∷ []) (plain ∷ []) numbered) in fromThen (file 60) (file 66) (enter 1 (carry state))) (refused 7)
-    ∷ row "statements, and again at fetch: 7"
-    (let file : ℕ → List ℕ = λ opcode. assembled (program (op opcode 0 0 0 ∷ []) (plain ∷ []) numbered) in fromThen (file 60) (file 66) (enter 1 (complete state))) (refused 7)
-    ∷ row "outside the statements, below 0 too, it stands until a fetch refuses it 14" (after (goto 0xfff0 0 0) [] (state and complete state)) (refused 14)
+    ∷ row "carry on: 7" (opcode66 (carry state)) (refused 7)
+    ∷ row "statements, and again at fetch: 7" (opcode66 (complete state)) (refused 7)
+    ∷ row "outside the statements, below 0 too, it stands until a fetch refuses it 14"
+    (after (goto 0xfff0 0 0) [] (state and runBy (pos 0) (pos 9) state)) (accepted (1 ∷ 1 ∷ 0 ∷ 14 ∷ 0 ∷ 1 ∷ 1 ∷ 0 ∷ []))
     ∷ row "28: limit outside 1 to 99,999, before 29"
     (entering plain (runBy (pos 9) (pos 0) (runBy (pos 9) (pos 100000) state))) (accepted (28 ∷ 0 ∷ 28 ∷ 0 ∷ 1 ∷ 1 ∷ 1 ∷ 0 ∷ []))
     ∷ row "29: target below 0, or not below the depth"
     (entering plain (runBy (negsuc 0) (pos 1) (runBy (pos 1) (pos 1) state))) (accepted (29 ∷ 0 ∷ 29 ∷ 0 ∷ 1 ∷ 1 ∷ 1 ∷ 0 ∷ []))
-    -- 115 112 101 110 116 is "spent"
     ∷ row "Spent is given when the limit's statements are completed"
     (nested (runSaying (pos 0) (pos 4) state)) (accepted (115 ∷ 112 ∷ 101 ∷ 110 ∷ 116 ∷ 0 ∷ 4 ∷ 2 ∷ 1 ∷ 1 ∷ 0 ∷ []))
     ∷ row "and the target isn't reached"
@@ -626,8 +645,12 @@ rows =
     ∷ row "abandon to a depth (leaving innermost first, no return value)"
     (nested (complete (complete (abandonTo (pos 0) (state and cells 4 0 and cells 1 30))))) (accepted (0 ∷ 0 ∷ 0 ∷ 0 ∷ 0 ∷ 1 ∷ 2 ∷ 3 ∷ 30 ∷ []))
     ∷ row "29 (abandon: above it)" (nested (abandonTo (pos 2) state)) (refused 29)
-    -- other sentences
-    ∷ row "A refusal gives its number and leaves state and buffers"
+    ∷ []
+
+-- other sentences
+abbrev others : List Row
+others =
+    row "A refusal gives its number and leaves state and buffers"
     (from (program [] (fn 1 30 1 0 [] ∷ fn 0xffffffff 40 1 1 (1 ∷ []) ∷ []) numbered)
     (enter 1 (tryToEnter 2 (state and frame 1 and cells 1 40 and store 2))))
     (accepted (21 ∷ 1 ∷ 1 ∷ 1 ∷ 1 ∷ 0 ∷ 0 ∷ 40 ∷ 30 ∷ 0xeeeeeeee ∷ []))
@@ -636,7 +659,11 @@ rows =
     ∷ row "NotV writing one float" (after (notV 28 0 31) (0 ∷ 0 ∷ 0 ∷ []) (cells 3 31)) (accepted (0x3f800000 ∷ 32 ∷ 33 ∷ []))
     ∷ []
 
-pub starred : T (all rows)
+abbrev pub rows : List Row
+rows = situations ++ loads ++ checks ++ operands ++ calls ++ runs ++ others
+
+-- all that a row computes with
+unfoldable computing : Unit {0}
 unfolding judge guard
     byteAt u16At u32At fileOf lumpsFit records contentsAt builtinNumber
     Ieee.ofBits Ieee.toBits Ieee.add Ieee.mul Ieee.div Ieee.eq Ieee.toSigned Ieee.ofInt
@@ -645,4 +672,49 @@ unfolding judge guard
     limits present copied successive arguments copiesPresent entryConditions entered leaveConditions left stepAs step runFor
     each headerConditions recordConditions cellConditions loaded load sameFile recordedIn programAt
     frameFunctions enteredFunctions allPresent localsOf sound hostEnter statement runConditions run carryOnConditions carryOn leftTimes leavingsConditions abandonConditions abandon rawRead rawWrite
-starred = tt
+computing = tt
+
+record Hold (rows : List Row) : Type 0 where
+  all-same : T (all rows)
+
+situations-hold : Hold situations
+unfolding computing
+situations-hold = record { all-same = tt }
+
+loads-hold : Hold loads
+unfolding computing
+loads-hold = record { all-same = tt }
+
+checks-hold : Hold checks
+unfolding computing
+checks-hold = record { all-same = tt }
+
+operands-hold : Hold operands
+unfolding computing
+operands-hold = record { all-same = tt }
+
+calls-hold : Hold calls
+unfolding computing
+calls-hold = record { all-same = tt }
+
+runs-hold : Hold runs
+unfolding computing
+runs-hold = record { all-same = tt }
+
+others-hold : Hold others
+unfolding computing
+others-hold = record { all-same = tt }
+
+both : {a b : List Row} → Hold a → Hold b → Hold (a ++ b)
+both {a} {b} h k = record { all-same = go a (h .all-same) }
+  where
+    if-same : (a : List Row) (x : Bool) → (T (all a) → T (all (a ++ b))) → T (x && all a) → T (x && all (a ++ b))
+    if-same a true rest h = rest h
+    if-same a false rest h = h
+
+    go : (a : List Row) → T (all a) → T (all (a ++ b))
+    go [] h = k .all-same
+    go (row words gives says ∷ a) h = if-same a (same gives says) (go a) h
+
+pub starred : T (all rows)
+starred = both situations-hold (both loads-hold (both checks-hold (both operands-hold (both calls-hold (both runs-hold others-hold))))) .all-same
