@@ -582,6 +582,10 @@ calls =
     ∷ row "a frame that is left becomes zeros again"
     (nested (complete (complete (complete (complete (state and frame 1 and cells 3 1 and cells 1 30))))))
     (accepted (2 ∷ 1 ∷ 1 ∷ 0 ∷ 0 ∷ 0 ∷ 29 ∷ 31 ∷ 32 ∷ 30 ∷ []))
+    ∷ row "and no operation touches the others: frames that a host made up"
+    (fromThen thirteen thirteen
+    (madeUp (fileOf thirteen) 1 1 1 (3 ∷ 3 ∷ 3 ∷ []) (enter 1 (frame 0 and frame 1 and frame 2 and abandonTo (pos 1) (frame 0 and frame 1 and frame 2)))))
+    (accepted (3 ∷ 0 ∷ 1 ∷ 0 ∷ 3 ∷ 0 ∷ 3 ∷ 0 ∷ 0 ∷ 0 ∷ 3 ∷ 0 ∷ []))
     ∷ row "A run goes on until the call depth equals a target"
     (nested (runToEnd (state and cells 3 1)))
     (accepted (101 ∷ 110 ∷ 100 ∷ 101 ∷ 100 ∷ 0 ∷ 5 ∷ 0 ∷ 0 ∷ 0 ∷ 0 ∷ 28 ∷ 29 ∷ 30 ∷ []))
@@ -636,6 +640,7 @@ runs =
     (after (goto 0xfff0 0 0) [] (state and runBy (pos 0) (pos 9) state)) (accepted (1 ∷ 1 ∷ 0 ∷ 14 ∷ 0 ∷ 1 ∷ 1 ∷ 0 ∷ []))
     ∷ row "28: limit outside 1 to 99,999, before 29"
     (entering plain (runBy (pos 9) (pos 0) (runBy (pos 9) (pos 100000) state))) (accepted (28 ∷ 0 ∷ 28 ∷ 0 ∷ 1 ∷ 1 ∷ 1 ∷ 0 ∷ []))
+    ∷ row "28: limit 1" (nested (runBy (pos 0) (pos 1) state)) (accepted (0 ∷ 1 ∷ 3 ∷ 2 ∷ 2 ∷ 1 ∷ []))
     ∷ row "29: target below 0, or not below the depth"
     (entering plain (runBy (negsuc 0) (pos 1) (runBy (pos 1) (pos 1) state))) (accepted (29 ∷ 0 ∷ 29 ∷ 0 ∷ 1 ∷ 1 ∷ 1 ∷ 0 ∷ []))
     ∷ row "Spent is given when the limit's statements are completed"

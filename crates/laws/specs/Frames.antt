@@ -58,6 +58,15 @@ set-keeps-zero frames i j z = go (eqb i j) refl
     go true e = rw (eqb-true i j e) (set-zero frames j)
     go false e = getD-set-other frames j i zeroFrame zeroFrame (eqb-false i j e) ∙ z (eqb-false i j e)
 
+-- in any state, also one that a host made up
+pub entry-touches : (P : Program) (f : ℕ) (back : ℤ) (c : Config) → Only (c .state .depth) c (entered P f back c)
+unfolding entered
+entry-touches P f back c j ne = getD-set-other (c .state .frames) (c .state .depth) j (record { «instr_id» = back; «func_id» = c .state .function }) zeroFrame ne
+
+pub leaving-touches : (P : Program) (c : Config) → Only (c .state .depth - 1) c (left P c) × (frameAt (left P c) (c .state .depth - 1) ≡ zeroFrame)
+unfolding left
+leaving-touches P c = (λ j ne. getD-set-other (c .state .frames) (c .state .depth - 1) j zeroFrame zeroFrame ne, set-zero (c .state .frames) (c .state .depth - 1))
+
 module _ (file : List ℕ) where
   abbrev P : Program
   P = programOf file
@@ -71,22 +80,21 @@ module _ (file : List ℕ) where
       let s = c .state in
       let frame : StackFrame = record { «instr_id» = back; «func_id» = s .function } in
       let shallow : s .depth < 31 = ltb-true (s .depth) 31 (h .1 .0) in (
-        (λ j ne. getD-set-other (s .frames) (s .depth) j frame zeroFrame ne, getD-set-same (s .frames) (s .depth) frame zeroFrame (omega (arith, k .number))),
+        (entry-touches P f back c, getD-set-same (s .frames) (s .depth) frame zeroFrame (omega (arith, k .number))),
         record {
           number = length-set (s .frames) (s .depth) frame ∙ k .number;
-          zeros = λ i le. getD-set-other (s .frames) (s .depth) i frame zeroFrame (λ e. omega arith) ∙ k .zeros i (omega arith);
+          zeros = λ i le. entry-touches P f back c i (λ e. omega arith) ∙ k .zeros i (omega arith);
         },
       )
 
   left-frames : (c : Config) (l : Log) → ZeroAbove c → GoodStep leaving c l (left P c)
   unfolding left
   left-frames c l k =
-      let s = c .state in
-      let i : ℕ = s .depth - 1 in (
-        (λ j ne. getD-set-other (s .frames) i j zeroFrame zeroFrame ne, set-zero (s .frames) i),
+      let s = c .state in (
+        leaving-touches P c,
         record {
-          number = length-set (s .frames) i zeroFrame ∙ k .number;
-          zeros = λ j le. set-keeps-zero (s .frames) j i (λ ne. k .zeros j (omega arith));
+          number = length-set (s .frames) (s .depth - 1) zeroFrame ∙ k .number;
+          zeros = λ i le. set-keeps-zero (s .frames) i (s .depth - 1) (λ ne. k .zeros i (omega arith));
         },
       )
 
