@@ -665,7 +665,7 @@ others =
     ∷ []
 
 abbrev pub rows : List Row
-rows = situations ++ loads ++ checks ++ operands ++ calls ++ runs ++ others
+rows = others ++ loads ++ checks ++ runs ++ operands ++ calls ++ situations
 
 -- all that a row computes with
 unfoldable computing : Unit {0}
@@ -682,36 +682,8 @@ computing = tt
 record Hold (rows : List Row) : Type 0 where
   all-same : T (all rows)
 
-situations-hold : Hold situations
-unfolding computing
-situations-hold = record { all-same = tt }
-
-loads-hold : Hold loads
-unfolding computing
-loads-hold = record { all-same = tt }
-
-checks-hold : Hold checks
-unfolding computing
-checks-hold = record { all-same = tt }
-
-operands-hold : Hold operands
-unfolding computing
-operands-hold = record { all-same = tt }
-
-calls-hold : Hold calls
-unfolding computing
-calls-hold = record { all-same = tt }
-
-runs-hold : Hold runs
-unfolding computing
-runs-hold = record { all-same = tt }
-
-others-hold : Hold others
-unfolding computing
-others-hold = record { all-same = tt }
-
-both : {a b : List Row} → Hold a → Hold b → Hold (a ++ b)
-both {a} {b} h k = record { all-same = go a (h .all-same) }
+before : {b : List Row} (a : List Row) → Hold b → T (all a) → Hold (a ++ b)
+before {b} a k h = record { all-same = go a h }
   where
     if-same : (a : List Row) (x : Bool) → (T (all a) → T (all (a ++ b))) → T (x && all a) → T (x && all (a ++ b))
     if-same a true rest h = rest h
@@ -721,5 +693,34 @@ both {a} {b} h k = record { all-same = go a (h .all-same) }
     go [] h = k .all-same
     go (row words gives says ∷ a) h = if-same a (same gives says) (go a) h
 
+-- one group after another: of one check of all the rows the memory would be thrice that, and where a row fails those of later groups aren't computed
+situations-hold : Hold situations
+unfolding computing
+situations-hold = record { all-same = tt }
+
+calls-hold : Hold (calls ++ situations)
+unfolding computing
+calls-hold = before calls situations-hold tt
+
+operands-hold : Hold (operands ++ calls ++ situations)
+unfolding computing
+operands-hold = before operands calls-hold tt
+
+runs-hold : Hold (runs ++ operands ++ calls ++ situations)
+unfolding computing
+runs-hold = before runs operands-hold tt
+
+checks-hold : Hold (checks ++ runs ++ operands ++ calls ++ situations)
+unfolding computing
+checks-hold = before checks runs-hold tt
+
+loads-hold : Hold (loads ++ checks ++ runs ++ operands ++ calls ++ situations)
+unfolding computing
+loads-hold = before loads checks-hold tt
+
+others-hold : Hold (others ++ loads ++ checks ++ runs ++ operands ++ calls ++ situations)
+unfolding computing
+others-hold = before others loads-hold tt
+
 pub starred : T (all rows)
-starred = both situations-hold (both loads-hold (both checks-hold (both operands-hold (both calls-hold (both runs-hold others-hold))))) .all-same
+starred = others-hold .all-same
