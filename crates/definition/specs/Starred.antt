@@ -1,6 +1,6 @@
 -- THE STARRED SITUATIONS of document 01, as rows of one table that is computed from the definition, with some of its other sentences. Each row starts
 -- from the bytes of a file, and goes on by the operations that a host calls, with check 13 in each.
-use Prim.Native.Nat.{ℕ, zero, suc, _+_, _*_, _/_, _%_}
+use Prim.Native.Nat.{ℕ, zero, suc, _+_, _-_, _*_, _/_, _%_}
 use Prim.Native.String.{String}
 use mathlib.Core.List.{List, [], _∷_, _++_}
 use mathlib.Core.Bool.{Bool, true, false, _&&_}
@@ -11,8 +11,10 @@ use lib.Ieee as Ieee
 use Rattle.definition.specs.declared.Statement.{Statement}
 use Rattle.definition.specs.declared.Definition.{Definition}
 use Rattle.definition.specs.declared.FunctionDef.{FunctionDef}
+use Rattle.definition.specs.declared.FileRecord.{FileRecord}
+use Rattle.definition.specs.declared.StackFrame.{StackFrame}
 use Rattle.definition.specs.Checks.{judge, Checked, refused, accepted, guard}
-use Rattle.definition.specs.File.{byteAt, u16At, u32At, fileOf, lumpsFit, records, Contents, contentsAt, builtinNumber}
+use Rattle.definition.specs.File.{byteAt, u16At, u32At, fileOf, lumpsFit, records, Contents, contentsAt, builtinNumber, noFunction}
 use Rattle.definition.specs.Cells.{float, entity, lookup, scalar, passes, signed, cellOf, cellAccess, vectorAccess, access, readAccess}
 use Rattle.definition.specs.Statements.{shapeOf, floatsEffect, vectorResult, vectorsEffect, dotsEffect, negatesVEffect, storesEffect, storesVEffect, branchesDo, callOf, callDoes}
 use Rattle.definition.specs.Statements.{fetchConditions, execute, doesAt}
@@ -21,7 +23,7 @@ use Rattle.definition.specs.Machine.{entryConditions, entered, leaveCond
 use Rattle.definition.specs.Load.{each, headerConditions, recordConditions, cellConditions, loaded, load, sameFile, recordedIn, programAt, programOf}
 use Rattle.definition.specs.Operations.{frameFunctions, enteredFunctions, allPresent, localsOf, sound}
 use Rattle.definition.specs.Operations.{hostEnter, statement, runConditions, run, carryOnConditions, carryOn, leftTimes, leavingsConditions, abandonConditions, abandon, rawRead, rawWrite}
-use Rattle.definition.specs.Answers.{outcome, refusalNumber, outcomeWord, outcomeDetail, letters}
+use Rattle.definition.specs.Answers.{answerOf, outcome, refusalNumber, outcomeWord, outcomeDetail, letters}
 
 -- ---- an assembler: the bytes of a file with these contents
 
@@ -63,6 +65,10 @@ assembled k =
     ++ bytes definitionBytes (k .fielddefs)
     ++ bytes functionBytes (k .functions)
     ++ k .strings
+
+-- the file with these bytes from a place on
+abbrev overwritten : ℕ → List ℕ → List ℕ → List ℕ
+overwritten at xs file = take at file ++ xs ++ drop (at + length xs) file
 
 -- ---- contents
 
@@ -113,8 +119,15 @@ abbrev fn : ℕ → ℕ → ℕ → ℕ → List ℕ → FunctionDef
 fn first start locals argc sizes =
     record { first = first; start = start; locals = locals; name = 0; srcfile = 0; argc = argc; argsz = take 8 (sizes ++ replicate 8 0) }
 
+-- first statement, name, source file
+abbrev named : ℕ → ℕ → ℕ → FunctionDef
+named first name srcfile = record { first = first; start = 0; locals = 0; name = name; srcfile = srcfile; argc = 0; argsz = replicate 8 0 }
+
 abbrev define : ℕ → ℕ → Definition
 define kind cell = record { kind = kind; offset = cell; name = 0 }
+
+abbrev defineNamed : ℕ → ℕ → Definition
+defineNamed kind name = record { kind = kind; offset = 28; name = name }
 
 -- from statement 1 and function 1 on; statement 0 is Done 0 0 0, function 0 is all 0
 abbrev typedProgram : List Definition → List Statement → List FunctionDef → List ℕ → Contents
@@ -135,6 +148,19 @@ program = typedProgram []
 abbrev numbers : ℕ → ℕ → List ℕ
 numbers zero a = []
 numbers (suc n) a = a ∷ numbers n (a + 1)
+
+-- these functions, statements, global and field definitions, with one byte of strings
+abbrev holding : List FunctionDef → List Statement → List Definition → List Definition → ℕ → ℕ → Contents
+holding functions statements globaldefs fielddefs cells entityfields =
+    record {
+      statements = statements;
+      globaldefs = globaldefs;
+      fielddefs = fielddefs;
+      functions = functions;
+      strings = 0 ∷ [];
+      globals = numbers cells 0;
+      entityfields = entityfields;
+    }
 
 -- 64 cells, each with its own number in it
 abbrev numbered : List ℕ
@@ -161,6 +187,14 @@ also xs seen = andThen seen (λ ys. accepted (xs ++ ys))
 abbrev position : ℤ → List ℕ
 position (pos n) = n ∷ []
 position (negsuc n) = []
+
+-- the number of the refusal, 0 where there is none
+abbrev numberOf : {A : Type 0} → Checked A → ℕ
+numberOf x = refusalNumber (answerOf x)
+
+abbrev mapped : {A B : Type 0} → (A → B) → List A → List B
+mapped f [] = []
+mapped f (x ∷ xs) = f x ∷ mapped f xs
 
 -- ---- scenarios: what is seen from a configuration on
 
@@ -217,11 +251,15 @@ completion (handedStep h) = refused 0
 abbrev complete : Scenario → Scenario
 complete rest P c = andThen (completion (statement P c)) (rest P)
 
--- a run to depth 0 with limit 99,999: the letters of the outcome, the detail, the statements, and what is seen after it
-abbrev runToEnd : Scenario → Scenario
-runToEnd rest P c =
-    let r = run P (pos 0) (pos 99999) c in
+-- a run: the letters of the outcome, the detail, the statements, and what is seen after it
+abbrev runSaying : ℤ → ℤ → Scenario → Scenario
+runSaying target limit rest P c =
+    let r = run P target limit c in
     also (letters (outcomeWord (r .answer)) ++ (outcomeDetail (r .answer) ∷ r .count ∷ [])) (rest P (r .config))
+
+-- to depth 0 with limit 99,999
+abbrev runToEnd : Scenario → Scenario
+runToEnd = runSaying (pos 0) (pos 99999)
 
 -- a run: its detail and its statements, and what is seen after it
 abbrev runBy : ℤ → ℤ → Scenario → Scenario
@@ -233,23 +271,56 @@ carry rest P c = andThen (carryOn P c) (rest P)
 abbrev abandonTo : ℤ → Scenario → Scenario
 abandonTo target rest P c = andThen (abandon P target c) (rest P)
 
--- a state that a host made up: one saved cell more than there is
-abbrev oneMoreSaved : Scenario → Scenario
-oneMoreSaved rest P c =
-    let s = c .state in
+-- every operation, with an argument that its own row refuses: entry, statement, run, carry on, abandon, raw read, raw write
+abbrev everyOperation : Scenario
+everyOperation P c =
+    let none = negsuc 0 in
+    accepted
+    (numberOf (hostEnter P none c)
+    ∷ numberOf (completion (statement P c))
+    ∷ outcomeDetail (run P none (pos 0) c .answer)
+    ∷ numberOf (carryOn P c)
+    ∷ numberOf (abandon P none c)
+    ∷ numberOf (rawRead P none c)
+    ∷ numberOf (rawWrite P none 0 c)
+    ∷ [])
+
+-- a state that a host made up: this file, function, depth, saved count and, from the lowest frame on, these functions in the frames
+abbrev madeUp : FileRecord → ℕ → ℕ → ℕ → List ℕ → Scenario → Scenario
+madeUp file function depth saved frames rest P c =
+    let frame : ℕ → StackFrame = λ f. record { «instr_id» = pos 0; «func_id» = f } in
     rest P
     (record {
-      state = record { file = s .file; pc = s .pc; function = s .function; depth = s .depth; saved = s .saved + 1; frames = s .frames };
+      state =
+          record {
+            file = file;
+            pc = c .state .pc;
+            function = function;
+            depth = depth;
+            saved = saved;
+            frames = take 31 (mapped frame frames ++ replicate 31 zeroFrame);
+          };
       cells = c .cells;
       saved = c .saved;
     })
 
--- a load of the file with these contents, which is lent two cells more than it has, and what is seen after it
+-- buffers of which a host lends only so many cells, and so many of the saved store
+abbrev lending : ℕ → ℕ → Scenario → Scenario
+lending cells saved rest P c = rest P (record { state = c .state; cells = take cells (c .cells); saved = take saved (c .saved) })
+
+-- a load of these bytes, which is lent two cells more than the file has, and what is seen after it, with the bytes that then stand there
+abbrev fromThen : List ℕ → List ℕ → Scenario → Seen
+fromThen file then scenario =
+    let P = programOf then in
+    andThen (load file (replicate (fileOf file .globals .count + 2) 0xffffffff) (replicate 2048 0xeeeeeeee)) (scenario P)
+
+-- of the file with these contents
 abbrev from : Contents → Scenario → Seen
-from k scenario =
-    let file = assembled k in
-    let P = programOf file in
-    andThen (load file (replicate (length (k .globals) + 2) 0xffffffff) (replicate 2048 0)) (scenario P)
+from k = let file = assembled k in fromThen file file
+
+-- a load of these bytes, which is lent so many cells and a saved store of so many
+abbrev loading : List ℕ → ℕ → ℕ → Seen
+loading file cells saved = andThen (load file (replicate cells 0) (replicate saved 0)) (state (programOf file))
 
 -- ---- what several rows share
 
@@ -288,6 +359,71 @@ nested rest =
     (program (call 40 0 0 ∷ return 28 0 0 ∷ storeF 29 30 0 ∷ goto 2 0 0 ∷ storeF 64 0 0 ∷ return 30 0 0 ∷ []) (plain ∷ fn 3 30 1 0 [] ∷ []) (set numbered 40 2))
     (enter 1 rest)
 
+-- function 1 calls function 2, which calls itself and then function 3: each time the list of functions from cell 40 on is moved down by one, and the
+-- local, cell 30, becomes the function to be called
+abbrev reentered : Scenario → Seen
+reentered rest =
+    from
+    (program
+    (call 40 0 0 ∷ return 28 0 0 ∷ storeV 41 40 0 ∷ storeF 40 30 0 ∷ call 40 0 0 ∷ return 30 0 0 ∷ storeF 29 30 0 ∷ return 30 0 0 ∷ [])
+    (plain ∷ fn 3 30 1 0 [] ∷ fn 7 30 2 0 [] ∷ [])
+    (cellsWith 40 (2 ∷ 2 ∷ 3 ∷ [])))
+    (enter 1 rest)
+
+-- a Call of the builtin 36
+abbrev builtin36 : Contents
+builtin36 = program (call 40 0 0 ∷ []) (plain ∷ fn 0xffffffdc 0 0 0 [] ∷ []) (set numbered 40 2)
+
+-- of which the bytes say, after the load, that it is the builtin 5
+abbrev builtin5 : Scenario → Seen
+builtin5 rest = fromThen (assembled builtin36) (assembled (program (call 40 0 0 ∷ []) (plain ∷ fn 0xfffffffb 0 0 0 [] ∷ []) (set numbered 40 2))) (enter 1 rest)
+
+-- in function 1 is statement 1, of which the bytes say, after the load, that its opcode is 66
+abbrev opcode66 : Scenario → Seen
+opcode66 rest =
+    let file : ℕ → List ℕ = λ opcode. assembled (program (op opcode 0 0 0 ∷ []) (plain ∷ []) numbered) in
+    fromThen (file 60) (file 66) (enter 1 rest)
+
+-- 36 cells, and nothing but statement 0 and function 0: 249 bytes
+abbrev least : List ℕ
+least = assembled (program [] [] (numbers 36 0))
+
+-- the least file with these bytes from a place on
+abbrev leastWith : ℕ → List ℕ → Seen
+leastWith at xs = loading (overwritten at xs least) 36 2048
+
+-- these functions, statements, global and field definitions, in a file with 35 cells
+abbrev records35 : List FunctionDef → List Statement → List Definition → List Definition → Seen
+records35 functions statements globaldefs fielddefs = loading (assembled (holding functions statements globaldefs fielddefs 35 105)) 36 2048
+
+-- each lump of the least file moved, so that it ends so many bytes past the end: the place of its offset in the header, its count and its size
+abbrev endingPast : ℕ → List ℕ
+endingPast n =
+    let moved : ℕ → ℕ → ℕ → ℕ = λ at count size. numberOf (leastWith at (bytes u32 ((249 + n - count * size) ∷ count ∷ []))) in
+    moved 8 1 8 ∷ moved 16 1 8 ∷ moved 24 1 8 ∷ moved 32 1 36 ∷ moved 40 1 1 ∷ moved 48 36 4 ∷ []
+
+-- for check 13. Function 1 has one local, function 2 has 2,049, function 3 has -1; statement 0 is refused 15; every number of the header but version and
+-- check number may be one less
+abbrev thirteen : List ℕ
+thirteen =
+    assembled
+    (holding (noFunction ∷ fn 0 30 1 0 [] ∷ fn 0 0 2049 0 [] ∷ fn 0 0 0xffffffff 0 [] ∷ []) (storeF 99 0 0 ∷ []) (define 0 0 ∷ []) (define 0 0 ∷ []) 37 106)
+
+-- the number at this place of its header is one less, at the first read after the load
+abbrev oneLess : ℕ → ℕ
+oneLess at = numberOf (fromThen thirteen (overwritten at ((byteAt thirteen at - 1) ∷ []) thirteen) (cells 1 0))
+
+-- what every operation gives in a state that a host made up, over the bytes that it records
+abbrev madeUpOver : List ℕ → ℕ → ℕ → ℕ → List ℕ → Seen
+madeUpOver file function depth saved frames = fromThen thirteen file (madeUp (fileOf file) function depth saved frames everyOperation)
+
+abbrev all13 : Seen
+all13 = accepted (replicate 7 13)
+
+-- what the rows of the operations refuse there, 13 apart
+abbrev own : Seen
+own = accepted (20 ∷ 15 ∷ 28 ∷ 27 ∷ 29 ∷ 15 ∷ 15 ∷ [])
+
 -- ---- the table
 
 -- words of the paper, what the definition gives, what the paper says
@@ -310,9 +446,9 @@ abbrev pub all : List Row → Bool
 all [] = true
 all (row words gives says ∷ rows) = same gives says && all rows
 
-abbrev pub rows : List Row
-rows =
-    -- the starred situations
+-- the starred situations, and the show program's line
+abbrev situations : List Row
+situations =
     row "BitAnd 2147483648.0, 1.0: 1.0" (after (bitAnd 28 29 30) (0x4f000000 ∷ 0x3f800000 ∷ []) (cells 1 30)) (accepted (0x3f800000 ∷ []))
     ∷ row "BitOr 16777216.0, 1.0: 16777216.0" (after (bitOr 28 29 30) (0x4b800000 ∷ 0x3f800000 ∷ []) (cells 1 30)) (accepted (0x4b800000 ∷ []))
     ∷ row "BitOr -1.5, 0.0: -1.0" (after (bitOr 28 29 30) (0xbfc00000 ∷ 0 ∷ []) (cells 1 30)) (accepted (0xbf800000 ∷ []))
@@ -338,14 +474,81 @@ rows =
     ∷ row "ended,0,2,0,0,0,0,40700000,00000000,00000000"
     (show (enter 1 (runToEnd (state and cells 3 1))))
     (accepted (101 ∷ 110 ∷ 100 ∷ 101 ∷ 100 ∷ 0 ∷ 2 ∷ 0 ∷ 0 ∷ 0 ∷ 0 ∷ 0x40700000 ∷ 0 ∷ 0 ∷ []))
-    -- a load
-    ∷ row "Position, function and depths start at 0" (show state) (accepted (0 ∷ 0 ∷ 0 ∷ 0 ∷ []))
+    ∷ []
+
+-- what a load leaves, and what it refuses: a file with two defects is refused for the first
+abbrev loads : List Row
+loads =
+    row "Position, function and depths start at 0" (show state) (accepted (0 ∷ 0 ∷ 0 ∷ 0 ∷ []))
     ∷ row "A load fills the lent cells from 0 and leaves those past the file's count"
     (from (program [] [] numbered) (lent 62)) (accepted (62 ∷ 63 ∷ 0xffffffff ∷ 0xffffffff ∷ []))
-    -- the host enters a builtin
-    ∷ row "21: builtin" (entering (fn 0xffffffff 0 0 0 []) state) (refused 21)
+    ∷ row "A buffer written in part keeps the rest: the saved store at a load" (from (program [] [] numbered) (store 2)) (accepted (0xeeeeeeee ∷ 0xeeeeeeee ∷ []))
+    ∷ row "Frames start as zeros" (show (frame 0 and frame 30)) (accepted (0 ∷ 0 ∷ 0 ∷ 0 ∷ []))
+    ∷ row "1: length under 60, before 2" (loading (replicate 59 0) 36 2048) (refused 1)
+    ∷ row "1: length 60" (loading (replicate 60 0) 36 2048) (refused 2)
+    ∷ row "2: version, before 3" (leastWith 0 (bytes u32 (7 ∷ 0 ∷ []))) (refused 2)
+    ∷ row "3: check number, before 4" (leastWith 4 (bytes u32 (5926 ∷ 0x80000000 ∷ []))) (refused 3)
+    ∷ row "4: lump negative: its offset" (leastWith 24 (u32 0x80000000)) (refused 4)
+    ∷ row "an empty lump may have any non-negative offset" (leastWith 24 (u32 0x7fffffff)) (accepted (0 ∷ 0 ∷ 0 ∷ 0 ∷ []))
+    ∷ row "4: lump negative: its count" (leastWith 28 (u32 0xffffffff)) (refused 4)
+    ∷ row "4: lump past the end; Record sizes: 8, 8, 8, 36, 1, 4 bytes" (accepted (endingPast 1)) (accepted (replicate 6 4))
+    ∷ row "Lumps may overlap; one that ends with the file" (accepted (endingPast 0)) (accepted (replicate 6 0))
+    ∷ row "5: builtin, before 6" (records35 (named 0xfffffffb 1 0 ∷ []) [] [] []) (refused 5)
+    ∷ row "6: name below 0, before a later function's 5" (records35 (named 0 0xffffffff 0 ∷ named 0xfffffffb 0 0 ∷ []) [] [] []) (refused 6)
+    ∷ row "6: name not below the string length, before 7" (records35 (named 0 1 0 ∷ []) (op 66 0 0 0 ∷ []) [] []) (refused 6)
+    ∷ row "6: source file below 0" (records35 (named 0 0 0xffffffff ∷ []) [] [] []) (refused 6)
+    ∷ row "6: source file not below the string length" (records35 (named 0 0 1 ∷ []) [] [] []) (refused 6)
+    ∷ row "7: opcode, before a global definition's 6" (records35 [] (op 66 0 0 0 ∷ []) (defineNamed 0 1 ∷ []) []) (refused 7)
+    ∷ row "global definitions, 6: name, before 8" (records35 [] [] (defineNamed 8 1 ∷ []) []) (refused 6)
+    ∷ row "global definitions, 8: type over 7, flag apart, before a field definition's 6"
+    (records35 [] [] (defineNamed 0x8008 0 ∷ []) (defineNamed 0 1 ∷ [])) (refused 8)
+    ∷ row "field definitions, 6: name, before 9" (records35 [] [] (defineNamed 0x8007 0 ∷ []) (defineNamed 0x8008 1 ∷ [])) (refused 6)
+    ∷ row "field definitions, 9: save flag in a field definition, before 8" (records35 [] [] [] (defineNamed 0x8008 0 ∷ [])) (refused 9)
+    ∷ row "field definitions, 8: type over 7, before 10" (records35 [] [] [] (defineNamed 8 0 ∷ [])) (refused 8)
+    ∷ row "10: under 36, before 11" (leastWith 52 (bytes u32 (35 ∷ 104 ∷ []))) (refused 10)
+    ∷ row "11: entity cells under 105, before 12" (loading (overwritten 56 (u32 104) least) 35 2048) (refused 11)
+    ∷ row "11: entity cells below 0" (leastWith 56 (u32 0xffffffff)) (refused 11)
+    ∷ row "12: lent cells short" (loading least 35 2048) (refused 12)
+    ∷ row "12: saved store under 2,048" (loading least 36 2047) (refused 12)
+    ∷ row "12: as many as there must be" (loading least 36 2048) (accepted (0 ∷ 0 ∷ 0 ∷ 0 ∷ []))
+    ∷ []
+
+-- check 13, before what each operation's own row refuses
+abbrev checks : List Row
+checks =
+    row "13: not in a state that a load left" (fromThen thirteen thirteen everyOperation) own
+    ∷ row "13: file length .. not as the state records" (fromThen thirteen (thirteen ++ (0 ∷ [])) everyOperation) all13
+    ∷ row "13: header lumps or cells per entity not as the state records"
+    (accepted (mapped oneLess (8 ∷ 12 ∷ 16 ∷ 20 ∷ 24 ∷ 28 ∷ 32 ∷ 36 ∷ 40 ∷ 44 ∷ 48 ∷ 52 ∷ 56 ∷ []))) (accepted (replicate 13 13))
+    ∷ row "13: version and check number are not among these" (accepted (mapped oneLess (0 ∷ 4 ∷ []))) (accepted (0 ∷ 0 ∷ []))
+    ∷ row "13: or outside 1" (madeUpOver (take 59 thirteen) 0 0 0 []) all13
+    ∷ row "13: or outside 4" (madeUpOver (overwritten 44 (2 ∷ []) thirteen) 0 0 0 []) all13
+    ∷ row "13: or outside 10" (madeUpOver (overwritten 52 (35 ∷ []) thirteen) 0 0 0 []) all13
+    ∷ row "13: or outside 11" (madeUpOver (overwritten 56 (104 ∷ []) thirteen) 0 0 0 []) all13
+    ∷ row "13: as many lent cells as the file's, and a saved store of 2,048" (fromThen thirteen thirteen (lending 37 2048 everyOperation)) own
+    ∷ row "13: lent cells fewer than the file's" (fromThen thirteen thirteen (lending 36 2048 everyOperation)) all13
+    ∷ row "13: or saved store under 2,048" (fromThen thirteen thirteen (lending 37 2047 everyOperation)) all13
+    ∷ row "13: depth 31" (madeUpOver thirteen 1 31 1 []) own
+    ∷ row "13: depth over 31" (madeUpOver thirteen 1 32 1 []) all13
+    ∷ row "13: at depth above 0 the current one absent" (madeUpOver thirteen 4 1 0 []) all13
+    ∷ row "13: at depth 0 the current one is not looked at" (madeUpOver thirteen 4 0 0 []) own
+    ∷ row "13: every frame's .. absent" (madeUpOver thirteen 1 3 1 (0 ∷ 4 ∷ 0 ∷ [])) all13
+    ∷ row "13: but the lowest" (madeUpOver thirteen 1 3 1 (4 ∷ 0 ∷ 0 ∷ [])) own
+    ∷ row "13: or of negative local count" (madeUpOver thirteen 3 1 0xffffffff []) all13
+    ∷ row "13: saved count over 2,048" (madeUpOver thirteen 2 1 2049 []) all13
+    ∷ row "13: the sum of their local counts" (madeUpOver thirteen 1 3 3 (0 ∷ 1 ∷ 1 ∷ [])) own
+    ∷ row "13: saved count not the sum of their local counts, but less" (madeUpOver thirteen 1 3 2 (0 ∷ 1 ∷ 1 ∷ [])) all13
+    ∷ row "13: saved count not the sum of their local counts, but more" (madeUpOver thirteen 1 3 4 (0 ∷ 1 ∷ 1 ∷ [])) all13
+    ∷ []
+
+-- what entries and statements refuse, and 01's "Tempting"; 114 101 102 117 115 101 100 is "refused"
+abbrev operands : List Row
+operands =
+    row "21: builtin" (entering (fn 0xffffffff 0 0 0 []) state) (refused 21)
     ∷ row "24: argument count outside 0 to 8" (entering (fn 0xffffffff 0 0 0xffffffff []) state) (refused 24)
-    -- "Tempting"; 114 101 102 117 115 101 100 is "refused"
+    ∷ row "24: argument count 9" (entering (fn 1 40 8 9 (replicate 8 1)) state) (refused 24)
+    ∷ row "24: argument count 8, argument i from cell 4+3i" (entering (fn 1 40 8 8 (replicate 8 1)) (cells 8 40))
+    (accepted (4 ∷ 7 ∷ 10 ∷ 13 ∷ 16 ∷ 19 ∷ 22 ∷ 25 ∷ []))
     ∷ row "counting the refused statement"
     (from (program (storeF 28 30 0 ∷ storeF 64 30 0 ∷ []) (plain ∷ []) numbered) (enter 1 (runToEnd state)))
     (accepted (114 ∷ 101 ∷ 102 ∷ 117 ∷ 115 ∷ 101 ∷ 100 ∷ 15 ∷ 1 ∷ 2 ∷ 1 ∷ 1 ∷ 0 ∷ []))
@@ -354,6 +557,8 @@ rows =
     (accepted (28 ∷ 31 ∷ 32 ∷ 30 ∷ []))
     ∷ row "taking the last definition: a float cell" (reading (define float 28 ∷ define entity 28 ∷ [])) (accepted (28 ∷ []))
     ∷ row "taking the last definition: an entity cell" (reading (define entity 28 ∷ define float 28 ∷ [])) (refused 16)
+    ∷ row "15: cell negative, also where a definition is of cell 65535"
+    (from (typedProgram (define entity 65535 ∷ []) (storeF 65535 30 0 ∷ []) (plain ∷ []) numbered) (enter 1 (complete state))) (refused 15)
     ∷ row "address equal to the count: a source, one less" (after (storeF 63 30 0) [] (cells 1 30)) (accepted (63 ∷ []))
     ∷ row "address equal to the count: a source" (after (storeF 64 30 0) [] state) (refused 15)
     ∷ row "address equal to the count: a destination, one less" (after (storeF 28 63 0) [] (cells 1 63)) (accepted (28 ∷ []))
@@ -367,44 +572,103 @@ rows =
     ∷ row "address equal to the count: a local cell" (entering (fn 1 63 2 0 []) state) (refused 15)
     ∷ row "address equal to the count: an argument cell, one less" (entering (fn 1 63 0 1 (1 ∷ [])) (cells 1 63)) (accepted (4 ∷ []))
     ∷ row "address equal to the count: an argument cell" (entering (fn 1 64 0 1 (1 ∷ [])) state) (refused 15)
-    -- calls
-    ∷ row "A Call records the position after itself" (nested (complete (state and frame 1))) (accepted (3 ∷ 2 ∷ 2 ∷ 1 ∷ 1 ∷ 2 ∷ []))
+    ∷ []
+
+-- entries and returns
+abbrev calls : List Row
+calls =
+    row "A Call records the position after itself" (nested (complete (state and frame 1))) (accepted (3 ∷ 2 ∷ 2 ∷ 1 ∷ 1 ∷ 2 ∷ []))
+    ∷ row "a host entry the present one" (nested (enter 2 (state and frame 1))) (accepted (3 ∷ 2 ∷ 2 ∷ 1 ∷ 1 ∷ 1 ∷ []))
     ∷ row "a frame that is left becomes zeros again"
     (nested (complete (complete (complete (complete (state and frame 1 and cells 3 1 and cells 1 30))))))
     (accepted (2 ∷ 1 ∷ 1 ∷ 0 ∷ 0 ∷ 0 ∷ 29 ∷ 31 ∷ 32 ∷ 30 ∷ []))
+    ∷ row "and no operation touches the others: frames that a host made up"
+    (fromThen thirteen thirteen
+    (madeUp (fileOf thirteen) 1 1 1 (3 ∷ 3 ∷ 3 ∷ []) (enter 1 (frame 0 and frame 1 and frame 2 and abandonTo (pos 1) (frame 0 and frame 1 and frame 2)))))
+    (accepted (3 ∷ 0 ∷ 1 ∷ 0 ∷ 3 ∷ 0 ∷ 3 ∷ 0 ∷ 0 ∷ 0 ∷ 3 ∷ 0 ∷ []))
     ∷ row "A run goes on until the call depth equals a target"
     (nested (runToEnd (state and cells 3 1)))
     (accepted (101 ∷ 110 ∷ 100 ∷ 101 ∷ 100 ∷ 0 ∷ 5 ∷ 0 ∷ 0 ∷ 0 ∷ 0 ∷ 28 ∷ 29 ∷ 30 ∷ []))
+    ∷ row "Each note counts as one function entered and not yet left, also where one function has several"
+    (reentered (runBy (pos 0) (pos 7) (state and frame 0 and frame 1 and frame 2 and frame 3 and frame 4 and store 5)))
+    (accepted (0 ∷ 7 ∷ 7 ∷ 3 ∷ 4 ∷ 4 ∷ 0 ∷ 0 ∷ 1 ∷ 2 ∷ 2 ∷ 6 ∷ 2 ∷ 6 ∷ 0 ∷ 0 ∷ 30 ∷ 2 ∷ 3 ∷ 31 ∷ 0xeeeeeeee ∷ []))
+    ∷ row "removes the newest note, and only that one"
+    (reentered
+    (runBy (pos 0) (pos 7) (runBy (pos 3) (pos 9) (state and frame 2 and frame 3 and cells 3 1 and cells 2 30
+    and runBy (pos 2) (pos 9) (state and frame 1 and frame 2 and cells 3 1 and cells 2 30
+    and runBy (pos 1) (pos 9) (state and frame 0 and frame 1 and cells 3 1 and cells 2 30
+    and runBy (pos 0) (pos 9) (state and frame 0 and cells 3 1)))))))
+    (accepted
+    (0 ∷ 7
+    ∷ 0 ∷ 2 ∷ 6 ∷ 2 ∷ 3 ∷ 2 ∷ 2 ∷ 6 ∷ 0 ∷ 0 ∷ 29 ∷ 31 ∷ 32 ∷ 3 ∷ 31
+    ∷ 0 ∷ 1 ∷ 6 ∷ 2 ∷ 2 ∷ 1 ∷ 1 ∷ 2 ∷ 0 ∷ 0 ∷ 3 ∷ 31 ∷ 32 ∷ 2 ∷ 31
+    ∷ 0 ∷ 1 ∷ 2 ∷ 1 ∷ 1 ∷ 0 ∷ 0 ∷ 0 ∷ 0 ∷ 0 ∷ 2 ∷ 31 ∷ 32 ∷ 30 ∷ 31
+    ∷ 0 ∷ 1 ∷ 0 ∷ 0 ∷ 0 ∷ 0 ∷ 0 ∷ 0 ∷ 28 ∷ 29 ∷ 30 ∷ []))
+    ∷ row "The saved store above its depth keeps what was last written"
+    (reentered (runBy (pos 0) (pos 7) (abandonTo (pos 2) (state and frame 1 and frame 2 and frame 3 and cells 3 1 and cells 2 30 and store 5))))
+    (accepted (0 ∷ 7 ∷ 6 ∷ 2 ∷ 2 ∷ 1 ∷ 1 ∷ 2 ∷ 0 ∷ 0 ∷ 0 ∷ 0 ∷ 1 ∷ 2 ∷ 3 ∷ 2 ∷ 31 ∷ 30 ∷ 2 ∷ 3 ∷ 31 ∷ 0xeeeeeeee ∷ []))
+    ∷ row "Argument cells beyond the local range aren't restored later"
+    (from (program [] (fn 0 40 1 2 (1 ∷ 1 ∷ []) ∷ []) numbered) (enter 1 (complete (cells 2 40)))) (accepted (40 ∷ 7 ∷ []))
+    ∷ row "Call, 16: type" (from (typedProgram (define float 40 ∷ []) (call 40 0 0 ∷ []) (plain ∷ []) (set numbered 40 1)) (enter 1 (complete state))) (refused 16)
     ∷ row "19: function 0" (after (call 0 0 0) [] state) (refused 19)
     ∷ row "20: no such function" (after (call 28 0 0) [] state) (refused 20)
-    -- 98 117 105 108 116 105 110 is "builtin", 111 112 99 111 100 101 is "opcode"
-    ∷ row "a builtin is then handed over"
-    (from (program (call 40 0 0 ∷ []) (plain ∷ fn 0xffffffdc 0 0 0 [] ∷ []) (set numbered 40 2)) (enter 1 (runToEnd (carry state))))
+    ∷ row "Call, 5 again" (builtin5 (complete state)) (refused 5)
+    ∷ []
+
+-- runs, carry on, abandon; 98 117 105 108 116 105 110 is "builtin", 111 112 99 111 100 101 is "opcode", 115 112 101 110 116 is "spent"
+abbrev runs : List Row
+runs =
+    row "a builtin is then handed over"
+    (from builtin36 (enter 1 (runToEnd (carry state))))
     (accepted (98 ∷ 117 ∷ 105 ∷ 108 ∷ 116 ∷ 105 ∷ 110 ∷ 36 ∷ 0 ∷ 2 ∷ 1 ∷ 1 ∷ 0 ∷ []))
     ∷ row "The position stays there until the host carries on by one"
     (from (program (op 60 0 0 0 ∷ []) (plain ∷ []) numbered) (enter 1 (runToEnd (state and carry state))))
     (accepted (111 ∷ 112 ∷ 99 ∷ 111 ∷ 100 ∷ 101 ∷ 60 ∷ 0 ∷ 1 ∷ 1 ∷ 1 ∷ 0 ∷ 2 ∷ 1 ∷ 1 ∷ 0 ∷ []))
     ∷ row "27: that statement would not be handed over" (from (program (storeF 28 30 0 ∷ []) (plain ∷ []) numbered) (enter 1 (carry state))) (refused 27)
+    ∷ row "27: a Return" (from (program (return 30 0 0 ∷ []) (plain ∷ []) numbered) (enter 1 (carry state))) (refused 27)
+    ∷ row "27: a Done" (from (program [] [] numbered) (carry state)) (refused 27)
+    ∷ row "27: a Call that would be entered" (nested (carry state)) (refused 27)
+    ∷ row "27: a Call that would be refused" (from (program (call 0 0 0 ∷ []) (plain ∷ []) numbered) (enter 1 (carry state))) (refused 27)
+    ∷ row "27: with the cells as they now are"
+    (from builtin36 (enter 1 (runBy (pos 0) (pos 9) (write 40 1 (carry state)))))
+    (refused 27)
+    ∷ row "carry on: 14, above the statements" (entering plain (carry state)) (refused 14)
+    ∷ row "carry on: 14, below 0" (after (goto 0xfff0 0 0) [] (carry state)) (refused 14)
+    ∷ row "carry on: 7" (opcode66 (carry state)) (refused 7)
+    ∷ row "statements, and again at fetch: 7" (opcode66 (complete state)) (refused 7)
+    ∷ row "outside the statements, below 0 too, it stands until a fetch refuses it 14"
+    (after (goto 0xfff0 0 0) [] (state and runBy (pos 0) (pos 9) state)) (accepted (1 ∷ 1 ∷ 0 ∷ 14 ∷ 0 ∷ 1 ∷ 1 ∷ 0 ∷ []))
     ∷ row "28: limit outside 1 to 99,999, before 29"
     (entering plain (runBy (pos 9) (pos 0) (runBy (pos 9) (pos 100000) state))) (accepted (28 ∷ 0 ∷ 28 ∷ 0 ∷ 1 ∷ 1 ∷ 1 ∷ 0 ∷ []))
+    ∷ row "28: limit 1" (nested (runBy (pos 0) (pos 1) state)) (accepted (0 ∷ 1 ∷ 3 ∷ 2 ∷ 2 ∷ 1 ∷ []))
     ∷ row "29: target below 0, or not below the depth"
     (entering plain (runBy (negsuc 0) (pos 1) (runBy (pos 1) (pos 1) state))) (accepted (29 ∷ 0 ∷ 29 ∷ 0 ∷ 1 ∷ 1 ∷ 1 ∷ 0 ∷ []))
-    ∷ row "Spent is given when the limit's statements are completed" (nested (runBy (pos 0) (pos 4) state)) (accepted (0 ∷ 4 ∷ 2 ∷ 1 ∷ 1 ∷ 0 ∷ []))
+    ∷ row "Spent is given when the limit's statements are completed"
+    (nested (runSaying (pos 0) (pos 4) state)) (accepted (115 ∷ 112 ∷ 101 ∷ 110 ∷ 116 ∷ 0 ∷ 4 ∷ 2 ∷ 1 ∷ 1 ∷ 0 ∷ []))
+    ∷ row "and the target isn't reached"
+    (nested (runSaying (pos 0) (pos 5) state)) (accepted (101 ∷ 110 ∷ 100 ∷ 101 ∷ 100 ∷ 0 ∷ 5 ∷ 0 ∷ 0 ∷ 0 ∷ 0 ∷ []))
     ∷ row "abandon to a depth (leaving innermost first, no return value)"
     (nested (complete (complete (abandonTo (pos 0) (state and cells 4 0 and cells 1 30))))) (accepted (0 ∷ 0 ∷ 0 ∷ 0 ∷ 0 ∷ 1 ∷ 2 ∷ 3 ∷ 30 ∷ []))
     ∷ row "29 (abandon: above it)" (nested (abandonTo (pos 2) state)) (refused 29)
-    ∷ row "13: saved count not the sum of their local counts" (entering plain (oneMoreSaved (enter 1 state))) (refused 13)
-    -- other sentences
-    ∷ row "A refusal gives its number and leaves state and buffers"
+    ∷ []
+
+-- other sentences
+abbrev others : List Row
+others =
+    row "A refusal gives its number and leaves state and buffers"
     (from (program [] (fn 1 30 1 0 [] ∷ fn 0xffffffff 40 1 1 (1 ∷ []) ∷ []) numbered)
     (enter 1 (tryToEnter 2 (state and frame 1 and cells 1 40 and store 2))))
-    (accepted (21 ∷ 1 ∷ 1 ∷ 1 ∷ 1 ∷ 0 ∷ 0 ∷ 40 ∷ 30 ∷ 0 ∷ []))
+    (accepted (21 ∷ 1 ∷ 1 ∷ 1 ∷ 1 ∷ 0 ∷ 0 ∷ 40 ∷ 30 ∷ 0xeeeeeeee ∷ []))
     ∷ row "Vector arithmetic reads all before writing"
     (after (addV 28 31 29) (0x3f800000 ∷ 0 ∷ 0 ∷ 0 ∷ 0 ∷ 0 ∷ []) (cells 4 28)) (accepted (0x3f800000 ∷ 0x3f800000 ∷ 0 ∷ 0 ∷ []))
     ∷ row "NotV writing one float" (after (notV 28 0 31) (0 ∷ 0 ∷ 0 ∷ []) (cells 3 31)) (accepted (0x3f800000 ∷ 32 ∷ 33 ∷ []))
     ∷ []
 
-pub starred : T (all rows)
+abbrev pub rows : List Row
+rows = others ++ loads ++ checks ++ runs ++ operands ++ calls ++ situations
+
+-- all that a row computes with
+unfoldable computing : Unit {0}
 unfolding judge guard
     byteAt u16At u32At fileOf lumpsFit records contentsAt builtinNumber
     Ieee.ofBits Ieee.toBits Ieee.add Ieee.mul Ieee.div Ieee.eq Ieee.toSigned Ieee.ofInt
@@ -413,4 +677,50 @@ unfolding judge guard
     limits present copied successive arguments copiesPresent entryConditions entered leaveConditions left stepAs step runFor
     each headerConditions recordConditions cellConditions loaded load sameFile recordedIn programAt
     frameFunctions enteredFunctions allPresent localsOf sound hostEnter statement runConditions run carryOnConditions carryOn leftTimes leavingsConditions abandonConditions abandon rawRead rawWrite
-starred = tt
+computing = tt
+
+record Hold (rows : List Row) : Type 0 where
+  all-same : T (all rows)
+
+before : {b : List Row} (a : List Row) → Hold b → T (all a) → Hold (a ++ b)
+before {b} a k h = record { all-same = go a h }
+  where
+    if-same : (a : List Row) (x : Bool) → (T (all a) → T (all (a ++ b))) → T (x && all a) → T (x && all (a ++ b))
+    if-same a true rest h = rest h
+    if-same a false rest h = h
+
+    go : (a : List Row) → T (all a) → T (all (a ++ b))
+    go [] h = k .all-same
+    go (row words gives says ∷ a) h = if-same a (same gives says) (go a) h
+
+-- one group after another: of one check of all the rows the memory would be thrice that, and where a row fails those of later groups aren't computed
+situations-hold : Hold situations
+unfolding computing
+situations-hold = record { all-same = tt }
+
+calls-hold : Hold (calls ++ situations)
+unfolding computing
+calls-hold = before calls situations-hold tt
+
+operands-hold : Hold (operands ++ calls ++ situations)
+unfolding computing
+operands-hold = before operands calls-hold tt
+
+runs-hold : Hold (runs ++ operands ++ calls ++ situations)
+unfolding computing
+runs-hold = before runs operands-hold tt
+
+checks-hold : Hold (checks ++ runs ++ operands ++ calls ++ situations)
+unfolding computing
+checks-hold = before checks runs-hold tt
+
+loads-hold : Hold (loads ++ checks ++ runs ++ operands ++ calls ++ situations)
+unfolding computing
+loads-hold = before loads checks-hold tt
+
+others-hold : Hold (others ++ loads ++ checks ++ runs ++ operands ++ calls ++ situations)
+unfolding computing
+others-hold = before others loads-hold tt
+
+pub starred : T (all rows)
+starred = others-hold .all-same

@@ -25,7 +25,7 @@ pub record Exactly {A : Type 0} (cs : Conditions) (a : A) (x : Checked A) : Type
   pub refuses : (n : ℕ) → FailsFirst (suc n) cs → x ≡ refused (suc n)
   pub refuses-only : (n : ℕ) → x ≡ refused n → FailsFirst n cs
 
-exactly : {A : Type 0} (cs : Conditions) (a : A) → Exactly cs a (guard cs a)
+pub exactly : {A : Type 0} (cs : Conditions) (a : A) → Exactly cs a (guard cs a)
 exactly cs a =
     record {
       accepts = guard-accepts cs a;

@@ -219,7 +219,7 @@ returned-steady file c a k h =
     let cells = copied (successive 3 a 1) (c .cells) in
     left-steady file (withCells c cells) (advanced-steady file c (c .state .pc) cells (length-copied (successive 3 a 1) (c .cells)) k) (h .1)
 
-steady-steps : (file : List ℕ) → Steps file (λ c l. Steady file c) Any
+pub steady-steps : (file : List ℕ) → Steps file (λ c l. Steady file c) Any
 steady-steps file =
     record {
       plain = λ c l p cells k keeps. (tt, advanced-steady file c p cells (keeps .same-length) k);

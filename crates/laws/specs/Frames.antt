@@ -1,0 +1,119 @@
+-- "a frame that is left becomes zeros again, and no operation touches the others": which frame each small step touches, along every list of calls.
+use Prim.Native.Nat.{ℕ, zero, suc, _-_, _≤_, _<_}
+use mathlib.Core.Path.{_≡_, refl, _∙_, ap}
+use mathlib.Core.Logic.{_≢_}
+use mathlib.Core.List.{List, [], _∷_}
+use mathlib.Core.Bool.{Bool, true, false}
+use native.Mathlib.Omega.{arith}
+use borrow.Author.Tests.{ltb-true, eqb-true, eqb-false}
+use lib.IntN.{ℤ, pos}
+use lib.ListN.{length, getD, set, replicate, length-set, length-replicate}
+use lib.Dec.{eqb}
+use lib.Seq.{getD-set-same, getD-set-other}
+use Rattle.definition.specs.declared.StackFrame.{StackFrame}
+use Rattle.definition.specs.Checks.{Condition, Conditions, accepted}
+use Rattle.definition.specs.Machine.{Program, Config, zeroFrame, limits, copied, successive, withCells}
+use Rattle.definition.specs.Machine.{entryConditions, entered, left}
+use Rattle.definition.specs.Load.{load, programOf}
+use Rattle.definition.specs.Calls.{Call}
+use Rattle.definition.specs.Log.{Log, Kind, entry, leaving, other}
+use Rattle.definition.specs.Along.{StepClaim, Through}
+use Rattle.definition.specs.CheckLaws.{All}
+use Rattle.definition.specs.Walk.{Good, Steps, through}
+use Rattle.laws.specs.Starts.{load-starts}
+
+abbrev pub frameAt : Config → ℕ → StackFrame
+frameAt c i = getD (c .state .frames) i zeroFrame
+
+-- no frame but that at i
+abbrev pub Only : ℕ → Config → Config → Type 0
+Only i c c′ = (j : ℕ) → j ≢ i → frameAt c′ j ≡ frameAt c j
+
+-- an entry writes the frame at the depth, a leaving makes that below the depth zeros, and nothing else touches one
+abbrev pub FramesBy : StepClaim
+FramesBy (entry f back) c l c′ = Only (c .state .depth) c c′ × (frameAt c′ (c .state .depth) ≡ record { «instr_id» = back; «func_id» = c .state .function })
+FramesBy leaving c l c′ = Only (c .state .depth - 1) c c′ × (frameAt c′ (c .state .depth - 1) ≡ record { «instr_id» = pos 0; «func_id» = 0 })
+FramesBy other c l c′ = c′ .state .frames ≡ c .state .frames
+
+-- what holds of every state that a list of calls meets: there are 31 frames, and those from the depth on are zeros
+pub record ZeroAbove (c : Config) : Type 0 where
+  pub number : length (c .state .frames) ≡ 31
+  pub zeros : (i : ℕ) → c .state .depth ≤ i → frameAt c i ≡ record { «instr_id» = pos 0; «func_id» = 0 }
+
+all-zeros : (n i : ℕ) → getD (replicate n zeroFrame) i zeroFrame ≡ zeroFrame
+all-zeros zero i = refl
+all-zeros (suc n) zero = refl
+all-zeros (suc n) (suc i) = all-zeros n i
+
+-- a frame set to zeros is zeros, as are all that were
+set-zero : (frames : List StackFrame) (i : ℕ) → getD (set frames i zeroFrame) i zeroFrame ≡ zeroFrame
+set-zero [] i = refl
+set-zero (x ∷ xs) zero = refl
+set-zero (x ∷ xs) (suc i) = set-zero xs i
+
+set-keeps-zero : (frames : List StackFrame) (i j : ℕ) → (i ≢ j → getD frames i zeroFrame ≡ zeroFrame) → getD (set frames j zeroFrame) i zeroFrame ≡ zeroFrame
+set-keeps-zero frames i j z = go (eqb i j) refl
+  where
+    go : (b : Bool) → eqb i j ≡ b → getD (set frames j zeroFrame) i zeroFrame ≡ zeroFrame
+    go true e = rw (eqb-true i j e) (set-zero frames j)
+    go false e = getD-set-other frames j i zeroFrame zeroFrame (eqb-false i j e) ∙ z (eqb-false i j e)
+
+-- in any state, also one that a host made up
+pub entry-touches : (P : Program) (f : ℕ) (back : ℤ) (c : Config) → Only (c .state .depth) c (entered P f back c)
+unfolding entered
+entry-touches P f back c j ne = getD-set-other (c .state .frames) (c .state .depth) j (record { «instr_id» = back; «func_id» = c .state .function }) zeroFrame ne
+
+pub leaving-touches : (P : Program) (c : Config) → Only (c .state .depth - 1) c (left P c) × (frameAt (left P c) (c .state .depth - 1) ≡ zeroFrame)
+unfolding left
+leaving-touches P c = (λ j ne. getD-set-other (c .state .frames) (c .state .depth - 1) j zeroFrame zeroFrame ne, set-zero (c .state .frames) (c .state .depth - 1))
+
+module _ (file : List ℕ) where
+  abbrev P : Program
+  P = programOf file
+
+  abbrev GoodStep : Kind → Config → Log → Config → Type 0
+  GoodStep κ c l c′ = Good file (λ c l. ZeroAbove c) FramesBy κ c l c′
+
+  entered-frames : (c : Config) (l : Log) (f : ℕ) (back : ℤ) → ZeroAbove c → All (entryConditions P f c) → GoodStep (entry f back) c l (entered P f back c)
+  unfolding entryConditions entered limits
+  entered-frames c l f back k h =
+      let s = c .state in
+      let frame : StackFrame = record { «instr_id» = back; «func_id» = s .function } in
+      let shallow : s .depth < 31 = ltb-true (s .depth) 31 (h .1 .0) in (
+        (entry-touches P f back c, getD-set-same (s .frames) (s .depth) frame zeroFrame (omega (arith, k .number))),
+        record {
+          number = length-set (s .frames) (s .depth) frame ∙ k .number;
+          zeros = λ i le. entry-touches P f back c i (λ e. omega arith) ∙ k .zeros i (omega arith);
+        },
+      )
+
+  left-frames : (c : Config) (l : Log) → ZeroAbove c → GoodStep leaving c l (left P c)
+  unfolding left
+  left-frames c l k =
+      let s = c .state in (
+        leaving-touches P c,
+        record {
+          number = length-set (s .frames) (s .depth - 1) zeroFrame ∙ k .number;
+          zeros = λ i le. set-keeps-zero (s .frames) i (s .depth - 1) (λ ne. k .zeros i (omega arith));
+        },
+      )
+
+  frames-steps : Steps file (λ c l. ZeroAbove c) FramesBy
+  frames-steps =
+      record {
+        plain = λ c l p cells k keeps. (refl, record { number = k .number; zeros = k .zeros });
+        writing = λ c l a v k h. (refl, record { number = k .number; zeros = k .zeros });
+        entering = entered-frames;
+        returning = λ c l a k h. left-frames (withCells c (copied (successive 3 a 1) (c .cells))) l (record { number = k .number; zeros = k .zeros });
+        leave-one = λ c l k h. left-frames c l k;
+      }
+
+pub frames-by : (file cells saved : List ℕ) (c : Config) → load file cells saved ≡ accepted c → (calls : List Call)
+    → Through file FramesBy (λ c′ l. ZeroAbove c′) c [] calls
+frames-by file cells saved c accepts calls =
+    let started = load-starts file cells saved c accepts in
+    through file (λ c′ l. ZeroAbove c′) FramesBy (frames-steps file) (λ c′ l. ZeroAbove c′) (λ c′ l k. k) c [] calls
+    (record {
+      number = ap length (started .frames) ∙ length-replicate 31 zeroFrame;
+      zeros = λ i le. ap (λ (fs : List StackFrame). getD fs i zeroFrame) (started .frames) ∙ all-zeros 31 i;
+    })
