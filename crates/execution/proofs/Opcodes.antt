@@ -1,15 +1,68 @@
 -- Laws of the opcodes' shapes: the arms of a match on an opcode are rows of the definition's table. Assumes nothing.
-use Prim.Native.Nat.{ℕ, _+_, _<_}
+use Prim.Native.Nat.{ℕ, _+_, _/_, _%_, _^_, _<_}
 use mathlib.Core.Path.{_≡_, refl, sym}
 use mathlib.Core.List.{List}
-use mathlib.Core.Bool.{Bool, true, false, true≢false, _||_}
+use mathlib.Core.Option.{Option·getD}
+use mathlib.Core.Bool.{Bool, true, false, true≢false, _||_, Bool·beq}
+use lib.Dec.{eqb}
+use borrow.Author.Tests.{eq-eqb, ne-eqb}
 use native.Mathlib.Nat.{zero-add}
 use Rattle.definition.specs.Statements.{Shape, floats, values, vectors, dots, strings, negates, negatesV, negatesS, stores, storesV, branches, jumps, call, return, host, opcodes, shapeOf}
 use Rattle.definition.specs.StatementLaws.{every, every-at}
+use Rattle.floats.specs.Opcodes.{floatsOf, floatOp}
 use Rattle.floats.proofs.Opcodes.{among, Missed, missed}
 use Rattle.execution.specs.declared.shapes.Shape as code
 use Rattle.execution.specs.declared.shapes.Shape.the-variants.{Host}
-use Rattle.execution.specs.Shapes.{shapeAs}
+use Rattle.execution.specs.Shapes.{isFloats, shapeAs}
+
+-- a test of each row of the table holds of each opcode's
+row : (f : ℕ → Shape → Bool) (op : ℕ) → op < 66 → every f 0 opcodes ≡ true → f op (shapeOf op) ≡ true
+unfolding shapeOf opcodes
+row f op h t = rw zero-add at (every-at f host opcodes 0 t op h)
+
+-- ---- the bit of an opcode says whether it makes a float of two floats
+
+module _ (op : ℕ) (known : op < 66) where
+  same : (a b : Bool) → Bool·beq a b ≡ true → a ≡ b
+  same true true e = refl
+  same true false e = sym e
+  same false true e = e
+  same false false e = refl
+
+  abbrev bit : ℕ → Bool
+  bit n = eqb n 64 || eqb (13835058055297926498 / 2 ^ (n % 64) % 2) 1
+
+  bit-is : bit op ≡ isFloats (shapeOf op)
+  unfolding opcodes
+  bit-is = same _ _ (row (λ n s. Bool·beq (bit n) (isFloats s)) op known refl)
+
+  pub bit-and-is : op ≡ 64 → true ≡ isFloats (shapeOf op)
+  bit-and-is e = rw (eq-eqb op 64 e) at bit-is
+
+  pub other-bit-is : (op ≡ 64 → ⊥) → eqb (13835058055297926498 / 2 ^ (op % 64) % 2) 1 ≡ isFloats (shapeOf op)
+  other-bit-is e = rw (ne-eqb op 64 e) at bit-is
+
+-- what the table has for such an opcode is what it does with two floats
+pub floats-are : (op : ℕ) → isFloats (shapeOf op) ≡ true → floats (floatOp op) ≡ shapeOf op
+unfolding floatOp
+floats-are op e = go (shapeOf op) e
+  where
+    go : (s : Shape) → isFloats s ≡ true → floats (Option·getD (floatsOf s) (λ a b. 0)) ≡ s
+    go (floats f) e = refl
+    go (values t f) e = absurd (true≢false (sym e))
+    go (vectors ta tb f) e = absurd (true≢false (sym e))
+    go (dots f) e = absurd (true≢false (sym e))
+    go (strings f) e = absurd (true≢false (sym e))
+    go (negates t f) e = absurd (true≢false (sym e))
+    go negatesV e = absurd (true≢false (sym e))
+    go negatesS e = absurd (true≢false (sym e))
+    go (stores t) e = absurd (true≢false (sym e))
+    go storesV e = absurd (true≢false (sym e))
+    go (branches when) e = absurd (true≢false (sym e))
+    go jumps e = absurd (true≢false (sym e))
+    go call e = absurd (true≢false (sym e))
+    go return e = absurd (true≢false (sym e))
+    go host e = absurd (true≢false (sym e))
 
 -- an arm: the opcode is k
 pub at : (s : code.Shape) (k op : ℕ) → op ≡ k → shapeAs s k ≡ shapeOf k → shapeAs s op ≡ shapeOf op
@@ -51,13 +104,9 @@ host-is call e = absurd (true≢false (sym e))
 host-is return e = absurd (true≢false (sym e))
 host-is host e = refl
 
--- the test, over the rows: an opcode that isn't listed goes to the host
+-- the test, over the rows: an opcode that isn't listed, and doesn't make a float of two, goes to the host
 abbrev pub listedOrHost : List ℕ → ℕ → Shape → Bool
-listedOrHost ks op s = among ks op || isHost s
+listedOrHost ks op s = isFloats s || (among ks op || isHost s)
 
-pub rest : (ks : List ℕ) (op : ℕ) → op < 66 → every (listedOrHost ks) 0 opcodes ≡ true → Missed op (Unit {0}) ks → shapeAs Host op ≡ shapeOf op
-unfolding shapeOf opcodes
-rest ks op h t m =
-    let row : listedOrHost ks (0 + op) (shapeOf op) ≡ true = every-at (listedOrHost ks) host opcodes 0 t op h in
-    let row′ : listedOrHost ks op (shapeOf op) ≡ true = rw zero-add at row in
-    host-is (shapeOf op) (rw (missed op (Unit {0}) ks m .1) at row′)
+pub rest : (ks : List ℕ) (op : ℕ) → op < 66 → isFloats (shapeOf op) ≡ false → every (listedOrHost ks) 0 opcodes ≡ true → Missed op (Unit {0}) ks → shapeAs Host op ≡ shapeOf op
+rest ks op h other t m = host-is (shapeOf op) (rw (other, missed op (Unit {0}) ks m .1) at (row (listedOrHost ks) op h t))

@@ -1,14 +1,18 @@
 -- THE SHAPES OF OPCODES: what the code's shape of an opcode is in the definition.
 use Prim.Native.Nat.{ℕ}
 use mathlib.Core.List.{List}
+use mathlib.Core.Bool.{Bool, true, false}
 use Rattle.definition.specs.Cells.{Typing}
 use Rattle.definition.specs.Statements.{Shape, floats, values, vectors, dots, strings, negates, negatesV, negatesS, stores, storesV, branches, jumps, call, return, host}
 use Rattle.definition.specs.Statements.{Effect, floatsEffect, valuesEffect, vectorsEffect, dotsEffect, stringsEffect, negatesEffect, negatesVEffect, negatesSEffect, storesEffect, storesVEffect}
-use Rattle.floats.specs.Opcodes.{floatOp, valueOp, componentOp, dotOp, notOp}
+use Rattle.floats.specs.Opcodes.{byShape, floatOp, valueOp, componentOp, dotOp, notOp}
 use Rattle.execution.specs.declared.shapes.CellOp.{CellOp}
 use Rattle.execution.specs.declared.shapes.CellOp.the-variants.{Floats, Values, Vectors, Dots, Strings, Nots, NotV, NotS, Stores, StoreV}
 use Rattle.execution.specs.declared.shapes.Shape as code
 use Rattle.execution.specs.declared.shapes.Shape.the-variants.{Cells, Branch, Goto, Call, Return, Host}
+
+abbrev pub isFloats : Shape → Bool
+isFloats = byShape (λ g. true) (λ g. false) (λ g. false) (λ g. false) (λ g. false) false
 
 abbrev pub cellShape : CellOp → ℕ → Shape
 cellShape Floats op = floats (floatOp op)

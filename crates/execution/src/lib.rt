@@ -1,4 +1,4 @@
-// Execution of a fetched statement, over typed cells and the statements (globals.rs).
+// Execution of a fetched statement, over typed cells and the statements that write them.
 use crate::shapes::CellOp;
 use crate::shapes::Shape;
 use definition::Answer;
@@ -49,8 +49,18 @@ fn write(
     ensures { λ r. ⌜ after r (now (cells .exit)) ≡ effectOn (effectAs what op (typing (now (file .entry)) defs ndefs count) a b c (now (cells .entry))) (now (cells .entry)) ⌝ }
 {
     match what {
-        CellOp::Floats => return globals::op_floats(file, defs, ndefs, count, cells, op, a, b, c),
-        CellOp::Values(t) => return globals::op_values(
+        CellOp::Floats => return arithmetic::op_floats(
+            file,
+            defs,
+            ndefs,
+            count,
+            cells,
+            op,
+            a,
+            b,
+            c,
+        ),
+        CellOp::Values(t) => return comparisons::op_values(
             file,
             defs,
             ndefs,
@@ -62,7 +72,7 @@ fn write(
             b,
             c,
         ),
-        CellOp::Vectors(ta, tb) => return globals::op_vectors(
+        CellOp::Vectors(ta, tb) => return arithmetic::op_vectors(
             file,
             defs,
             ndefs,
@@ -75,13 +85,34 @@ fn write(
             b,
             c,
         ),
-        CellOp::Dots => return globals::op_dots(file, defs, ndefs, count, cells, op, a, b, c),
-        CellOp::Strings => return globals::op_strings(file, defs, ndefs, count, cells, op, a, b, c),
-        CellOp::Nots(t) => return globals::op_nots(file, defs, ndefs, count, cells, op, t, a, b, c),
-        CellOp::NotV => return globals::op_not_v(file, defs, ndefs, count, cells, a, b, c),
-        CellOp::NotS => return globals::op_not_s(file, defs, ndefs, count, cells, a, b, c),
-        CellOp::Stores(t) => return globals::op_stores(file, defs, ndefs, count, cells, t, a, b, c),
-        CellOp::StoreV => return globals::op_store_v(file, defs, ndefs, count, cells, a, b, c),
+        CellOp::Dots => return arithmetic::op_dots(file, defs, ndefs, count, cells, op, a, b, c),
+        CellOp::Strings => return comparisons::op_strings(
+            file,
+            defs,
+            ndefs,
+            count,
+            cells,
+            op,
+            a,
+            b,
+            c,
+        ),
+        CellOp::Nots(t) => return comparisons::op_nots(
+            file,
+            defs,
+            ndefs,
+            count,
+            cells,
+            op,
+            t,
+            a,
+            b,
+            c,
+        ),
+        CellOp::NotV => return comparisons::op_not_v(file, defs, ndefs, count, cells, a, b, c),
+        CellOp::NotS => return comparisons::op_not_s(file, defs, ndefs, count, cells, a, b, c),
+        CellOp::Stores(t) => return stores::op_stores(file, defs, ndefs, count, cells, t, a, b, c),
+        CellOp::StoreV => return stores::op_store_v(file, defs, ndefs, count, cells, a, b, c),
     }
 }
 

@@ -31,6 +31,10 @@ module _ (r a b : ℕ) where
   unfolding first
   go-on h e = rw (eq-eqb a 0 h) e
 
+-- the check before, whose number is x, passed
+pub passed : {x a r b : ℕ} → x ≡ a → x ≡ 0 → r ≡ b → r ≡ first a b
+passed e z h = go-on _ _ _ (sym e ∙ z) h
+
 pub neither : (a b : ℕ) → first a b ≡ 0 → (a ≡ 0) × (b ≡ 0)
 unfolding first
 neither a b e = go (eqb a 0) refl e

@@ -11,7 +11,7 @@ check-cell-requires : tie.Need-check-cell-requires
 check-cell-requires c κs = search needs
 
 returns : tie.Need-returns
-returns c = branch-refused _ _ _ _ _ _ _ (c .if1 .taken) (cc)
+returns c = branch-refused _ _ _ _ _ _ _ (c .if1 .taken) (c .before .check-cell .ensures)
 
 mul-is-zero : tie.Need-mul-is-zero
 mul-is-zero c = let h = cell-reach _ _ _ (sym (c .before .check-cell .ensures) ∙ c .if1 .left) in search needs
@@ -26,13 +26,13 @@ jump-requires : tie.Need-jump-requires
 jump-requires c κs = search needs
 
 returns-2 : tie.Need-returns-2
-returns-2 c = rw (toZ-ofZ {w = w64} {z = c .jump .result} (record { sfits = c .jump .ok })) (branch-jumps _ _ _ _ _ _ (cc) _ _ (c .before .before .is-zero .ensures) (c .before .if2 .taken) (c .jump .ensures))
+returns-2 c = rw (toZ-ofZ {w = w64} {z = c .jump .result} (record { sfits = c .jump .ok })) (branch-jumps _ _ _ _ _ _ (sym (c .before .before .before .before .before .check-cell .ensures) ∙ c .before .before .before .before .if1 .left) _ _ (c .before .before .is-zero .ensures) (c .before .if2 .taken) (c .jump .ensures))
 
 after-requires : tie.Need-after-requires
 after-requires c κs = search needs
 
 returns-3 : tie.Need-returns-3
-returns-3 c = rw (toZ-ofZ {w = w64} {z = c .after .result} (record { sfits = c .after .ok })) (branch-passes _ _ _ _ _ _ (cc) _ _ (c .before .before .is-zero .ensures) (c .before .if2 .left) (c .after .ensures))
+returns-3 c = rw (toZ-ofZ {w = w64} {z = c .after .result} (record { sfits = c .after .ok })) (branch-passes _ _ _ _ _ _ (sym (c .before .before .before .before .before .check-cell .ensures) ∙ c .before .before .before .before .if1 .left) _ _ (c .before .before .is-zero .ensures) (c .before .if2 .left) (c .after .ensures))
 
 pub branch-spec : {M : Type 1} → statement M
 branch-spec =

@@ -9,7 +9,7 @@ check-cell-requires : tie.Need-check-cell-requires
 check-cell-requires c κs = search needs
 
 returns : tie.Need-returns
-returns c = call-refused _ _ _ _ _ (c .if1 .taken) (cc)
+returns c = call-refused _ _ _ _ _ (c .if1 .taken) (c .before .check-cell .ensures)
 
 mul-callee : tie.Need-mul-callee
 mul-callee c = let h = cell-reach _ _ _ (sym (c .before .check-cell .ensures) ∙ c .if1 .left) in search needs
@@ -21,7 +21,7 @@ callee-requires : tie.Need-callee-requires
 callee-requires c κs = search needs
 
 returns-2 : tie.Need-returns-2
-returns-2 c = call-goes _ _ _ _ _ (cc) (c .callee .ensures _)
+returns-2 c = call-goes _ _ _ _ _ (sym (c .before .before .before .check-cell .ensures) ∙ c .before .before .if1 .left) (c .callee .ensures _)
 
 pub call-spec : {M : Type 1} → statement M
 call-spec =

@@ -1,3 +1,4 @@
+use mathlib.Core.Path.{sym, _∙_}
 use Rattle.functions.specs.Laws.{length-records, function-found}
 use Rattle.execution.proofs.Transfers.{call-none, call-missing, call-unknown, call-builtin, call-enters}
 use borrow.Author.Needs.{needs}
@@ -17,10 +18,10 @@ enum-told : tie.Need-enum-told
 enum-told c = search needs
 
 returns-2 : tie.Need-returns-2
-returns-2 c = λ cells. call-missing _ _ (search needs) _ (length-records _ _ _ _) (cc)
+returns-2 c = λ cells. call-missing _ _ (c .before .before .before .if1 .left) _ (length-records _ _ _ _) (sym (c .enum-told .given .1) ∙ c .before .before .id-from-i32 .ensures)
 
 get-def-requires : tie.Need-get-def-requires
-get-def-requires c κs = (search needs, function-found (c .before .before .before .before .before .before .args .value) (c .before .before .before .before .before .before .args .nfunctions) (c .before .f .given .0 .0) (cc) .1)
+get-def-requires c κs = (search needs, function-found (c .before .before .before .before .before .before .args .value) (c .before .before .before .before .before .before .args .nfunctions) (c .before .f .given .0 .0) (sym (c .before .f .given .1) ∙ c .before .before .before .id-from-i32 .ensures) .1)
 
 is-builtin-requires : tie.Need-is-builtin-requires
 is-builtin-requires c κs = search needs
@@ -32,13 +33,13 @@ builtin-of-requires : tie.Need-builtin-of-requires
 builtin-of-requires c κs = cc
 
 returns-3 : tie.Need-returns-3
-returns-3 c = λ cells. rw (c .builtin-of .ensures) (call-builtin _ _ (search needs) _ (length-records _ _ _ _) _ (cc) _ (c .before .before .before .before .before .get-def .ensures) (cc) (cc))
+returns-3 c = λ cells. rw (c .builtin-of .ensures) (call-builtin _ _ (c .before .before .before .before .before .before .before .before .before .before .if1 .left) _ (length-records _ _ _ _) _ (sym (c .before .before .before .before .before .before .before .f .given .1) ∙ c .before .before .before .before .before .before .before .before .before .id-from-i32 .ensures) _ (c .before .before .before .before .before .get-def .ensures) (sym (c .before .before .before .before .is-builtin .ensures) ∙ c .before .before .before .if2 .taken) (sym (c .before .before .builtin-known .ensures) ∙ c .before .if3 .taken))
 
 returns-4 : tie.Need-returns-4
-returns-4 c = λ cells. call-unknown _ _ (search needs) _ (length-records _ _ _ _) _ (cc) _ (c .before .before .before .before .get-def .ensures) (cc) (cc)
+returns-4 c = λ cells. call-unknown _ _ (c .before .before .before .before .before .before .before .before .before .if1 .left) _ (length-records _ _ _ _) _ (sym (c .before .before .before .before .before .before .f .given .1) ∙ c .before .before .before .before .before .before .before .before .id-from-i32 .ensures) _ (c .before .before .before .before .get-def .ensures) (sym (c .before .before .before .is-builtin .ensures) ∙ c .before .before .if2 .taken) (sym (c .before .builtin-known .ensures) ∙ c .if3 .left)
 
 returns-5 : tie.Need-returns-5
-returns-5 c = λ cells. call-enters _ _ (search needs) _ (length-records _ _ _ _) _ (cc) _ (c .before .before .get-def .ensures) (cc)
+returns-5 c = λ cells. call-enters _ _ (c .before .before .before .before .before .before .before .if1 .left) _ (length-records _ _ _ _) _ (sym (c .before .before .before .before .f .given .1) ∙ c .before .before .before .before .before .before .id-from-i32 .ensures) _ (c .before .before .get-def .ensures) (sym (c .before .is-builtin .ensures) ∙ c .if2 .left)
 
 pub callee-spec : {M : Type 1} → statement M
 callee-spec =

@@ -45,7 +45,7 @@ same-length-2 : tie.Need-same-length-2
 same-length-2 c = search needs
 
 returns-2 : tie.Need-returns-2
-returns-2 c = transferred _ _ _ _ _ _ _ _ (c .before .before .before .before .before .shape-of .result) (Branch _) (c .before .before .before .shape2 .given .1) (c .before .before .before .before .before .shape-of .ensures) _ (cc)
+returns-2 c = transferred _ _ _ _ _ _ _ _ (c .before .before .before .before .before .shape-of .result) (Branch _) (c .before .before .before .shape2 .given .1) (c .before .before .before .before .before .shape-of .ensures) _ (rw (c .before .before .before .before .before .before .cell-of .ensures) at (c .branch .ensures))
 
 enum-told : tie.Need-enum-told
 enum-told c = search needs
@@ -54,7 +54,7 @@ jump-requires : tie.Need-jump-requires
 jump-requires c κs = search needs
 
 returns-3 : tie.Need-returns-3
-returns-3 c = rw (toZ-ofZ {w = w64} {z = c .jump .result} (record { sfits = c .jump .ok })) (transferred _ _ _ _ _ _ _ _ (c .before .before .before .shape-of .result) Goto (cc) (c .before .before .before .shape-of .ensures) _ (cc))
+returns-3 c = rw (toZ-ofZ {w = w64} {z = c .jump .result} (record { sfits = c .jump .ok })) (transferred _ _ _ _ _ _ _ _ (c .before .before .before .shape-of .result) Goto (c .before .enum-told .given .1) (c .before .before .before .shape-of .ensures) _ (cc))
 
 enum-told-2 : tie.Need-enum-told-2
 enum-told-2 c = search needs
@@ -66,19 +66,19 @@ same-length-3 : tie.Need-same-length-3
 same-length-3 c = search needs
 
 returns-4 : tie.Need-returns-4
-returns-4 c = transferred _ _ _ _ _ _ _ _ (c .before .before .before .before .shape-of .result) Call (cc) (c .before .before .before .before .shape-of .ensures) _ (cc)
+returns-4 c = transferred _ _ _ _ _ _ _ _ (c .before .before .before .before .shape-of .result) Call (c .before .before .enum-told2 .given .1) (c .before .before .before .before .shape-of .ensures) _ (rw (c .before .before .before .before .before .cell-of .ensures) at (c .call .ensures))
 
 enum-told-3 : tie.Need-enum-told-3
 enum-told-3 c = search needs
 
 returns-5 : tie.Need-returns-5
-returns-5 c = transferred _ _ _ _ _ _ _ _ (c .before .before .shape-of .result) Return (cc) (c .before .before .shape-of .ensures) _ (cc)
+returns-5 c = transferred _ _ _ _ _ _ _ _ (c .before .before .shape-of .result) Return (c .enum-told3 .given .1) (c .before .before .shape-of .ensures) _ (cc)
 
 enum-told-4 : tie.Need-enum-told-4
 enum-told-4 c = search needs
 
 returns-6 : tie.Need-returns-6
-returns-6 c = transferred _ _ _ _ _ _ _ _ (c .before .before .shape-of .result) Host (cc) (c .before .before .shape-of .ensures) _ (cc)
+returns-6 c = transferred _ _ _ _ _ _ _ _ (c .before .before .shape-of .result) Host (c .enum-told4 .given .1) (c .before .before .shape-of .ensures) _ (cc)
 
 pub execute-spec : {M : Type 1} → statement M
 execute-spec =

@@ -1,4 +1,4 @@
-use Rattle.typed.specs.Laws.{stop, go-on}
+use Rattle.typed.specs.Laws.{stop, passed}
 use borrow.Author.Needs.{needs}
 use Rattle.globals.proofs.check_unary.Statement.{statement}
 use Rattle.globals.proofs.check_unary.Tie as tie
@@ -7,13 +7,13 @@ check-unused-requires : tie.Need-check-unused-requires
 check-unused-requires c κs = search needs
 
 returns : tie.Need-returns
-returns c = stop _ _ _ (c .if1 .taken) (cc)
+returns c = stop _ _ _ (c .if1 .taken) (c .before .check-unused .ensures)
 
 check-move-requires : tie.Need-check-move-requires
 check-move-requires c κs = search needs
 
 returns-2 : tie.Need-returns-2
-returns-2 c = go-on _ _ _ (cc) (cc)
+returns-2 c = passed (c .before .before .check-unused .ensures) (c .before .if1 .left) (c .check-move .ensures)
 
 pub check-unary-spec : {M : Type 1} → statement M
 check-unary-spec = tie.close (tie.spec check-unused-requires returns check-move-requires returns-2)

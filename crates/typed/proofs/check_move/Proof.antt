@@ -1,4 +1,4 @@
-use Rattle.typed.specs.Laws.{stop, go-on}
+use Rattle.typed.specs.Laws.{stop, passed}
 use borrow.Author.Needs.{needs}
 use Rattle.typed.proofs.check_move.Statement.{statement}
 use Rattle.typed.proofs.check_move.Tie as tie
@@ -7,13 +7,13 @@ check-read-requires : tie.Need-check-read-requires
 check-read-requires c κs = search needs
 
 returns : tie.Need-returns
-returns c = stop _ _ _ (c .if1 .taken) (cc)
+returns c = stop _ _ _ (c .if1 .taken) (c .before .check-read .ensures)
 
 check-access-requires : tie.Need-check-access-requires
 check-access-requires c κs = search needs
 
 returns-2 : tie.Need-returns-2
-returns-2 c = go-on _ _ _ (cc) (cc)
+returns-2 c = passed (c .before .before .check-read .ensures) (c .before .if1 .left) (c .check-access .ensures)
 
 pub check-move-spec : {M : Type 1} → statement M
 check-move-spec = tie.close (tie.spec check-read-requires returns check-access-requires returns-2)

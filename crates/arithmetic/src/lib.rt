@@ -1,0 +1,163 @@
+// Float and vector arithmetic, and comparisons of floats and vectors. A function here stands for the Rust's functions that its comment lists.
+use definition::Answer;
+ghost use mathlib.Core.Path.{_≡_};
+ghost use Prim.Native.Nat.{_+_, _-_, _*_, _≤_, _<_};
+ghost use lib.ListN.{length, getD, set};
+ghost use Rattle.definition.specs.Cells.{float};
+ghost use Rattle.definition.specs.Statements.{floatsEffect, vectorsEffect, dotsEffect, component, vectorResult};
+ghost use Rattle.floats.specs.Opcodes.{floatOp, componentOp, dotOp};
+ghost use Rattle.typed.specs.Typing.{typing};
+ghost use Rattle.typed.specs.Checking.{threeRefusal, Reaches};
+ghost use Rattle.globals.specs.Effects.{after, effectOn};
+
+// The commonest accesses: three cells, each as a float.
+fn check_floats(
+    file: &[u8],
+    defs: usize,
+    ndefs: usize,
+    count: usize,
+    a: usize,
+    b: usize,
+    c: usize,
+) -> u8
+    requires { ⌜ 8 * ndefs ≤ length (now file) - defs ⌝ }
+    ensures { λ r. ⌜ r ≡ threeRefusal (typing (now (file .entry)) defs ndefs count) float a float b float c ⌝ }
+{
+    let x = typed::check_cell(file, defs, ndefs, count, typed::FLOAT, a);
+    if x != 0 {
+        return x;
+    }
+    let y = typed::check_cell(file, defs, ndefs, count, typed::FLOAT, b);
+    if y != 0 {
+        return y;
+    }
+    typed::check_cell(file, defs, ndefs, count, typed::FLOAT, c)
+}
+
+fn apply_floats(cells: &mut [u32], op: u16, a: usize, b: usize, c: usize)
+    requires { ⌜ (a < length (now cells)) × (b < length (now cells)) × (c < length (now cells)) ⌝ }
+    ensures { λ _. ⌜ now (cells .exit) ≡ set (now (cells .entry)) c (floatOp op (getD (now (cells .entry)) a 0) (getD (now (cells .entry)) b 0)) ⌝ }
+{
+    cells[c] = floats::float_op(op, cells[a], cells[b]);
+}
+
+// op_mul_f, op_div, op_add_f, op_sub_f, op_eq_f, op_ne_f, op_le, op_ge, op_lt, op_gt, op_and, op_or, op_bit_and, op_bit_or.
+pub fn op_floats(
+    file: &[u8],
+    defs: usize,
+    ndefs: usize,
+    count: usize,
+    cells: &mut [u32],
+    op: u16,
+    a: usize,
+    b: usize,
+    c: usize,
+) -> Answer
+    requires { ⌜ (8 * ndefs ≤ length (now file) - defs) × (count ≤ length (now cells)) ⌝ }
+    ensures { λ r. ⌜ after r (now (cells .exit)) ≡ effectOn (floatsEffect (floatOp op) (typing (now (file .entry)) defs ndefs count) a b c (now (cells .entry))) (now (cells .entry)) ⌝ }
+{
+    let refusal = check_floats(file, defs, ndefs, count, a, b, c);
+    if refusal != 0 {
+        return Answer::Refused(refusal);
+    }
+    apply_floats(cells, op, a, b, c);
+    Answer::Accepted
+}
+
+// Component i of an operand: a float serves for all three.
+fn component(cells: &[u32], t: u16, cell: usize, i: usize) -> u32
+    requires { ⌜ component t cell i < length (now cells) ⌝ }
+    ensures { λ r. ⌜ r ≡ getD (now (cells .entry)) (component t cell i) 0 ⌝ }
+{
+    if t == typed::VECTOR {
+        return cells[cell + i];
+    }
+    cells[cell]
+}
+
+// All is read before it is written.
+fn apply_vectors(cells: &mut [u32], op: u16, ta: u16, a: usize, tb: u16, b: usize, c: usize)
+    requires { ⌜ (Reaches ta a (length (now cells))) × (Reaches tb b (length (now cells))) × (c + 2 < length (now cells)) ⌝ }
+    ensures { λ _. ⌜ now (cells .exit) ≡ vectorResult ta tb (componentOp op) a b c (now (cells .entry)) ⌝ }
+{
+    let x = floats::component_op(op, cells[a], cells[b]);
+    let y = floats::component_op(op, component(cells, ta, a, 1), component(cells, tb, b, 1));
+    let z = floats::component_op(op, component(cells, ta, a, 2), component(cells, tb, b, 2));
+    cells[c] = x;
+    cells[c + 1] = y;
+    cells[c + 2] = z;
+}
+
+// op_mul_fv, op_mul_vf, op_add_v, op_sub_v; ta and tb are the operands' types.
+pub fn op_vectors(
+    file: &[u8],
+    defs: usize,
+    ndefs: usize,
+    count: usize,
+    cells: &mut [u32],
+    op: u16,
+    ta: u16,
+    a: usize,
+    tb: u16,
+    b: usize,
+    c: usize,
+) -> Answer
+    requires { ⌜ (8 * ndefs ≤ length (now file) - defs) × (count ≤ length (now cells)) ⌝ }
+    ensures { λ r. ⌜ after r (now (cells .exit)) ≡ effectOn (vectorsEffect ta tb (componentOp op) (typing (now (file .entry)) defs ndefs count) a b c (now (cells .entry))) (now (cells .entry)) ⌝ }
+{
+    let refusal = typed::check_three(file, defs, ndefs, count, ta, a, tb, b, typed::VECTOR, c);
+    if refusal != 0 {
+        return Answer::Refused(refusal);
+    }
+    apply_vectors(cells, op, ta, a, tb, b, c);
+    Answer::Accepted
+}
+
+fn apply_dots(cells: &mut [u32], op: u16, a: usize, b: usize, c: usize)
+    requires { ⌜ (a + 2 < length (now cells)) × (b + 2 < length (now cells)) × (c < length (now cells)) ⌝ }
+    ensures { λ _. ⌜ now (cells .exit) ≡ set (now (cells .entry)) c (dotOp op (getD (now (cells .entry)) a 0) (getD (now (cells .entry)) (a + 1) 0) (getD (now (cells .entry)) (a + 2) 0) (getD (now (cells .entry)) b 0) (getD (now (cells .entry)) (b + 1) 0) (getD (now (cells .entry)) (b + 2) 0)) ⌝ }
+{
+    cells[c] = floats::dot_op(
+        op,
+        cells[a],
+        cells[a + 1],
+        cells[a + 2],
+        cells[b],
+        cells[b + 1],
+        cells[b + 2],
+    );
+}
+
+// op_mul_v, op_eq_v, op_ne_v.
+pub fn op_dots(
+    file: &[u8],
+    defs: usize,
+    ndefs: usize,
+    count: usize,
+    cells: &mut [u32],
+    op: u16,
+    a: usize,
+    b: usize,
+    c: usize,
+) -> Answer
+    requires { ⌜ (8 * ndefs ≤ length (now file) - defs) × (count ≤ length (now cells)) ⌝ }
+    ensures { λ r. ⌜ after r (now (cells .exit)) ≡ effectOn (dotsEffect (dotOp op) (typing (now (file .entry)) defs ndefs count) a b c (now (cells .entry))) (now (cells .entry)) ⌝ }
+{
+    let refusal = typed::check_three(
+        file,
+        defs,
+        ndefs,
+        count,
+        typed::VECTOR,
+        a,
+        typed::VECTOR,
+        b,
+        typed::FLOAT,
+        c,
+    );
+    if refusal != 0 {
+        return Answer::Refused(refusal);
+    }
+    apply_dots(cells, op, a, b, c);
+    Answer::Accepted
+}
