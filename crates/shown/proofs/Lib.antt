@@ -1,0 +1,2 @@
+-- What the proofs of `shown` share.
+pub mod Laws

@@ -1,0 +1,99 @@
+// What the show program prints for a file: document 01's last situation, over the machine's operations.
+ghost use mathlib.Core.Path.{_≡_};
+ghost use Prim.Native.Nat.{_≤_};
+ghost use lib.ListN.{length, getD};
+ghost use Rattle.definition.specs.Load.{programOf};
+ghost use Rattle.progs.specs.Contexts.{stateOf, config};
+ghost use Rattle.server.specs.Stepping.{ranOf};
+ghost use Rattle.text.specs.Output.{output, atFront};
+ghost use Rattle.shown.specs.Shown.{stateLine, enteredAndRun, shown, printed, atFrontOf};
+use definition::Answer;
+use definition::RunAnswer;
+use progs::ExecutionContext;
+use progs::load;
+use server::Ran;
+
+// 0 past the end. (After an accepted load there are 36 cells or more.)
+fn cell_at(cells: &[u32], i: usize) -> u32
+    ensures { λ r. ⌜ r ≡ getD (now (cells .entry)) i 0 ⌝ }
+{
+    if i < cells.len() {
+        return cells[i];
+    }
+    0
+}
+
+fn state_line(
+    line: &mut [u8],
+    answer: RunAnswer,
+    count: u32,
+    context: ExecutionContext,
+    cells: &[u32],
+) -> usize
+    requires { ⌜ 160 ≤ length (now line) ⌝ }
+    ensures { λ r. ⌜ output (now (line .exit)) r ≡ atFront (stateLine answer count (stateOf context) (now (cells .entry))) (now (line .entry)) ⌝ }
+    ensures { λ r. ⌜ r ≤ 160 ⌝ }
+{
+    let c1 = cell_at(cells, 1);
+    let c2 = cell_at(cells, 2);
+    let c3 = cell_at(cells, 3);
+    text::show_line(
+        line,
+        answer,
+        count,
+        context.pc,
+        context.current_function,
+        context.depth,
+        context.saved,
+        c1,
+        c2,
+        c3,
+    )
+}
+
+// Enters function 1 and runs to depth 0. A refused entry is a run that completes nothing.
+fn enter_and_run(
+    context: ExecutionContext,
+    file: &[u8],
+    cells: &mut [u32],
+    saved: &mut [u32],
+) -> Ran
+    ensures { λ r. ⌜ ranOf r (now (cells .exit)) (now (saved .exit)) ≡ enteredAndRun (programOf (now (file .entry))) (config context (now (cells .entry)) (now (saved .entry))) ⌝ }
+{
+    let entered = context.enter(file, 1, cells, saved);
+    let context = entered.context;
+    let answer = entered.answer;
+    match answer {
+        Answer::Refused(n) => {
+            return Ran {
+                context,
+                answer: RunAnswer::Refused(n),
+                count: 0,
+            };
+        }
+        Answer::Accepted => return server::run(context, file, 0, 99999, cells, saved),
+    }
+}
+
+// The line stands at the front of `line`; the result is its length.
+pub fn show(file: &[u8], cells: &mut [u32], saved: &mut [u32], line: &mut [u8]) -> usize
+    requires { ⌜ 160 ≤ length (now line) ⌝ }
+    ensures { λ r. ⌜ printed (output (now (line .exit)) r) (now (cells .exit)) (now (saved .exit)) ≡ atFrontOf (now (line .entry)) (shown (now (file .entry)) (now (cells .entry)) (now (saved .entry))) ⌝ }
+    ensures { λ r. ⌜ r ≤ 160 ⌝ }
+{
+    if 65536 < file.len() {
+        return text::refused_line(line, 1);
+    }
+    let loaded = load::load(file, cells, saved);
+    let context = loaded.context;
+    let answer = loaded.answer;
+    match answer {
+        Answer::Refused(n) => return text::refused_line(line, n),
+        Answer::Accepted => {
+            let ran = enter_and_run(context, file, cells, saved);
+            let last = ran.context;
+            let outcome = ran.answer;
+            return state_line(line, outcome, ran.count, last, cells);
+        }
+    }
+}
