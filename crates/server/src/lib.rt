@@ -207,13 +207,14 @@ fn run_for(
                 count += 1;
             }
             _ => {
+                let completed = count + 1;
                 let stepped = perform(now, file, done, cells, saved);
                 let answer = stepped.answer;
                 now = stepped.context;
                 let StatementAnswer::Completed = answer else {
                     return stopped(now, answer, count);
                 };
-                count += 1;
+                count = completed;
                 if now.depth == target {
                     return Ran {
                         context: now,

@@ -64,6 +64,9 @@ loop-again c =
     let g : SFits w64 (c .before .done .given .0 .0) = search needs in
     (((k ∙ i .0 .0 .0, i .0 .0 .1), rw (toZ-ofZ g) (within-lent _ _ _ _ _ _ (next-within _ _ _ _ _ (i .0 .1)) k refl)), rw (toZ-ofZ g) (turn-next _ _ _ _ _ _ _ _ (i .1) (c .before .before .before .before .before .before .before .before .loop-test .taken) _ _ (did d) _ _ (c .before .done .given .1) refl))
 
+add-completed : tie.Need-add-completed Inv-loop μ-loop
+add-completed c = omega (arith, c .before .before .before .before .before .before .loop-test .taken, c .before .before .before .before .before .before .before .before .before .before .before .before .before .before .before .before .good .1 .1 .0)
+
 perform-requires : tie.Need-perform-requires Inv-loop μ-loop
 perform-requires c κs =
     let d = c .before .before .before .before .before in
@@ -86,9 +89,6 @@ returns : tie.Need-returns Inv-loop μ-loop
 returns c =
     let l = c .before .before .before .before .before .before .before .before .before .before .before .before .before .before .before .before .before in
     turn-stopped _ _ _ _ _ _ _ _ (l .loop .inv .1) (c .before .before .before .before .before .before .before .before .before .before .before .before .before .before .before .before .loop-test .taken) _ _ (did (c .before .before .before .before .before .before .before .before .before .before .before .before .before)) _ _ _ (c .before .before .before .before .before .before .before .perform .ensures) (λ a. miss (1 ∷ 2 ∷ []) 0 tt (rw a at (c .before .match2 .keys2))) _ (c .stopped .ensures)
-
-add-count-2 : tie.Need-add-count-2 Inv-loop μ-loop
-add-count-2 c = omega (arith, c .before .before .before .before .before .before .before .before .before .before .before .before .before .before .before .before .loop-test .taken, c .before .before .before .before .before .before .before .before .before .before .before .before .before .before .before .before .before .before .before .before .before .before .before .before .before .before .good .1 .1 .0)
 
 same-length-3 : tie.Need-same-length-3 Inv-loop μ-loop
 same-length-3 c = c .before .before .before .before .before .before .before .before .before .perform .kept .1 .1 .1 .0 ∙ c .before .before .before .before .before .before .before .before .before .before .before .before .before .before .before .does .kept .1 .1 .1 .1 .1 .1 .1 .1 .0 ∙ c .before .before .before .before .before .before .before .before .before .before .before .before .before .before .before .before .before .before .before .loop .inv .0 .0 .0
@@ -136,13 +136,13 @@ run-for-spec =
     add-count
     loop-less
     loop-again
+    add-completed
     perform-requires
     enum-told
     stopped-requires
     same-length
     same-length-2
     returns
-    add-count-2
     same-length-3
     same-length-4
     returns-2
