@@ -5,9 +5,10 @@ use mathlib.Core.List.{List}
 use lib.ListN.{length, getD, List·getD-eq-default}
 use Rattle.definition.specs.declared.FileRecord.{FileRecord}
 use Rattle.definition.specs.declared.FunctionDef.{FunctionDef}
-use Rattle.definition.specs.File.{readFunction, recordsIn, noFunction}
+use Rattle.definition.specs.File.{contentsAt, readFunction, recordsIn, noFunction}
 use Rattle.definition.specs.Machine.{Program, functionOf}
-use Rattle.definition.specs.Load.{programOf}
+use Rattle.definition.specs.Load.{programAt, programOf}
+use Rattle.execution.specs.Execution.{functionsIn}
 use Rattle.functions.specs.Laws.{function-of, count-functions}
 use Rattle.progs.specs.Contexts.{Loaded, rangeOf}
 
@@ -26,3 +27,7 @@ module _ (file : List ℕ) (r : FileRecord) (h : Loaded file r) where
 
   pub no-locals : (f : ℕ) → r .functions .count ≤ f → record { start = 0; count = 0 } ≡ rangeOf (functionOf (programOf file) f)
   no-locals f k = rw (List·getD-eq-default (programOf file .functions) noFunction {n = f} (function-absent f k))
+
+  pub functions-here : functionsIn file (r .functions .offset) (r .functions .count) ≡ programOf file .functions
+  unfolding programAt contentsAt
+  functions-here = ap (λ (q : FileRecord). contentsAt q file .functions) (h .same)

@@ -5,6 +5,7 @@ pub mod DoesLaws
 pub mod EntryLaws
 pub mod LeaveLaws
 pub mod StateLaws
+pub mod NumberLaws
 pub mod AbandonLaws
 pub mod HostLaws
 pub mod LoadLaws

@@ -6,7 +6,11 @@ ghost use lib.ListN.{length};
 ghost use Rattle.definition.specs.Checks.{judge};
 ghost use Rattle.definition.specs.Machine.{Program, functionOf, present, entryConditions, entered, enter, leaveConditions, left, leave};
 ghost use Rattle.definition.specs.Load.{programOf};
+ghost use Rattle.definition.specs.File.{lumpFits};
+ghost use Rattle.functions.specs.Answers.{lump};
+ghost use Rattle.execution.specs.Execution.{functionsIn};
 ghost use Rattle.progs.specs.Contexts.{stateOf, config, outcomeOf, after, refusing, return, bare, rangeOf, Loaded, Within};
+ghost use Rattle.progs.specs.Numbers.{numbered, enteredContext, noEntry, entryOf, entering};
 use crate::Answered;
 use crate::ExecutionContext;
 use crate::copies;
@@ -18,6 +22,86 @@ use definition::StackFrame;
 pub struct Locals {
     pub start: usize,
     pub count: usize,
+}
+
+// What an entry comes to, the cells apart: the number of its refusal, or 0 with what the context takes over.
+pub struct Entry {
+    pub refusal: u8,
+    pub first: i64,
+    pub locals: usize,
+}
+
+// 0, or the number of the refusal of an entry into a function that is there.
+fn entry_refusal(def: FunctionDef, depth: usize, held: usize, count: usize) -> u8
+    requires { ⌜ held ≤ 2048 ⌝ }
+    ensures { λ r. ⌜ ((P : Program) (f : ℕ) → f < length (P .functions) → def ≡ functionOf P f → r ≡ judge (entryConditions P f (bare (numbered depth held count)))) ⌝ }
+{
+    let start = def.start as usize;
+    let locals = def.locals as usize;
+    let argsz = def.argsz;
+    if 31 <= depth {
+        return 22;
+    }
+    // A negative count's bits are over 2,048.
+    if 2048 < held + locals {
+        return 23;
+    }
+    if !copies::in_range(start, locals, count) {
+        return 15;
+    }
+    if 8 < def.argc {
+        return 24;
+    }
+    if !copies::arguments_in_range(argsz, start, def.argc as usize, count) {
+        return 15;
+    }
+    if functions::is_builtin(def) { 21 } else { 0 }
+}
+
+fn no_entry(refusal: u8) -> Entry
+    ensures { λ r. ⌜ r ≡ noEntry refusal ⌝ }
+{
+    Entry {
+        refusal,
+        first: 0,
+        locals: 0,
+    }
+}
+
+// An entry as far as cells go: checks it, saves the local range and copies the arguments. A run keeps its context in place, and takes numbers from here.
+pub fn enter_cells(
+    file: &[u8],
+    functions: usize,
+    nfunctions: usize,
+    f: usize,
+    depth: usize,
+    held: usize,
+    count: usize,
+    cells: &mut [u32],
+    saved: &mut [u32],
+) -> Entry
+    requires { ⌜ lumpFits 36 (length (now file)) (lump functions nfunctions) ≡ true ⌝ }
+    requires { ⌜ (held ≤ 2048) × (2048 ≤ length (now saved)) × (count ≤ length (now cells)) ⌝ }
+    ensures { λ r. ⌜ ((P : Program) → functionsIn (now (file .entry)) functions nfunctions ≡ P .functions → entryOf r (now (cells .exit)) (now (saved .exit)) ≡ entering P f (numbered depth held count) (now (cells .entry)) (now (saved .entry))) ⌝ }
+{
+    if nfunctions <= f {
+        return no_entry(20);
+    }
+    let def = functions::get_def(file, functions, nfunctions, f);
+    let refusal = entry_refusal(def, depth, held, count);
+    if refusal != 0 {
+        return no_entry(refusal);
+    }
+    let start = def.start as usize;
+    let locals = def.locals as usize;
+    let argsz = def.argsz;
+    copies::move_cells(cells, saved, start, held, locals);
+    copies::copy_arguments(cells, argsz, start, def.argc as usize);
+    Entry {
+        refusal: 0,
+        first: def.first as i64,
+        locals,
+    }
 }
 
 impl ExecutionContext {
@@ -74,38 +158,10 @@ impl ExecutionContext {
         }
     }
 
-    // 0, or the number of the refusal of an entry into a function that is there.
-    fn entry_refusal(self, def: FunctionDef) -> u8
-        requires { ⌜ self .saved ≤ 2048 ⌝ }
-        ensures { λ r. ⌜ ((P : Program) (f : ℕ) → f < length (P .functions) → def ≡ functionOf P f → r ≡ judge (entryConditions P f (bare self))) ⌝ }
-    {
-        let count = self.cell_count();
-        let start = def.start as usize;
-        let locals = def.locals as usize;
-        let argsz = def.argsz;
-        if 31 <= self.depth {
-            return 22;
-        }
-        // A negative count's bits are over 2,048.
-        if 2048 < self.saved + locals {
-            return 23;
-        }
-        if !copies::in_range(start, locals, count) {
-            return 15;
-        }
-        if 8 < def.argc {
-            return 24;
-        }
-        if !copies::arguments_in_range(argsz, start, def.argc as usize, count) {
-            return 15;
-        }
-        if functions::is_builtin(def) { 21 } else { 0 }
-    }
-
     // The context in function f, which is to go back to the position `back`.
-    fn entered(self, f: usize, def: FunctionDef, back: i64) -> ExecutionContext
-        requires { ⌜ (self .depth < 31) × (self .saved + def .locals ≤ 2048) ⌝ }
-        ensures { λ r. ⌜ ((P : Program) → def ≡ functionOf P f → stateOf r ≡ entered P f back (bare self) .state) ⌝ }
+    fn entered(self, f: usize, first: i64, locals: usize, back: i64) -> ExecutionContext
+        requires { ⌜ (self .depth < 31) × (self .saved + locals ≤ 2048) ⌝ }
+        ensures { λ r. ⌜ r ≡ enteredContext self f first locals back ⌝ }
     {
         let at = self.depth;
         let frame = StackFrame {
@@ -115,9 +171,9 @@ impl ExecutionContext {
         let mut next = self;
         next.frames[at] = frame;
         next.depth = at + 1;
-        next.saved = self.saved + def.locals as usize;
+        next.saved = self.saved + locals;
         next.current_function = f;
-        next.pc = def.first as i64;
+        next.pc = first;
         next
     }
 
@@ -133,20 +189,25 @@ impl ExecutionContext {
         requires { ⌜ Within (now file) self (length (now cells)) (length (now saved)) ⌝ }
         ensures { λ r. ⌜ outcomeOf r (now (cells .exit)) (now (saved .exit)) ≡ after (config self (now (cells .entry)) (now (saved .entry))) (enter (programOf (now (file .entry))) f back) ⌝ }
     {
-        if self.function_count() <= f {
-            return self.refused(20);
+        let recorded = self.file;
+        let functions = recorded.functions;
+        let count = self.cell_count();
+        let entry = enter_cells(
+            file,
+            functions.offset,
+            functions.count,
+            f,
+            self.depth,
+            self.saved,
+            count,
+            cells,
+            saved,
+        );
+        if entry.refusal != 0 {
+            return self.refused(entry.refusal);
         }
-        let def = self.get_def(file, f);
-        let refusal = self.entry_refusal(def);
-        if refusal != 0 {
-            return self.refused(refusal);
-        }
-        let start = def.start as usize;
-        let argsz = def.argsz;
-        copies::move_cells(cells, saved, start, self.saved, def.locals as usize);
-        copies::copy_arguments(cells, argsz, start, def.argc as usize);
         Answered {
-            context: self.entered(f, def, back),
+            context: self.entered(f, entry.first, entry.locals, back),
             answer: Answer::Accepted,
         }
     }

@@ -1,0 +1,68 @@
+-- ENTRY AND RETURN ON NUMBERS: what they do to cells and saved store, and what the context takes over.
+use Prim.Native.Nat.{ℕ, zero, suc, _+_, _-_}
+use mathlib.Core.List.{List, []}
+use lib.IntN.{ℤ, pos}
+use lib.ListN.{drop, set}
+use lib.Seq.{paste}
+use Rattle.definition.specs.declared.FunctionDef.{FunctionDef}
+use Rattle.definition.specs.declared.StackFrame.{StackFrame}
+use Rattle.definition.specs.Checks.{judge}
+use Rattle.definition.specs.Machine.{Program, functionOf, copied, argumentsOf, entryConditions}
+use Rattle.definition.specs.Answers.{noLump}
+use Rattle.progs.specs.declared.ExecutionContext.{ExecutionContext}
+use Rattle.progs.specs.declared.calls.Entry.{Entry}
+use Rattle.progs.specs.Contexts.{bare}
+
+-- a context of which only the depth, the saved count and the file's count of cells are looked at
+abbrev pub numbered : ℕ → ℕ → ℕ → ExecutionContext
+numbered depth held count =
+    record {
+      file =
+          record {
+            length = 0;
+            statements = noLump;
+            globaldefs = noLump;
+            fielddefs = noLump;
+            functions = noLump;
+            strings = noLump;
+            globals = record { offset = 0; count = count };
+            entityfields = 0;
+          };
+      pc = pos 0;
+      «current_function» = 0;
+      depth = depth;
+      saved = held;
+      frames = [];
+    }
+
+-- the context in function f, which is to go back to the position `back`
+abbrev pub enteredContext : ExecutionContext → ℕ → ℤ → ℕ → ℤ → ExecutionContext
+enteredContext x f first locals back =
+    record {
+      file = x .file;
+      pc = first;
+      «current_function» = f;
+      depth = x .depth + 1;
+      saved = x .saved + locals;
+      frames = set (x .frames) (x .depth) (record { «instr_id» = back; «func_id» = x .«current_function» });
+    }
+
+abbrev pub noEntry : ℕ → Entry
+noEntry n = record { refusal = n; first = pos 0; locals = 0 }
+
+pub record Entering : Type 0 where
+  pub entry : Entry
+  pub cells : List ℕ
+  pub saved : List ℕ
+
+abbrev pub entryOf : Entry → List ℕ → List ℕ → Entering
+entryOf r cells saved = record { entry = r; cells = cells; saved = saved }
+
+-- where no condition refuses, the local range is saved and the arguments are copied
+abbrev pub enteringAs : ℕ → FunctionDef → ℕ → List ℕ → List ℕ → Entering
+enteringAs zero d held cells saved =
+    entryOf (record { refusal = 0; first = pos (d .first); locals = d .locals }) (copied (argumentsOf d) cells) (paste saved held (drop (d .start) cells) (d .locals))
+enteringAs (suc n) d held cells saved = entryOf (noEntry (suc n)) cells saved
+
+unfoldable pub entering : Program → ℕ → ExecutionContext → List ℕ → List ℕ → Entering
+entering P f x cells saved = enteringAs (judge (entryConditions P f (bare x))) (functionOf P f) (x .saved) cells saved
