@@ -2,7 +2,7 @@
 use Prim.Native.Nat.{ℕ, _≤_, _<_}
 use mathlib.Core.Path.{_≡_, refl, sym, _∙_, ap}
 use mathlib.Core.List.{List}
-use lib.ListN.{length, getD, List·getD-eq-default}
+use lib.ListN.{length, getD}
 use Rattle.definition.specs.declared.FileRecord.{FileRecord}
 use Rattle.definition.specs.declared.FunctionDef.{FunctionDef}
 use Rattle.definition.specs.File.{contentsAt, readFunction, recordsIn, noFunction}
@@ -10,7 +10,7 @@ use Rattle.definition.specs.Machine.{Program, functionOf}
 use Rattle.definition.specs.Load.{programAt, programOf}
 use Rattle.execution.specs.Execution.{functionsIn}
 use Rattle.functions.specs.Laws.{function-of, count-functions}
-use Rattle.progs.specs.Contexts.{Loaded, rangeOf}
+use Rattle.progs.specs.Contexts.{Loaded}
 
 module _ (file : List ℕ) (r : FileRecord) (h : Loaded file r) where
   pub function-is : (f : ℕ) (d : FunctionDef) → d ≡ getD (recordsIn (readFunction file) 36 (r .functions)) f noFunction → d ≡ functionOf (programOf file) f
@@ -24,9 +24,6 @@ module _ (file : List ℕ) (r : FileRecord) (h : Loaded file r) where
 
   pub function-absent : (f : ℕ) → r .functions .count ≤ f → length (programOf file .functions) ≤ f
   function-absent f k = rw function-count k
-
-  pub no-locals : (f : ℕ) → r .functions .count ≤ f → record { start = 0; count = 0 } ≡ rangeOf (functionOf (programOf file) f)
-  no-locals f k = rw (List·getD-eq-default (programOf file .functions) noFunction {n = f} (function-absent f k))
 
   pub functions-here : functionsIn file (r .functions .offset) (r .functions .count) ≡ programOf file .functions
   unfolding programAt contentsAt

@@ -6,6 +6,7 @@ pub mod EntryLaws
 pub mod LeaveLaws
 pub mod StateLaws
 pub mod NumberLaws
+pub mod ReturnLaws
 pub mod AbandonLaws
 pub mod HostLaws
 pub mod LoadLaws

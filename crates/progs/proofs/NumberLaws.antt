@@ -6,7 +6,7 @@ use mathlib.Core.Bool.{false, not, _&&_}
 use native.Mathlib.Omega.{arith}
 use borrow.Author.Tests.{le-ltb, ltb-true, leb-true}
 use lib.IntN.{ℤ, pos}
-use lib.ListN.{length, getD, drop}
+use lib.ListN.{length, getD, drop, List·getD-eq-default}
 use lib.Seq.{paste}
 use lib.Dec.{leb}
 use Rattle.definition.specs.declared.FunctionDef.{FunctionDef}
@@ -20,7 +20,7 @@ use Rattle.definition.specs.CheckLaws.{judge-passed, and-right}
 use Rattle.progs.specs.declared.ExecutionContext.{ExecutionContext}
 use Rattle.progs.specs.declared.Answered.{Answered}
 use Rattle.progs.specs.declared.calls.Entry.{Entry}
-use Rattle.progs.specs.Contexts.{config, bare, outcomeOf, after, refusing, accepting}
+use Rattle.progs.specs.Contexts.{config, bare, rangeOf, outcomeOf, after, refusing, accepting}
 use Rattle.progs.specs.Numbers.{numbered, enteredContext, noEntry, Entering, entryOf, enteringAs, entering}
 use Rattle.progs.proofs.OutcomeLaws.{refused-outcome, accepted-outcome}
 
@@ -124,3 +124,6 @@ module _ (file : List ℕ) (functions nfunctions : ℕ) where
 
 pub functions-read : (fs : List FunctionDef) (f : ℕ) (d : FunctionDef) (P : Program) → fs ≡ P .functions → d ≡ getD fs f noFunction → d ≡ functionOf P f
 functions-read fs f d P q e = rw q at e
+
+pub no-function : (P : Program) (f : ℕ) → length (P .functions) ≤ f → record { start = 0; count = 0 } ≡ rangeOf (functionOf P f)
+no-function P f h = rw (List·getD-eq-default (P .functions) noFunction {n = f} h)

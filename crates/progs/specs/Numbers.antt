@@ -2,20 +2,21 @@
 use Prim.Native.Nat.{ℕ, zero, suc, _+_, _-_}
 use mathlib.Core.List.{List, []}
 use lib.IntN.{ℤ, pos}
-use lib.ListN.{drop, set}
+use lib.ListN.{getD, drop, set}
 use lib.Seq.{paste}
 use Rattle.definition.specs.declared.FunctionDef.{FunctionDef}
 use Rattle.definition.specs.declared.StackFrame.{StackFrame}
 use Rattle.definition.specs.Checks.{judge}
-use Rattle.definition.specs.Machine.{Program, functionOf, copied, argumentsOf, entryConditions}
+use Rattle.definition.specs.Machine.{Program, functionOf, zeroFrame, copied, successive, argumentsOf, entryConditions, returnConditions}
 use Rattle.definition.specs.Answers.{noLump}
 use Rattle.progs.specs.declared.ExecutionContext.{ExecutionContext}
 use Rattle.progs.specs.declared.calls.Entry.{Entry}
+use Rattle.progs.specs.declared.calls.Leaving.{Leaving}
 use Rattle.progs.specs.Contexts.{bare}
 
--- a context of which only the depth, the saved count and the file's count of cells are looked at
-abbrev pub numbered : ℕ → ℕ → ℕ → ExecutionContext
-numbered depth held count =
+-- a context of which only the function, the depth, the saved count and the file's count of cells are looked at
+abbrev pub numberedIn : ℕ → ℕ → ℕ → ℕ → ExecutionContext
+numberedIn f depth held count =
     record {
       file =
           record {
@@ -29,11 +30,14 @@ numbered depth held count =
             entityfields = 0;
           };
       pc = pos 0;
-      «current_function» = 0;
+      «current_function» = f;
       depth = depth;
       saved = held;
       frames = [];
     }
+
+abbrev pub numbered : ℕ → ℕ → ℕ → ExecutionContext
+numbered depth held count = numberedIn 0 depth held count
 
 -- the context in function f, which is to go back to the position `back`
 abbrev pub enteredContext : ExecutionContext → ℕ → ℤ → ℕ → ℤ → ExecutionContext
@@ -66,3 +70,35 @@ enteringAs (suc n) d held cells saved = entryOf (noEntry (suc n)) cells saved
 
 unfoldable pub entering : Program → ℕ → ExecutionContext → List ℕ → List ℕ → Entering
 entering P f x cells saved = enteringAs (judge (entryConditions P f (bare x))) (functionOf P f) (x .saved) cells saved
+
+-- the context after its function, of so many locals, is left
+abbrev pub leftContext : ExecutionContext → ℕ → ExecutionContext
+leftContext x locals =
+    let frame = getD (x .frames) (x .depth - 1) zeroFrame in
+    record {
+      file = x .file;
+      pc = frame .«instr_id»;
+      «current_function» = frame .«func_id»;
+      depth = x .depth - 1;
+      saved = x .saved - locals;
+      frames = set (x .frames) (x .depth - 1) zeroFrame;
+    }
+
+abbrev pub noLeaving : ℕ → Leaving
+noLeaving n = record { refusal = n; locals = 0 }
+
+pub record Returning : Type 0 where
+  pub leaving : Leaving
+  pub cells : List ℕ
+
+abbrev pub leavingOf : Leaving → List ℕ → Returning
+leavingOf r cells = record { leaving = r; cells = cells }
+
+-- where no condition refuses, the three cells are copied and the local range is restored
+abbrev pub returningAs : ℕ → FunctionDef → ℕ → ℕ → List ℕ → List ℕ → Returning
+returningAs zero d a held cells saved =
+    leavingOf (record { refusal = 0; locals = d .locals }) (paste (copied (successive 3 a 1) cells) (d .start) (drop (held - d .locals) saved) (d .locals))
+returningAs (suc n) d a held cells saved = leavingOf (noLeaving (suc n)) cells
+
+unfoldable pub returning : Program → ℕ → ExecutionContext → List ℕ → List ℕ → Returning
+returning P a x cells saved = returningAs (judge (returnConditions P a (bare x))) (functionOf P (x .«current_function»)) a (x .saved) cells saved

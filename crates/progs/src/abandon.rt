@@ -26,7 +26,7 @@ impl ExecutionContext {
             if refusal != 0 {
                 return refusal;
             }
-            context = context.left(locals);
+            context = context.left(locals.count);
         }
         0
     }

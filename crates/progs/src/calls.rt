@@ -10,7 +10,7 @@ ghost use Rattle.definition.specs.File.{lumpFits};
 ghost use Rattle.functions.specs.Answers.{lump};
 ghost use Rattle.execution.specs.Execution.{functionsIn};
 ghost use Rattle.progs.specs.Contexts.{stateOf, config, outcomeOf, after, refusing, return, bare, rangeOf, Loaded, Within};
-ghost use Rattle.progs.specs.Numbers.{numbered, enteredContext, noEntry, entryOf, entering};
+ghost use Rattle.progs.specs.Numbers.{numbered, numberedIn, enteredContext, leftContext, noEntry, entryOf, entering, noLeaving, leavingOf, returning};
 use crate::Answered;
 use crate::ExecutionContext;
 use crate::copies;
@@ -104,6 +104,88 @@ pub fn enter_cells(
     }
 }
 
+// What a Return comes to, the cells apart: the number of its refusal, or 0 with the local count of the function left.
+pub struct Leaving {
+    pub refusal: u8,
+    pub locals: usize,
+}
+
+// The local range of a function; one that isn't there has no locals.
+fn locals_of(file: &[u8], functions: usize, nfunctions: usize, f: usize) -> Locals
+    requires { ⌜ lumpFits 36 (length (now file)) (lump functions nfunctions) ≡ true ⌝ }
+    ensures { λ r. ⌜ ((P : Program) → functionsIn (now (file .entry)) functions nfunctions ≡ P .functions → r ≡ rangeOf (functionOf P f)) ⌝ }
+{
+    if nfunctions <= f {
+        return Locals { start: 0, count: 0 };
+    }
+    let def = functions::get_def(file, functions, nfunctions, f);
+    Locals {
+        start: def.start as usize,
+        count: def.locals as usize,
+    }
+}
+
+// 0, or the number of the refusal to leave a function, whose local range is `locals`.
+fn leaving_refusal(locals: Locals, depth: usize, held: usize, count: usize) -> u8
+    ensures { λ r. ⌜ ((P : Program) (f : ℕ) → locals ≡ rangeOf (functionOf P f) → r ≡ judge (leaveConditions P (bare (numberedIn f depth held count)))) ⌝ }
+{
+    if depth == 0 {
+        return 25;
+    }
+    if held < locals.count {
+        return 26;
+    }
+    if !copies::in_range(locals.start, locals.count, count) {
+        return 15;
+    }
+    0
+}
+
+fn no_leaving(refusal: u8) -> Leaving
+    ensures { λ r. ⌜ r ≡ noLeaving refusal ⌝ }
+{
+    Leaving { refusal, locals: 0 }
+}
+
+// A Return or Done of the three cells from a on, as far as cells go: checks it, copies the three cells and restores the local range.
+pub fn return_cells(
+    file: &[u8],
+    functions: usize,
+    nfunctions: usize,
+    f: usize,
+    depth: usize,
+    held: usize,
+    count: usize,
+    a: usize,
+    cells: &mut [u32],
+    saved: &[u32],
+) -> Leaving
+    requires { ⌜ lumpFits 36 (length (now file)) (lump functions nfunctions) ≡ true ⌝ }
+    requires { ⌜ (held ≤ 2048) × (2048 ≤ length (now saved)) × (36 ≤ count) × (count ≤ length (now cells)) ⌝ }
+    ensures { λ r. ⌜ ((P : Program) → functionsIn (now (file .entry)) functions nfunctions ≡ P .functions → leavingOf r (now (cells .exit)) ≡ returning P a (numberedIn f depth held count) (now (cells .entry)) (now (saved .entry))) ⌝ }
+{
+    if !copies::in_range(a, 3, count) {
+        return no_leaving(15);
+    }
+    let locals = locals_of(file, functions, nfunctions, f);
+    let refusal = leaving_refusal(locals, depth, held, count);
+    if refusal != 0 {
+        return no_leaving(refusal);
+    }
+    copies::copy_cells(cells, a, 1, 3);
+    copies::move_cells(
+        saved,
+        cells,
+        held - locals.count,
+        locals.start,
+        locals.count,
+    );
+    Leaving {
+        refusal: 0,
+        locals: locals.count,
+    }
+}
+
 impl ExecutionContext {
     pub(crate) fn refused(self, n: u8) -> Answered
         ensures { λ r. ⌜ r ≡ refusing self n ⌝ }
@@ -147,15 +229,14 @@ impl ExecutionContext {
         requires { ⌜ Loaded (now file) (self .file) ⌝ }
         ensures { λ r. ⌜ r ≡ rangeOf (functionOf (programOf (now (file .entry))) (self .«current_function»)) ⌝ }
     {
-        let f = self.current_function;
-        if self.function_count() <= f {
-            return Locals { start: 0, count: 0 };
-        }
-        let def = self.get_def(file, f);
-        Locals {
-            start: def.start as usize,
-            count: def.locals as usize,
-        }
+        let recorded = self.file;
+        let functions = recorded.functions;
+        locals_of(
+            file,
+            functions.offset,
+            functions.count,
+            self.current_function,
+        )
     }
 
     // The context in function f, which is to go back to the position `back`.
@@ -216,22 +297,13 @@ impl ExecutionContext {
     pub(crate) fn leave_refusal(self, locals: Locals) -> u8
         ensures { λ r. ⌜ ((P : Program) → locals ≡ rangeOf (functionOf P (self .«current_function»)) → r ≡ judge (leaveConditions P (bare self))) ⌝ }
     {
-        if self.depth == 0 {
-            return 25;
-        }
-        if self.saved < locals.count {
-            return 26;
-        }
-        if !copies::in_range(locals.start, locals.count, self.cell_count()) {
-            return 15;
-        }
-        0
+        leaving_refusal(locals, self.depth, self.saved, self.cell_count())
     }
 
     // The context after the current function, with so many locals, is left.
-    pub(crate) fn left(self, locals: Locals) -> ExecutionContext
-        requires { ⌜ (0 < self .depth) × ((self .depth ≤ 31) × (locals .count ≤ self .saved)) ⌝ }
-        ensures { λ r. ⌜ ((P : Program) → locals ≡ rangeOf (functionOf P (self .«current_function»)) → stateOf r ≡ left P (bare self) .state) ⌝ }
+    pub(crate) fn left(self, locals: usize) -> ExecutionContext
+        requires { ⌜ (0 < self .depth) × ((self .depth ≤ 31) × (locals ≤ self .saved)) ⌝ }
+        ensures { λ r. ⌜ r ≡ leftContext self locals ⌝ }
     {
         let at = self.depth - 1;
         let top = self.frames[at];
@@ -242,7 +314,7 @@ impl ExecutionContext {
         let mut next = self;
         next.frames[at] = none;
         next.depth = at;
-        next.saved = self.saved - locals.count;
+        next.saved = self.saved - locals;
         next.current_function = top.func_id;
         next.pc = top.instr_id;
         next
@@ -262,7 +334,7 @@ impl ExecutionContext {
     {
         let first = self.saved - locals.count;
         copies::move_cells(saved, cells, first, locals.start, locals.count);
-        self.left(locals)
+        self.left(locals.count)
     }
 
     pub fn leave_function(self, file: &[u8], cells: &mut [u32], saved: &[u32]) -> Answered
@@ -285,17 +357,26 @@ impl ExecutionContext {
         requires { ⌜ Within (now file) self (length (now cells)) (length (now saved)) ⌝ }
         ensures { λ r. ⌜ outcomeOf r (now (cells .exit)) (now (saved .entry)) ≡ after (config self (now (cells .entry)) (now (saved .entry))) (return (programOf (now (file .entry))) a) ⌝ }
     {
-        if !copies::in_range(a, 3, self.cell_count()) {
-            return self.refused(15);
+        let recorded = self.file;
+        let functions = recorded.functions;
+        let count = self.cell_count();
+        let leaving = return_cells(
+            file,
+            functions.offset,
+            functions.count,
+            self.current_function,
+            self.depth,
+            self.saved,
+            count,
+            a,
+            cells,
+            saved,
+        );
+        if leaving.refusal != 0 {
+            return self.refused(leaving.refusal);
         }
-        let locals = self.locals(file);
-        let refusal = self.leave_refusal(locals);
-        if refusal != 0 {
-            return self.refused(refusal);
-        }
-        copies::copy_cells(cells, a, 1, 3);
         Answered {
-            context: self.restored(locals, cells, saved),
+            context: self.left(leaving.locals),
             answer: Answer::Accepted,
         }
     }

@@ -9,7 +9,7 @@ use definition::StackFrame;
 use functions::fetch;
 
 mod abandon;
-mod calls;
+pub mod calls;
 mod carry_on;
 mod copies;
 pub mod load;

@@ -45,7 +45,7 @@ same-length-4 : tie.Need-same-length-4
 same-length-4 c = search needs
 
 returns-2 : tie.Need-returns-2
-returns-2 c = 
+returns-2 c =
     let s = c .before .before .before .before .before .before .before .before .before .before .before .before .before .before .before .before .before in
     let g : SFits w64 (s .args .back) = search needs in
     let k : SFits w64 (c .before .before .before .before .before .before .before .before .enter-cells .result .first) = search needs in

@@ -9,6 +9,7 @@ use Rattle.definition.specs.Load.{programOf}
 use Rattle.definition.specs.Operations.{leavingsConditions}
 use Rattle.progs.specs.Contexts.{stateOf, bare, Loaded}
 use Rattle.progs.proofs.LeaveLaws.{Leaves, leaves}
+use Rattle.progs.proofs.ReturnLaws.{left-of}
 use Rattle.progs.proofs.StateLaws.{depth-falls, left-loaded}
 use Rattle.progs.proofs.AbandonLaws.{leavings-refused, leavings-on, leavings-end}
 use Rattle.progs.proofs.ExecutionContext.leavings_refusal.Statement.{statement}
@@ -34,7 +35,7 @@ ok : (c : tie.Else2 Inv-loop μ-loop) → Leaves (c .before .before .before .bef
 ok c = leaves _ _ _ (c .before .before .locals .ensures) (clear c)
 
 after : (c : tie.After-left Inv-loop μ-loop) → let l = c .before .before .before .before .before .before in stateOf (c .left .result) ≡ left (programOf (l .before .before .args .file .now)) (bare (l .loop .context)) .state
-after c = c .left .ensures _ (c .before .before .before .locals .ensures)
+after c = left-of _ _ _ (c .before .before .before .locals .ensures) _ (c .left .ensures)
 
 loop-holds : tie.Need-loop-holds Inv-loop μ-loop
 loop-holds c = ((c .before .pre .0, c .before .pre .1), refl)

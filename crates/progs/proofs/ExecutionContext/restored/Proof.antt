@@ -1,6 +1,7 @@
 use native.Mathlib.Omega.{arith}
 use Rattle.progs.proofs.CopyLaws.{present-of}
 use Rattle.progs.proofs.LeaveLaws.{left-config}
+use Rattle.progs.proofs.ReturnLaws.{left-of}
 use borrow.Author.Needs.{needs}
 use Rattle.progs.proofs.ExecutionContext.restored.Statement.{statement}
 use Rattle.progs.proofs.ExecutionContext.restored.Tie as tie
@@ -18,7 +19,7 @@ same-length : tie.Need-same-length
 same-length c = search needs
 
 returns : tie.Need-returns
-returns c = λ P e. left-config _ _ P e _ _ _ _ (c .left .ensures P e) (c .before .before .before .move-cells .ensures)
+returns c = λ P e. left-config _ _ P e _ _ _ _ (left-of _ _ P e _ (c .left .ensures)) (c .before .before .before .move-cells .ensures)
 
 pub restored-spec : {M : Type 1} → statement M
 restored-spec =
