@@ -7,7 +7,6 @@ use native.Mathlib.Omega.{arith}
 use lib.IntN.{ℤ, pos, _+ℤ_}
 use lib.ListN.{length}
 use Rattle.definition.specs.declared.Answer.{Answer}
-use Rattle.definition.specs.declared.StatementAnswer.{StatementAnswer}
 use Rattle.definition.specs.declared.StatementAnswer.the-variants as statement
 use Rattle.definition.specs.declared.Handover.{Handover}
 use Rattle.definition.specs.Checks.{Checked, refused, accepted, judge}
@@ -27,12 +26,9 @@ use Rattle.progs.specs.Contexts.{stateOf, config, outcomeOf, after, return, Loa
 use Rattle.progs.proofs.DoesLaws.{stands}
 use Rattle.progs.proofs.StateLaws.{moved-within, enter-within, return-within}
 use Rattle.server.specs.declared.Stepped.{Stepped}
-use Rattle.server.specs.Stepping.{statementAnswer, completedOf, stoppedOf, steppedOf, Stands}
+use Rattle.server.specs.Stepping.{statementAnswer, completedOf, steppedOf, Stands}
 
 -- an answer that is known
-pub stopped-is : (x : ExecutionContext) (answer known : StatementAnswer) (count : ℕ) → answer ≡ known → stoppedOf x known count ≡ stoppedOf x answer count
-stopped-is x answer known count e = ap (λ (a : StatementAnswer). stoppedOf x a count) (sym e)
-
 pub completed-is : (x : ExecutionContext) (answer known : Answer) → answer ≡ known
     → completedOf (record { context = x; answer = known }) ≡ completedOf (record { context = x; answer = answer })
 completed-is x answer known e = ap (λ (a : Answer). completedOf (record { context = x; answer = a })) (sym e)
@@ -92,45 +88,6 @@ module _ (P : Program) (x : ExecutionContext) (cells saved : List ℕ) (done : E
   pub perform-handed : (h : Handover) → done ≡ does.HandedOver h → steppedOf (record { context = x; answer = statement.HandedOver h }) cells saved ≡ performed
   unfolding stepAs
   perform-handed h e = known (does.HandedOver h) e
-
-  -- what check 13 establishes is kept
-  pub perform-within : (file : List ℕ) (r : Stepped) (cells′ saved′ : List ℕ) → Within file x (length cells) (length saved) → steppedOf r cells′ saved′ ≡ performed
-      → Within file (r .context) (length cells) (length saved)
-  unfolding stepAs
-  perform-within file r cells′ saved′ w e = by done (ap (λ (o : StatementOutcome). o .config) e)
-    where
-      y : ExecutionContext
-      y = r .context
-
-      same : config y cells′ saved′ ≡ here → Within file y (length cells) (length saved)
-      same h = moved (ap (λ (c : Config). c .state) h)
-        where
-          moved : stateOf y ≡ stateOf x → Within file y (length cells) (length saved)
-          moved s =
-              let d : y .depth ≡ x .depth = ap (λ (s : State). s .depth) s in
-              let v : y .saved ≡ x .saved = ap (λ (s : State). s .saved) s in
-              moved-within file (length cells) (length saved) x y w (ap (λ (s : State). s .file) s) (rw d (w .depth)) (rw v (w .held))
-
-      config-of : (k : Checked Config) → statementOutcome here (asStep k) .config ≡ kept here k
-      config-of (refused n) = refl
-      config-of (accepted c) = refl
-
-      answered : Checked Config → Answered
-      answered k = record { context = y; answer = answerOf k }
-
-      by : (d : Executed) → config y cells′ saved′ ≡ statementOutcome here (stepAs P (doesOf d cells) here) .config → Within file y (length cells) (length saved)
-      by (does.Next p) h =
-          let d : y .depth ≡ x .depth = ap (λ (c : Config). c .state .depth) h in
-          let v : y .saved ≡ x .saved = ap (λ (c : Config). c .state .saved) h in
-          moved-within file (length cells) (length saved) x y w (ap (λ (c : Config). c .state .file) h) (rw d (w .depth)) (rw v (w .held))
-      by (does.Calls f) h =
-          let k : Checked Config = enter P f (x .pc +ℤ pos 1) here in
-          enter-within file P x cells saved (answered k) cells′ saved′ w f (x .pc +ℤ pos 1) (ap (λ (c : Config). record { answer = answerOf k; config = c }) (h ∙ config-of k))
-      by (does.Returns a) h =
-          let k : Checked Config = return P a here in
-          return-within file P x cells saved (answered k) cells′ saved′ w a (ap (λ (c : Config). record { answer = answerOf k; config = c }) (h ∙ config-of k))
-      by (does.Refused n) h = same h
-      by (does.HandedOver v) h = same h
 
 -- ---- from what was done to the step
 

@@ -1,83 +1,141 @@
 -- One turn of a run's loop, by what the statement at the position did.
-use Prim.Native.Nat.{ℕ, _<_, _+_}
+use Prim.Native.Nat.{ℕ, zero, suc, _<_, _≤_, _+_, _-_}
 use mathlib.Core.Path.{_≡_, refl, sym, _∙_, ap}
 use mathlib.Core.List.{List}
-use mathlib.Core.Bool.{Bool, true, false, true≢false}
-use lib.IntN.{ℤ}
-use Rattle.definition.specs.declared.StatementAnswer.{StatementAnswer}
-use Rattle.definition.specs.declared.StatementAnswer.the-variants as statement
+use native.Mathlib.Omega.{arith}
+use lib.IntN.{ℤ, pos, _+ℤ_}
+use lib.ListN.{length}
+use Rattle.definition.specs.declared.Handover.{Handover}
 use Rattle.definition.specs.declared.RunAnswer.the-variants as run
-use Rattle.definition.specs.Machine as machine
-use Rattle.definition.specs.Machine.{Program, Config, advanced, completed, refusedStep, handedStep, stepAs, step, runFor}
-use Rattle.definition.specs.Answers.{StatementOutcome, statementOutcome}
+use Rattle.definition.specs.Checks.{judge, guard, decided}
+use Rattle.definition.specs.Statements.{placeOf}
+use Rattle.definition.specs.Machine.{Program, Config, advanced, completed, refusedStep, handedStep, entryConditions, entered, enter, left, leaveConditions, returnConditions, returned, asStep, stepAs, step, runFor}
 use Rattle.execution.specs.declared.Executed.{Executed}
 use Rattle.execution.specs.declared.Executed.the-variants as does
-use Rattle.execution.specs.Execution.{doesOf, executed, execution}
+use Rattle.execution.specs.Execution.{doesOf, cellsAfter, executed, execution, executed-cells}
 use Rattle.progs.specs.declared.ExecutionContext.{ExecutionContext}
-use Rattle.progs.specs.Contexts.{config, Within}
+use Rattle.progs.specs.declared.calls.Entry.{Entry}
+use Rattle.progs.specs.declared.calls.Leaving.{Leaving}
+use Rattle.progs.specs.Contexts.{config, bare, Within, Standing}
+use Rattle.progs.specs.Numbers.{enteredContext, leftContext, entryOf, entering, leavingOf, returning}
+use Rattle.progs.proofs.NumberLaws as entry
+use Rattle.progs.proofs.ReturnLaws as return
 use Rattle.progs.proofs.StateLaws.{moved-within}
-use Rattle.server.specs.declared.Stepped.{Stepped}
 use Rattle.server.specs.declared.Ran.{Ran}
-use Rattle.server.specs.Stepping.{steppedOf, stoppedOf, ranOf}
+use Rattle.server.specs.Stepping.{ranAs, ranOf}
 use Rattle.server.proofs.RunLaws.{RunLeft, run-refused, run-handed, run-ended, run-again}
-use Rattle.server.proofs.StepLaws.{step-is, step-done}
+use Rattle.server.proofs.StepLaws.{step-is}
 
-abbrev completes? : StatementAnswer → Bool
-completes? statement.Completed = true
-completes? (statement.Refused n) = false
-completes? (statement.HandedOver v) = false
+-- ---- what check 13 establishes is kept
 
-not-completed : {A : Type 0} (b : StatementAnswer) → completes? b ≡ false → statement.Completed ≡ b → A
-not-completed b f e = absurd (true≢false (ap completes? e ∙ f))
+module _ (file : List ℕ) (x : ExecutionContext) (n m : ℕ) (w : Within file x n m) where
+  pub next-within : (p : ℤ) → Within file (record { file = x .file; pc = p; «current_function» = x .«current_function»; depth = x .depth; saved = x .saved; frames = x .frames }) n m
+  next-within p = moved-within file n m x _ w refl (w .depth) (w .held)
 
--- a position that is moved
-pub next-within : (file : List ℕ) (x : ExecutionContext) (p : ℤ) (n m : ℕ) → Within file x n m
-    → Within file (record { file = x .file; pc = p; «current_function» = x .«current_function»; depth = x .depth; saved = x .saved; frames = x .frames }) n m
-next-within file x p n m w = moved-within file n m x _ w refl (w .depth) (w .held)
+  pub entered-within : (f : ℕ) (first back : ℤ) (locals : ℕ) → (x .depth < 31) × (x .saved + locals ≤ 2048) → Within file (enteredContext x f first locals back) n m
+  entered-within f first back locals r = moved-within file n m x _ w refl (omega (arith, r .0)) (r .1)
+
+  pub left-within : (locals : ℕ) → Within file (leftContext x locals) n m
+  left-within locals = moved-within file n m x _ w refl (omega (arith, w .depth)) (omega (arith, w .held))
+
+-- ---- a conditional step that is accepted, and one that isn't
+
+accepts : (cs : _) (c : Config) → judge cs ≡ 0 → asStep (guard cs c) ≡ completed c
+unfolding guard
+accepts cs c z = rw z
+
+refuses-it : (cs : _) (c : Config) (n : ℕ) → n ≡ judge cs → (n ≡ 0 → ⊥) → asStep (guard cs c) ≡ refusedStep n
+unfolding guard
+refuses-it cs c zero e z = absurd (z refl)
+refuses-it cs c (suc n) e z = rw (← e)
 
 module _ (P : Program) (limit target : ℕ) (c₀ : Config) (x : ExecutionContext) (cells saved : List ℕ) (count : ℕ) (g : RunLeft P limit target c₀ (config x cells saved) count) (h : count < limit) (done : Executed) (cells′ : List ℕ) (e : executed done cells′ ≡ execution (P .does (x .pc) cells) cells) where
   abbrev here : Config
   here = config x cells saved
 
+  -- the step, where what was done is known
+  known : (d : Executed) → done ≡ d → stepAs P (doesOf d cells′) here ≡ step P here
+  known d k = ap (λ (z : Executed). stepAs P (doesOf z cells′) here) (sym k) ∙ step-is P x cells saved cells′ done e
+
+  -- what neither completes nor writes leaves the cells
+  same : (d : Executed) → done ≡ d → cells′ ≡ cellsAfter (doesOf d cells′) cells
+  same d k = executed-cells done cells′ (P .does (x .pc) cells) cells e ∙ ap (λ (z : Executed). cellsAfter (doesOf z cells′) cells) k
+
   pub turn-next : (p : ℤ) (y : ExecutionContext) → done ≡ does.Next p → config y cells′ saved ≡ advanced here p cells′ → RunLeft P limit target c₀ (config y cells′ saved) (count + 1)
   unfolding stepAs
   turn-next p y d k =
       run-again P limit target c₀ here count g h (config y cells′ saved)
-      (sym (step-is P x cells saved cells′ done e) ∙ ap (λ (z : Executed). stepAs P (doesOf z cells′) here) d ∙ ap completed (sym k))
+      (sym (known (does.Next p) d) ∙ ap completed (sym k))
       (λ z. g .apart (ap (λ (c : Config). c .state .depth) (sym k) ∙ z))
 
-  module _ (r : Stepped) (cells″ saved″ : List ℕ) (o : steppedOf r cells″ saved″ ≡ statementOutcome (config x cells′ saved) (stepAs P (doesOf done cells′) (config x cells′ saved))) where
-    abbrev there : Config
-    there = config (r .context) cells″ saved″
+  pub turn-refused : (n : ℕ) (r : Ran) → done ≡ does.Refused n → r ≡ ranAs x (run.Refused n) count → ranOf r cells′ saved ≡ runFor P limit target c₀
+  unfolding stepAs
+  turn-refused n r d k = rw (k, same (does.Refused n) d) (run-refused P limit target c₀ here count g h n (sym (known (does.Refused n) d)))
 
-    stepped : steppedOf r cells″ saved″ ≡ statementOutcome here (step P here)
-    stepped = o ∙ step-done P x cells saved cells′ done e
+  pub turn-handed : (v : Handover) (r : Ran) → done ≡ does.HandedOver v → r ≡ ranAs x (run.HandedOver v) count → ranOf r cells′ saved ≡ runFor P limit target c₀
+  unfolding stepAs
+  turn-handed v r d k = rw (k, same (does.HandedOver v) d) (run-handed P limit target c₀ here count g h v (sym (known (does.HandedOver v) d)))
 
-    completes : r .answer ≡ statement.Completed → step P here ≡ completed there
-    completes a = by (step P here) stepped
-      where
-        by : (s : machine.Stepped) → steppedOf r cells″ saved″ ≡ statementOutcome here s → s ≡ completed there
-        by (completed c) f = ap completed (sym (ap (λ (o : StatementOutcome). o .config) f))
-        by (refusedStep n) f = not-completed (statement.Refused n) refl (sym a ∙ ap (λ (o : StatementOutcome). o .answer) f)
-        by (handedStep v) f = not-completed (statement.HandedOver v) refl (sym a ∙ ap (λ (o : StatementOutcome). o .answer) f)
+  -- ---- a Call
 
-    pub turn-ended : r .answer ≡ statement.Completed → r .context .depth ≡ target → ranOf (record { context = r .context; answer = run.Ended; count = count + 1 }) cells″ saved″ ≡ runFor P limit target c₀
-    turn-ended a d = run-ended P limit target c₀ here count g h there (completes a) d
+  module _ (f : ℕ) (d : done ≡ does.Calls f) (r : Entry) (cells″ saved″ : List ℕ) (o : entryOf r cells″ saved″ ≡ entering P f x cells′ saved) where
+    entering-here : entryOf r cells″ saved″ ≡ entering P f x cells saved
+    entering-here = o ∙ ap (λ (cs : List ℕ). entering P f x cs saved) (same (does.Calls f) d)
 
-    pub turn-again : r .answer ≡ statement.Completed → (r .context .depth ≡ target → ⊥) → RunLeft P limit target c₀ there (count + 1)
-    turn-again a d = run-again P limit target c₀ here count g h there (completes a) d
+    pub turn-entry-refused : (r .refusal ≡ 0 → ⊥) → (q : Ran) → q ≡ ranAs x (run.Refused (r .refusal)) count → ranOf q cells″ saved″ ≡ runFor P limit target c₀
+    unfolding stepAs entryConditions
+    turn-entry-refused z q k =
+        ap (λ (w : Ran). ranOf w cells″ saved″) k
+        ∙ ap (λ (c : Config). record { answer = run.Refused (r .refusal); count = count; config = c }) (entry.refused-config P f x cells saved r cells″ saved″ entering-here z)
+        ∙ run-refused P limit target c₀ here count g h (r .refusal)
+        (sym (known (does.Calls f) d) ∙ refuses-it (entryConditions P f here) (entered P f (x .pc +ℤ pos 1) here) (r .refusal) (entry.refusal-is P f x cells saved r cells″ saved″ entering-here) z)
 
-    pub turn-stopped : (r .answer ≡ statement.Completed → ⊥) → (s : Ran) → s ≡ stoppedOf (r .context) (r .answer) count → ranOf s cells″ saved″ ≡ runFor P limit target c₀
-    turn-stopped a s k = ap (λ (q : Ran). ranOf q cells″ saved″) k ∙ by (step P here) refl stepped
-      where
-        stops : (b : StatementAnswer) (c : Config) → r .answer ≡ b → there ≡ c → ranOf (stoppedOf (r .context) (r .answer) count) cells″ saved″ ≡ record { answer = stoppedOf (r .context) b count .answer; count = count; config = c }
-        stops b c e f = rw (e, f)
+    module _ (z : r .refusal ≡ 0) where
+      pub turn-enters : target < x .depth → Standing (x .pc) → (back : ℤ) → back ≡ pos (placeOf 0 (x .pc)) +ℤ pos 1
+          → RunLeft P limit target c₀ (config (enteredContext x f (r .first) (r .locals) back) cells″ saved″) (count + 1)
+      unfolding stepAs entryConditions
+      turn-enters t s back b =
+          let after-it : back ≡ x .pc +ℤ pos 1 = b ∙ ap (λ (p : ℤ). p +ℤ pos 1) (sym (s .is)) in
+          run-again P limit target c₀ here count g h _
+          (sym (known (does.Calls f) d)
+          ∙ accepts (entryConditions P f here) (entered P f (x .pc +ℤ pos 1) here) (entry.clear P f x cells saved r cells″ saved″ entering-here z)
+          ∙ ap (λ (p : ℤ). completed (entered P f p here)) (sym after-it)
+          ∙ ap completed (sym (entry.entered-config P f x cells saved r cells″ saved″ entering-here z back)))
+          (λ k. absurd (omega (arith, t, k)))
 
-        by : (s : machine.Stepped) → step P here ≡ s → steppedOf r cells″ saved″ ≡ statementOutcome here s → ranOf (stoppedOf (r .context) (r .answer) count) cells″ saved″ ≡ runFor P limit target c₀
-        by (completed c) i f = absurd (a (ap (λ (o : StatementOutcome). o .answer) f))
-        by (refusedStep n) i f =
-            stops (statement.Refused n) here (ap (λ (o : StatementOutcome). o .answer) f) (ap (λ (o : StatementOutcome). o .config) f)
-            ∙ run-refused P limit target c₀ here count g h n i
-        by (handedStep v) i f =
-            stops (statement.HandedOver v) here (ap (λ (o : StatementOutcome). o .answer) f) (ap (λ (o : StatementOutcome). o .config) f)
-            ∙ run-handed P limit target c₀ here count g h v i
+      pub turn-room : (x .depth < 31) × (x .saved + r .locals ≤ 2048)
+      turn-room = entry.entry-room P f x cells saved r cells″ saved″ entering-here z
+
+  -- ---- a Return
+
+  module _ (a : ℕ) (d : done ≡ does.Returns a) (r : Leaving) (cells″ : List ℕ) (o : leavingOf r cells″ ≡ returning P a x cells′ saved) where
+    returning-here : leavingOf r cells″ ≡ returning P a x cells saved
+    returning-here = o ∙ ap (λ (cs : List ℕ). returning P a x cs saved) (same (does.Returns a) d)
+
+    pub turn-return-refused : (r .refusal ≡ 0 → ⊥) → (q : Ran) → q ≡ ranAs x (run.Refused (r .refusal)) count → ranOf q cells″ saved ≡ runFor P limit target c₀
+    unfolding stepAs leaveConditions
+    turn-return-refused z q k =
+        ap (λ (w : Ran). ranOf w cells″ saved) k
+        ∙ ap (λ (c : Config). record { answer = run.Refused (r .refusal); count = count; config = c }) (return.refused-config P a x cells saved r cells″ returning-here z)
+        ∙ run-refused P limit target c₀ here count g h (r .refusal)
+        (sym (known (does.Returns a) d) ∙ refuses-it (returnConditions P a here) (returned P a here) (r .refusal) (return.refusal-is P a x cells saved r cells″ returning-here) z)
+
+    module _ (z : r .refusal ≡ 0) where
+      abbrev there : Config
+      there = config (leftContext x (r .locals)) cells″ saved
+
+      completes : step P here ≡ completed there
+      unfolding stepAs leaveConditions
+      completes =
+          sym (known (does.Returns a) d)
+          ∙ accepts (returnConditions P a here) (returned P a here) (return.clear P a x cells saved r cells″ returning-here z)
+          ∙ ap completed (sym (return.returned-config P a x cells saved r cells″ returning-here z))
+
+      pub turn-ended : x .depth - 1 ≡ target → (q : Ran) → q ≡ ranAs (leftContext x (r .locals)) run.Ended (count + 1) → ranOf q cells″ saved ≡ runFor P limit target c₀
+      turn-ended t q k = ap (λ (w : Ran). ranOf w cells″ saved) k ∙ run-ended P limit target c₀ here count g h there completes t
+
+      pub turn-again : (x .depth - 1 ≡ target → ⊥) → RunLeft P limit target c₀ there (count + 1)
+      turn-again t = run-again P limit target c₀ here count g h there completes t
+
+      pub turn-left : (0 < x .depth) × (r .locals ≤ x .saved)
+      turn-left = return.return-room P a x cells saved r cells″ returning-here z

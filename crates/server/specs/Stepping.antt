@@ -40,14 +40,8 @@ statementAnswer (answer.Refused n) = statement.Refused n
 abbrev pub completedOf : Answered → Stepped
 completedOf a = record { context = a .context; answer = statementAnswer (a .answer) }
 
--- what a run answers where it stops at a statement that does not complete
-abbrev runAnswer : StatementAnswer → RunAnswer
-runAnswer statement.Completed = run.Spent
-runAnswer (statement.Refused n) = run.Refused n
-runAnswer (statement.HandedOver h) = run.HandedOver h
-
-abbrev pub stoppedOf : ExecutionContext → StatementAnswer → ℕ → Ran
-stoppedOf x answer count = record { context = x; answer = runAnswer answer; count = count }
+abbrev pub ranAs : ExecutionContext → RunAnswer → ℕ → Ran
+ranAs x answer count = record { context = x; answer = answer; count = count }
 
 abbrev pub notRun : ExecutionContext → ℕ → Ran
 notRun x n = record { context = x; answer = run.Refused n; count = 0 }

@@ -1,6 +1,6 @@
 // Statements and runs (server/mod.rs, LevelState::execute_program).
 ghost use mathlib.Core.Path.{_≡_};
-ghost use Prim.Native.Nat.{ℕ};
+ghost use Prim.Native.Nat.{_<_};
 ghost use lib.ListN.{length};
 ghost use Rattle.definition.specs.Machine.{stepAs, step, runFor};
 ghost use Rattle.definition.specs.Load.{programOf};
@@ -8,14 +8,16 @@ ghost use Rattle.definition.specs.Operations.{statement, run};
 ghost use Rattle.definition.specs.Answers.{statementOutcome};
 ghost use Rattle.execution.specs.Execution.{doesOf};
 ghost use Rattle.progs.specs.Contexts.{config, Within};
-ghost use Rattle.server.specs.Stepping.{completedOf, stoppedOf, steppedOf, ranOf, notRun, Stands};
+ghost use Rattle.server.specs.Stepping.{completedOf, steppedOf, ranAs, ranOf, notRun, Stands};
 use definition::Answer;
 use definition::RunAnswer;
+use definition::StackFrame;
 use definition::StatementAnswer;
 use execution::Executed;
 use functions::fetch;
 use progs::Answered;
 use progs::ExecutionContext;
+use progs::calls;
 
 // The context after a statement, and what it answers.
 pub struct Stepped {
@@ -139,36 +141,18 @@ pub fn statement(
     step(context, file, cells, saved)
 }
 
-// A run that stops at a statement.
-fn stopped(context: ExecutionContext, answer: StatementAnswer, count: u32) -> Ran
-    ensures { λ r. ⌜ r ≡ stoppedOf context answer count ⌝ }
+fn ends(context: ExecutionContext, answer: RunAnswer, count: u32) -> Ran
+    ensures { λ r. ⌜ r ≡ ranAs context answer count ⌝ }
 {
-    match answer {
-        StatementAnswer::Completed => {
-            return Ran {
-                context,
-                answer: RunAnswer::Spent,
-                count,
-            };
-        }
-        StatementAnswer::Refused(n) => {
-            return Ran {
-                context,
-                answer: RunAnswer::Refused(n),
-                count,
-            };
-        }
-        StatementAnswer::HandedOver(h) => {
-            return Ran {
-                context,
-                answer: RunAnswer::HandedOver(h),
-                count,
-            };
-        }
+    Ran {
+        context,
+        answer,
+        count,
     }
 }
 
-// At most `limit` statements, until the depth is the target. A statement that neither enters nor leaves moves the position alone.
+// At most `limit` statements, until the depth is the target. The context stays where it is: an entry and a Return go by numbers, and the frames are
+// written in place.
 fn run_for(
     context: ExecutionContext,
     file: &[u8],
@@ -178,7 +162,7 @@ fn run_for(
     saved: &mut [u32],
 ) -> Ran
     requires { ⌜ Within (now file) context (length (now cells)) (length (now saved)) ⌝ }
-    requires { ⌜ (context .depth ≡ target → ⊥) ⌝ }
+    requires { ⌜ target < context .depth ⌝ }
     ensures { λ r. ⌜ ranOf r (now (cells .exit)) (now (saved .exit)) ≡ runFor (programOf (now (file .entry))) limit target (config context (now (cells .entry)) (now (saved .entry))) ⌝ }
 {
     let recorded = context.file;
@@ -189,6 +173,7 @@ fn run_for(
     let mut now = context;
     let mut count: u32 = 0;
     while count < limit {
+        let completed = count + 1;
         let done = execution::does(
             file,
             statements.offset,
@@ -204,32 +189,71 @@ fn run_for(
         match done {
             Executed::Next(p) => {
                 now.pc = p;
-                count += 1;
             }
-            _ => {
-                let completed = count + 1;
-                let stepped = perform(now, file, done, cells, saved);
-                let answer = stepped.answer;
-                now = stepped.context;
-                let StatementAnswer::Completed = answer else {
-                    return stopped(now, answer, count);
+            Executed::Calls(f) => {
+                let back = fetch::after(fetch::place_of(0, now.pc));
+                let entry = calls::enter_cells(
+                    file,
+                    functions.offset,
+                    functions.count,
+                    f,
+                    now.depth,
+                    now.saved,
+                    globals.count,
+                    cells,
+                    saved,
+                );
+                if entry.refusal != 0 {
+                    return ends(now, RunAnswer::Refused(entry.refusal), count);
+                }
+                let at = now.depth;
+                let frame = StackFrame {
+                    instr_id: back,
+                    func_id: now.current_function,
                 };
-                count = completed;
-                if now.depth == target {
-                    return Ran {
-                        context: now,
-                        answer: RunAnswer::Ended,
-                        count,
-                    };
+                now.frames[at] = frame;
+                now.depth = at + 1;
+                now.saved = now.saved + entry.locals;
+                now.current_function = f;
+                now.pc = entry.first;
+            }
+            Executed::Returns(a) => {
+                let leaving = calls::return_cells(
+                    file,
+                    functions.offset,
+                    functions.count,
+                    now.current_function,
+                    now.depth,
+                    now.saved,
+                    globals.count,
+                    a,
+                    cells,
+                    saved,
+                );
+                if leaving.refusal != 0 {
+                    return ends(now, RunAnswer::Refused(leaving.refusal), count);
+                }
+                let at = now.depth - 1;
+                let top = now.frames[at];
+                let none = StackFrame {
+                    instr_id: 0,
+                    func_id: 0,
+                };
+                now.frames[at] = none;
+                now.depth = at;
+                now.saved = now.saved - leaving.locals;
+                now.current_function = top.func_id;
+                now.pc = top.instr_id;
+                if at == target {
+                    return ends(now, RunAnswer::Ended, completed);
                 }
             }
+            Executed::Refused(n) => return ends(now, RunAnswer::Refused(n), count),
+            Executed::HandedOver(h) => return ends(now, RunAnswer::HandedOver(h), count),
         }
+        count = completed;
     }
-    Ran {
-        context: now,
-        answer: RunAnswer::Spent,
-        count,
-    }
+    ends(now, RunAnswer::Spent, count)
 }
 
 fn not_run(context: ExecutionContext, n: u8) -> Ran

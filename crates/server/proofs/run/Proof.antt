@@ -85,7 +85,7 @@ cast-run-for : tie.Need-cast-run-for
 cast-run-for c = let few = ltb-false 99999 (c .before .before .before .before .before .place-of .result) (c .before .before .before .if3 .left) in omega (arith, few)
 
 run-for-requires : tie.Need-run-for-requires
-run-for-requires c κs = (passed _ _ _ _ (sound-here (c .before .before .before .before .before .before .before .before)), λ z. absurd (omega (arith, z, c .before .before .if4 .left)))
+run-for-requires c κs = (passed _ _ _ _ (sound-here (c .before .before .before .before .before .before .before .before)), c .before .before .if4 .left)
 
 same-length-7 : tie.Need-same-length-7
 same-length-7 c = search needs
