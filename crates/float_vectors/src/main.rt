@@ -1,7 +1,6 @@
 // Runs the cases on standard input through the compiled functions of `floats`, and compares each result with the case's own.
 // A case is a line of eight hexadecimal numbers: the opcode, three cells of the first operand, three of the second, the result.
 // tools/float_vectors.py writes them, from a model of its own.
-ghost use Prim.Native.Nat.{_+_, _≤_, _<_};
 use libc::STDIN_FILENO;
 use libc::STDOUT_FILENO;
 
@@ -9,29 +8,6 @@ enum Outcome {
     Same,
     Differs,
     End,
-}
-
-// A hexadecimal digit in lower case.
-fn digit(b: u8) -> u32
-    ensures { λ r. ⌜ r < 16 ⌝ }
-{
-    if b < b'a' {
-        return (b % 16) as u32;
-    }
-    ((b % 16 + 9) % 16) as u32
-}
-
-// The number that the `n` digits from `at` on spell.
-fn number(line: &[u8; 66], at: usize, n: usize) -> u32
-    requires { ⌜ at + n ≤ 66 ⌝ }
-{
-    let mut x: u32 = 0;
-    let mut i: usize = 0;
-    while i < n {
-        x = x % 0x1000_0000 * 16 + digit(line[at + i]);
-        i += 1;
-    }
-    x
 }
 
 // Each function by opcode gives 0 for the opcodes of the others. NotV is in none of them.
@@ -56,17 +32,17 @@ fn run_case() -> Outcome {
     if io::read_full(STDIN_FILENO, &mut line) < 66 {
         return Outcome::End;
     }
-    let op = (number(&line, 0, 2) % 65536) as u16;
+    let op = (vectors::number(&line, 0, 2) % 65536) as u16;
     let got = result(
         op,
-        number(&line, 3, 8),
-        number(&line, 12, 8),
-        number(&line, 21, 8),
-        number(&line, 30, 8),
-        number(&line, 39, 8),
-        number(&line, 48, 8),
+        vectors::number(&line, 3, 8),
+        vectors::number(&line, 12, 8),
+        vectors::number(&line, 21, 8),
+        vectors::number(&line, 30, 8),
+        vectors::number(&line, 39, 8),
+        vectors::number(&line, 48, 8),
     );
-    if got == number(&line, 57, 8) {
+    if got == vectors::number(&line, 57, 8) {
         return Outcome::Same;
     }
     report(got, &line);
@@ -97,8 +73,5 @@ fn run_cases() -> Counts {
 
 fn main() {
     let c = run_cases();
-    io::print_decimal(STDOUT_FILENO, c.cases);
-    io::write_all(STDOUT_FILENO, b" cases, ");
-    io::print_decimal(STDOUT_FILENO, c.differ);
-    io::write_all(STDOUT_FILENO, b" differ\n");
+    vectors::report(c.cases, c.differ);
 }

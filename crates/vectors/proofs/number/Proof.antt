@@ -1,7 +1,7 @@
 use borrow.Author.Needs.{needs}
 use Prim.Native.Nat.{_≤_, _-_}
-use Rattle.float_vectors.proofs.number.Statement.{statement}
-use Rattle.float_vectors.proofs.number.Tie as tie
+use Rattle.vectors.proofs.number.Statement.{statement}
+use Rattle.vectors.proofs.number.Tie as tie
 
 abbrev Inv-loop : tie.InvT-loop
 Inv-loop line at n x₀ i₀ x i = i ≤ n

@@ -1,0 +1,236 @@
+#!/usr/bin/env python3
+"""Counts what the cases of tests/model/cases/statements.txt reach, as the table of docs/VECTORS.md:
+
+    python3 tools/statement_coverage.py
+
+A case may count in several rows. `under` is the note of the case file under which most of a row's cases stand.
+"""
+import struct
+from collections import Counter
+from fractions import Fraction
+
+import statement_vectors
+
+INFINITY = 0x7F800000
+HOST = {*range(24, 31), *range(37, 43), 60}
+STORES, STORE_V, STRING_PAIRS, GOTO = range(31, 37), 32, (12, 17), 61
+# what the operands are: f float, v vector, s string, e entity, d field, c function, 0 unused and 0, - not looked at
+KINDS = {1: 'fff', 2: 'vvf', 3: 'fvv', 4: 'vfv', 5: 'fff', 6: 'fff', 7: 'vvv', 8: 'fff', 9: 'vvv',
+         10: 'fff', 11: 'vvf', 12: 'ssf', 13: 'eef', 14: 'ccf', 15: 'fff', 16: 'vvf', 17: 'ssf', 18: 'eef', 19: 'ccf',
+         20: 'fff', 21: 'fff', 22: 'fff', 23: 'fff', 31: 'ff0', 32: 'vv0', 33: 'ss0', 34: 'ee0', 35: 'dd0', 36: 'cc0',
+         44: 'f0f', 45: 'v0f', 46: 's0f', 47: 'e0f', 48: 'c0f', 49: 'f--', 50: 'f--', 62: 'fff', 63: 'fff', 64: 'fff',
+         65: 'fff', **{op: 'c--' for op in range(51, 60)}}
+TYPES = dict(s=1, f=2, v=2, e=4, d=5, c=6)
+ARITHMETIC = {1: 'mul', 3: 'mul', 4: 'mul', 5: 'div', 6: 'add', 7: 'add', 8: 'sub', 9: 'sub'}
+BITS = (64, 65)
+VECTORS = (3, 4, 7, 9)
+
+
+# ---- floats
+
+def is_nan(x):
+    return x & 0x7FFFFFFF > INFINITY
+
+
+def is_infinite(x):
+    return x & 0x7FFFFFFF == INFINITY
+
+
+def is_subnormal(x):
+    return 0 < x & 0x7FFFFFFF < 0x00800000
+
+
+def exact(x):
+    e, digits = x >> 23 & 255, x & 0x7FFFFF
+    size = digits * Fraction(2) ** -149 if e == 0 else (0x800000 + digits) * Fraction(2) ** (e - 150)
+    return -size if x >> 31 else size
+
+
+def is_tie(op, x, y):
+    """The exact result lies half way between two floats."""
+    if any(map(is_nan, (x, y))) or any(map(is_infinite, (x, y))) or (op == 'div' and exact(y) == 0):
+        return False
+    p, q = exact(x), exact(y)
+    result = abs(dict(mul=lambda: p * q, div=lambda: p / q, add=lambda: p + q, sub=lambda: p - q)[op]())
+    step = -149
+    while result >= Fraction(2) ** (step + 24):
+        step += 1
+    return result / Fraction(2) ** step % 1 == Fraction(1, 2)
+
+
+# ---- a case
+
+class Case:
+    def __init__(self, vector, note):
+        self.vector, self.note = vector, note
+        self.kinds = KINDS.get(vector.opcode, '---')
+        self.operands = (vector.a, vector.b, vector.c)
+        self.accepted = vector.word == 'accepted'
+        self.written = 1 if vector.opcode in STORES else 2
+
+    def cell(self, cell):
+        return self.vector.cells.get(cell, 0)
+
+    def result(self, cell):
+        return dict(self.vector.changed).get(cell, self.cell(cell))
+
+    def floats_of(self, index):
+        kind, at = self.kinds[index], self.operands[index]
+        return [at] if kind == 'f' else [at, at + 1, at + 2] if kind == 'v' else []
+
+    def floats_read(self):
+        """The floats that a statement which is no Store computes with."""
+        if not self.accepted or self.vector.opcode in STORES:
+            return []
+        return [self.cell(at) for index in (0, 1) if index != self.written for at in self.floats_of(index)]
+
+    def floats_made(self):
+        if not self.accepted or self.vector.opcode not in (*ARITHMETIC, 2, *BITS):
+            return []
+        return [self.result(at) for at in self.floats_of(2)]
+
+    def operations(self):
+        """The single operations of an arithmetic statement: a name and two floats."""
+        if self.accepted and self.vector.opcode in ARITHMETIC:
+            name, x, y = ARITHMETIC[self.vector.opcode], self.floats_of(0), self.floats_of(1)
+            count = max(len(x), len(y))
+            for i in range(count):
+                yield name, self.cell(x[i % len(x)]), self.cell(y[i % len(y)])
+
+    def vector_places(self):
+        return [self.operands[i] for i in range(3) if self.kinds[i] == 'v']
+
+    def overlaps(self):
+        """The cells that are written hold some that are read, without being the same operand."""
+        written = self.floats_of(self.written)
+        read = [self.floats_of(i) for i in range(self.written) if self.operands[i] != self.operands[self.written]]
+        return self.accepted and any(set(written) & set(cells) for cells in read)
+
+    # ---- what is wrong with the operands, each by itself
+
+    def definitions(self):
+        offset, count = struct.unpack_from('<2i', self.vector.file.bytes, 16)
+        changed = bytearray(self.vector.file.bytes)
+        for place, byte in self.vector.pokes:
+            changed[place] = byte
+        return [struct.unpack_from('<2H', changed, offset + 8 * i) for i in range(count)]
+
+    def type_of(self, cell):
+        return next((kind % 32768 for kind, at in self.definitions() if at == cell), None)
+
+    def by_address(self):
+        return self.vector.opcode == STORE_V and 1 <= self.vector.b <= 27
+
+    def unread(self, index):
+        return self.vector.opcode in STRING_PAIRS and index < 2 and self.vector.a == self.vector.b >= 0
+
+    def fault_of_cell(self, kind, cell):
+        defined = None if cell < 0 or self.by_address() else self.type_of(cell)
+        defined = 2 if defined == 3 else defined
+        if defined not in (None, TYPES[kind]):
+            return 16
+        return 0 if 0 <= cell < self.vector.file.count else 15
+
+    def fault(self, index):
+        kind, at = self.kinds[index], self.operands[index]
+        if kind == '-' or self.unread(index):
+            return 0
+        if kind == '0':
+            return 18 if at else 0
+        for cell in (at, at + 1, at + 2) if kind == 'v' else (at,):
+            number = self.fault_of_cell(kind, cell)
+            if number:
+                return number
+        read = index != self.written or self.vector.opcode in STORES and index == 0
+        must = kind in 'ed' or (kind == 's' and self.vector.opcode == 33)
+        return 17 if read and must and self.cell(at) >> 31 else 0
+
+    def faults(self):
+        found = [number for number in map(self.fault, range(3)) if number]
+        # a Call, whose operand may be fine, is refused for its function too
+        assert self.kinds in ('---', 'c--') or (self.vector.number in found if self.vector.word == 'refused' else not found)
+        return found
+
+
+def cases():
+    note, notes = '', []
+    with open(statement_vectors.CASES, encoding='ascii') as lines:
+        for line in lines:
+            if line.startswith('#'):
+                note = line[1:].strip()
+            elif line.startswith('vector'):
+                notes.append(note)
+    return [Case(vector, note) for vector, note in zip(statement_vectors.vectors(), notes)]
+
+
+# ---- the rows
+
+def operand_row(case, number):
+    return case.vector.refused(number) and number in case.faults()
+
+
+def wholes(case):
+    return [case.cell(at) for at in case.operands[:2]] if case.vector.opcode in BITS else []
+
+
+def too_far(x, sign):
+    return not is_nan(x) and x >> 31 == sign and (is_infinite(x) or exact(x) >= 2**31 or exact(x) < -2**31)
+
+
+ROWS = [
+    ('a NaN is computed with', lambda c: any(map(is_nan, c.floats_read()))),
+    ('arithmetic makes a NaN', lambda c: any(map(is_nan, c.floats_made()))),
+    ('an infinity is computed with', lambda c: any(map(is_infinite, c.floats_read()))),
+    ('arithmetic makes an infinity', lambda c: any(map(is_infinite, c.floats_made()))),
+    ('-0 is computed with', lambda c: 0x80000000 in c.floats_read()),
+    ('arithmetic makes -0', lambda c: 0x80000000 in c.floats_made()),
+    ('a subnormal is computed with', lambda c: any(map(is_subnormal, c.floats_read()))),
+    ('arithmetic makes a subnormal', lambda c: any(map(is_subnormal, c.floats_made()))),
+    ('a result half way between two floats', lambda c: any(is_tie(*operation) for operation in c.operations())),
+    ('`as i32` saturates upward', lambda c: any(too_far(x, 0) for x in wholes(c))),
+    ('`as i32` saturates downward', lambda c: any(too_far(x, 1) for x in wholes(c))),
+    ('a vector at the last three cells', lambda c: c.accepted and c.vector.file.count - 3 in c.vector_places()),
+    ('a vector that ends past the last cell',
+     lambda c: c.vector.refused(15) and any(at in c.vector_places() for at in (c.vector.file.count - 2, c.vector.file.count - 1))),
+    ('a StoreV whose vectors overlap', lambda c: c.vector.opcode == STORE_V and c.overlaps()),
+    ('a vector statement that writes over cells that it reads', lambda c: c.vector.opcode in VECTORS and c.overlaps()),
+    ('an operand refused 15: no such cell', lambda c: operand_row(c, 15)),
+    ('an operand refused 16: another type', lambda c: operand_row(c, 16)),
+    ('an operand refused 17: a negative number', lambda c: operand_row(c, 17)),
+    ('an operand refused 18: the unused one is given', lambda c: operand_row(c, 18)),
+    ('two operands that would be refused', lambda c: len(c.faults()) > 1),
+    ('two operands that would be refused with different numbers', lambda c: len(set(c.faults())) > 1),
+    ('refused at the fetch, 7', lambda c: c.vector.refused(7)),
+    ('a Call: 19, 20, 5, a builtin', lambda c: c.vector.refused(19, 20, 5) or c.vector.word == 'builtin'),
+]
+
+
+def opcodes_with(found, test):
+    return {c.vector.opcode for c in found if test(c)} & set(range(66))
+
+
+def table():
+    found = cases()
+    yield '| cases | that reach | under |'
+    yield '|---|---|---|'
+    for what, test in ROWS:
+        reached = [c for c in found if test(c)]
+        assert reached, what
+        yield f'| {len(reached)} | {what} | {Counter(c.note for c in reached).most_common(1)[0][0]} |'
+    accepted = opcodes_with(found, lambda c: c.accepted)
+    refused = opcodes_with(found, lambda c: c.vector.word == 'refused')
+    handed = opcodes_with(found, lambda c: c.vector.word == 'opcode')
+    assert handed == HOST and accepted == set(range(66)) - HOST and set(range(66)) - HOST - refused == {GOTO}
+    yield ''
+    yield (f'Of the {len(found)} cases {sum(c.accepted for c in found)} are accepted. Of the 66 opcodes {len(accepted)} are accepted '
+           f'at least once and {len(handed)} handed over; of those accepted all but Goto, which looks at no cell, are refused at '
+           'least once.')
+
+
+def main():
+    for line in table():
+        print(line)
+
+
+if __name__ == '__main__':
+    main()
