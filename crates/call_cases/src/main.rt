@@ -4,13 +4,13 @@ ghost use Prim.Native.Nat.{_≤_, _<_};
 ghost use lib.ListN.{length};
 use calls::Done;
 use calls::Said;
+use cases::digest;
 use libc::STDIN_FILENO;
 use libc::STDOUT_FILENO;
 use progs::ExecutionContext;
 use progs::load;
 
 mod calls;
-mod digest;
 mod fields;
 
 fn print_field(n: u64) {

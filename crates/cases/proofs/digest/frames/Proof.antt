@@ -1,7 +1,7 @@
 use borrow.Author.Needs.{needs}
 use Prim.Native.Nat.{_≤_, _-_}
-use Rattle.call_cases.proofs.digest.frames.Statement.{statement}
-use Rattle.call_cases.proofs.digest.frames.Tie as tie
+use Rattle.cases.proofs.digest.frames.Statement.{statement}
+use Rattle.cases.proofs.digest.frames.Tie as tie
 
 abbrev Inv-loop : tie.InvT-loop
 Inv-loop frames h₀ i₀ h i = i ≤ 31

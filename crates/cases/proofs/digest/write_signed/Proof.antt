@@ -9,8 +9,8 @@ use mir.Syntax.{w64}
 use Rattle.text.specs.Text.{signedDecimal}
 use Rattle.text.specs.Output.{Output, put}
 use Rattle.text.specs.Laws.{signed-20}
-use Rattle.call_cases.proofs.digest.write_signed.Statement.{statement}
-use Rattle.call_cases.proofs.digest.write_signed.Tie as tie
+use Rattle.cases.proofs.digest.write_signed.Statement.{statement}
+use Rattle.cases.proofs.digest.write_signed.Tie as tie
 
 short : (s : tie.Start) → length (signedDecimal (toZ w64 (ofZ w64 (s .args .n)))) ≤ 20
 short s = rw (toZ-ofZ (s .fits .n)) (signed-20 _ (s .fits .n .sfits))
