@@ -3,6 +3,8 @@
 ghost use Prim.Native.Nat.{_+_, _*_, _≤_, _<_};
 ghost use lib.ListN.{length};
 
+pub mod digest;
+
 // The place of the first `b` from `at` on, or the length.
 fn find(s: &[u8], at: usize, b: u8) -> usize
     requires { ⌜ at ≤ length (now s) ⌝ }
