@@ -10,3 +10,4 @@ pub mod Completed
 pub mod Runs
 pub mod Untouched
 pub mod Opcodes
+pub mod Refusals

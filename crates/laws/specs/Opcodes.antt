@@ -13,7 +13,6 @@ use lib.Ieee as Ieee
 use Rattle.definition.specs.declared.Statement.{Statement}
 use Rattle.definition.specs.declared.Definition.{Definition}
 use Rattle.definition.specs.declared.FunctionDef.{FunctionDef}
-use Rattle.definition.specs.declared.Handover.{Handover}
 use Rattle.definition.specs.declared.Handover.the-variants.{Builtin, Opcode}
 use Rattle.definition.specs.Checks.{judge}
 use Rattle.definition.specs.File.{Contents, builtinNumber}
