@@ -655,9 +655,11 @@ strings =
     ++ refuse "second negative, before the first one's type" stringOpcodes (λ o. op o 36 0xffff 36) 15
     ++ refuse "both negative" stringOpcodes (λ o. op o 0xffff 0x8000 33) 15
     ++ refuse "equal operands that are negative" stringOpcodes (λ o. op o 0xffff 0xffff 33) 15
+    ++ refuse "equal operands that are -32,768" stringOpcodes (λ o. op o 0x8000 0x8000 33) 15
     ++ equalOperands (λ o. op o 36 36 33)
     ++ equalOperands (λ o. op o 66 66 33)
     ++ equalOperands (λ o. op o 0 0 33)
+    ++ equalOperands (λ o. op o 0x7fff 0x7fff 33)
     ++ refuse "equal operands: 16 of the destination" stringOpcodes (λ o. op o 36 36 39) 16
     ++ refuse "equal operands: 15 of the destination" stringOpcodes (λ o. op o 36 36 66) 15
     ++ refuse "first, then second" stringOpcodes (λ o. op o 66 36 36) 15
