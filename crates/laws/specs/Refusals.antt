@@ -163,6 +163,7 @@ entries =
     ∷ rowOf "15: argument cells, their sources" (entering (fn 0xffffffff 0 0 1 (61 ∷ [])) (at 30 2044)) 15
     ∷ rowOf "21: builtin" (entering (fn 0xffffffff 60 4 2 (2 ∷ 2 ∷ 9 ∷ [])) (at 30 2044)) 21
     ∷ rowOf "none" (entering (fn 0 60 4 2 (2 ∷ 2 ∷ 9 ∷ [])) (at 30 2044)) 0
+    ∷ rowOf "none: a first statement that there can't be" (entering (fn 0x7fffffff 60 4 0 []) (at 30 2044)) 0
     ∷ rowOf "none: no local cells, and none is looked at" (entering (fn 0 0xffffffff 0 1 (0 ∷ [])) (at 30 2048)) 0
     ∷ []
 
@@ -176,6 +177,7 @@ copies =
     ∷ row "sizes 1 and 3" (afterEntry (fn 1 40 0 2 (1 ∷ 3 ∷ 1 ∷ []))) (numbers 40 0 ++ (4 ∷ 7 ∷ 8 ∷ 9 ∷ []) ++ numbers 20 44)
     ∷ row "sizes 5 and 0 and 1" (afterEntry (fn 1 40 0 3 (5 ∷ 0 ∷ 1 ∷ []))) (numbers 40 0 ++ (4 ∷ 5 ∷ 6 ∷ 7 ∷ 8 ∷ 10 ∷ []) ++ numbers 18 46)
     ∷ row "one at a time" (afterEntry (fn 1 5 0 1 (3 ∷ []))) (numbers 5 0 ++ (4 ∷ 4 ∷ 4 ∷ []) ++ numbers 56 8)
+    ∷ row "the first argument first" (afterEntry (fn 1 7 0 2 (1 ∷ 1 ∷ []))) (numbers 7 0 ++ (4 ∷ 4 ∷ []) ++ numbers 55 9)
     ∷ []
 
 -- in function 0, which has so many locals from a cell on
