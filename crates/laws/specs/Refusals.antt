@@ -14,7 +14,7 @@ use Rattle.definition.specs.declared.Handover.the-variants.{Builtin, Opcode}
 use Rattle.definition.specs.Checks.{judge, refused, accepted}
 use Rattle.definition.specs.File.{builtinNumber}
 use Rattle.definition.specs.Cells.{cellOf}
-use Rattle.definition.specs.Statements.{refuses}
+use Rattle.definition.specs.Statements.{Does, next, calls, returns, refuses, handsOver, callOf}
 use Rattle.definition.specs.Machine.{Program, State, Config, limits, zeroFrame, present, copied, successive, arguments, copiesPresent}
 use Rattle.definition.specs.Machine.{entryConditions, entered, leaveConditions, returnConditions, Stepped, completed, refusedStep, handedStep}
 use Rattle.definition.specs.Load.{each, recordConditions}
@@ -180,6 +180,22 @@ copies =
     ∷ row "the first argument first" (afterEntry (fn 1 7 0 2 (1 ∷ 1 ∷ []))) (numbers 7 0 ++ (4 ∷ 4 ∷ []) ++ numbers 55 9)
     ∷ []
 
+abbrev refusalOf : Does → ℕ
+refusalOf (next p cells) = 0
+refusalOf (calls f) = 0
+refusalOf (returns a) = 0
+refusalOf (refuses n) = n
+refusalOf (handsOver h) = 0
+
+-- "Call, 19: function 0; 20: no such function; 5 again"
+abbrev called : List Row
+called =
+    rowOf "19, in a file without functions" (refusalOf (callOf [] 0)) 19
+    ∷ rowOf "20, in a file without functions" (refusalOf (callOf [] 1)) 20
+    ∷ rowOf "19: function 0 is minus 5" (refusalOf (callOf (minus 5 ∷ []) 0)) 19
+    ∷ rowOf "5 again" (refusalOf (callOf (minus 1 ∷ minus 5 ∷ []) 1)) 5
+    ∷ []
+
 -- in function 0, which has so many locals from a cell on
 abbrev returning : ℕ → ℕ → ℕ → Config → ℕ
 returning a start locals c = judge (returnConditions (program (fn 0 start locals 0 [] ∷ [])) (cellOf a) c)
@@ -239,9 +255,9 @@ answers =
     ∷ []
 
 abbrev pub rows : List Row
-rows = records ++ entries ++ copies ++ leavings ++ runs ++ answers
+rows = records ++ entries ++ copies ++ called ++ leavings ++ runs ++ answers
 
 pub refusals-stand : T (all rows)
-unfolding judge builtinNumber cellOf limits present copied successive arguments copiesPresent entryConditions entered leaveConditions
+unfolding judge builtinNumber cellOf callOf limits present copied successive arguments copiesPresent entryConditions entered leaveConditions
     each recordConditions frameFunctions enteredFunctions allPresent localsOf sound runConditions
 refusals-stand = tt
