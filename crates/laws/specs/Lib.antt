@@ -9,3 +9,5 @@ pub mod Alone
 pub mod Completed
 pub mod Runs
 pub mod Untouched
+pub mod Opcodes
+pub mod Refusals
