@@ -1,7 +1,7 @@
 #!/usr/bin/env python3
 """measure_runs.py [SHOW]: instructions a statement in whole runs of the show program (default target/bin/show).
 
-Three programs, each at two lengths; the difference of valgrind's instruction counts, divided by the difference of completed
+Four programs, each at two lengths; the difference of valgrind's instruction counts, divided by the difference of completed
 statements, leaves out the start of the process and the load. What show prints is held to the model's line first.
 """
 import os
@@ -43,6 +43,13 @@ def floats(times, definitions=()):
     return loop(body, times, definitions=definitions)
 
 
+def mixed(times):
+    """The statements of tools/instructions.py's first row, within the counted loop."""
+    body = [("AddF", SUM, ONE, SUM), ("MulF", SUM, PRODUCT, 47), ("Lt", 47, SUM, 48), ("IfNot", 48, 1), ("Goto", 1), ("SubF", 47, SUM, 49),
+            ("EqF", 49, ONE, 50), ("If", 50, 1)]
+    return loop(body, times)
+
+
 def with_definitions(times):
     return floats(times, definitions=[(2, 60, 0)] * 1500)
 
@@ -74,8 +81,9 @@ def measured(show, file):
 def main():
     show = sys.argv[1] if len(sys.argv) > 1 else os.path.join(HERE, "..", "target", "bin", "show")
     for name, make, short, long in [
-        ("floats, no definitions", floats, 1000, 10000),
-        ("floats, 1,500 definitions that don't match", with_definitions, 20, 100),
+        ("float arithmetic, no definitions", floats, 1000, 10000),
+        ("floats, comparisons and jumps, no definitions", mixed, 700, 7000),
+        ("float arithmetic, 1,500 definitions that don't match", with_definitions, 20, 100),
         ("many small calls", calls, 1000, 10000),
     ]:
         (a, m), (b, n) = measured(show, make(short)), measured(show, make(long))
