@@ -11,8 +11,8 @@ import unittest
 ROOT = os.path.join(os.path.dirname(os.path.abspath(__file__)), '..')
 
 
-def written_by(tool):
-    return subprocess.run([sys.executable, os.path.join(ROOT, 'tools', tool)], check=True, capture_output=True, text=True).stdout
+def written_by(tool, *words):
+    return subprocess.run([sys.executable, os.path.join(ROOT, 'tools', tool), *words], check=True, capture_output=True, text=True).stdout
 
 
 def held(*path):
@@ -26,6 +26,9 @@ class Tools(unittest.TestCase):
 
     def test_statement_vectors(self):
         self.assertTrue(written_by('statement_vectors.py') == held('crates', 'statement_vectors', 'stdin'))
+
+    def test_statement_loop(self):
+        self.assertTrue(written_by('instructions.py', '--stdin') == held('crates', 'statement_loop', 'stdin'))
 
     def test_statement_coverage(self):
         self.assertIn(written_by('statement_coverage.py'), held('docs', 'VECTORS.md'))
