@@ -28,7 +28,10 @@ def instructions_of(engine, path):
     words = ["valgrind", "--tool=callgrind", "--callgrind-out-file=/dev/null"]
     process = started(engine, path, words, stdout=subprocess.DEVNULL, stderr=subprocess.PIPE, text=True)
     report = process.communicate()[1]
-    return int(re.search(r"Collected : (\d+)", report).group(1))
+    collected = re.search(r"Collected : (\d+)", report)
+    if not collected:
+        raise SystemExit(f"valgrind fails on {engine.name} with {path}:\n{report}")
+    return int(collected.group(1))
 
 
 def seconds_of(engine, path):
