@@ -1,4 +1,5 @@
--- One law for the view's thin readers, over the type of what they find and its definition: a walk of their MIR, by hand. The view is taken apart, and the covered function is called on the slice, the record and the number. All that is known of it is that it meets its contract.
+-- One law for the view's thin readers, over the type of what they find and its definition: a walk of their MIR, by hand. The view is taken apart, and
+-- the covered function is called on the slice, the record and the number. All that is known of it is that it meets its contract.
 -- The slice goes to the callee for good, and nothing is had of the view at exit (`stay-dropped`): it is Copy, so its caller kept its own.
 -- Assumes nothing.
 use mathlib.Core.Path.{_≡_, refl}
@@ -116,7 +117,7 @@ module _ (R : RattleType) (def : List ℕ → FileRecord → ℤ → R .Denot) w
     goes g =
         qed W (Toks ∷ ‵ (owns (B (κ, tt) ∷ i64 ∷ []) (d, (n, tt)) (mach ∷ [], (nv, tt))) ∷ []) ∵
         move ! (1 ∷ []) $ fsplit ! $ use1 W (given (mach ∷ [] ≡ mach ∷ []) (‵ (all-own (D .parts) L vd))) (own-open 𝓤 H A W D L vd mach) $ learn ! (λ _. fsplit ! $
-        -- [what file owns; what the record own; what n owns, and the end; the token]
+        -- [what file owns; what the record owns; what n owns, and the end; the token]
         keep ! (2 ∷ 0 ∷ 3 ∷ []) $ owned ! U.the-row (Is U.the-row) (LL.makes U.the-type U′.the-plain 𝓤 H A) (d .recorded) _ g $ fjoin ! $ move ! (1 ∷ 0 ∷ []) $ fjoin ! $ move ! (1 ∷ 0 ∷ []) $ join ! $ frame ! $ done !)
 
     said : (r : R .Denot) → ent 𝓤 (ensured 𝓤 H A ended-at (clauses-at 𝓤) (κ, tt) (d .file, (d .recorded, (n, tt))) tt r) (fact 𝓤 (r ≡ found))

@@ -1,5 +1,8 @@
--- `stepping::step` meets its contract: a walk of its MIR, by hand. The context's borrow is opened, its value is copied out and handed by value to the covered step, which is called at the slices' own lifetimes, shares and ghost names, so that nothing has to come back; the context that it returned is stored through the borrow, which is closed at it.
--- All that the proof knows of the covered step is that it meets its contract. Nothing here speaks of what the contract says, but `Promise`, nor of the context's fields.
+-- `stepping::step` meets its contract: a walk of its MIR, by hand. The context's borrow is opened, its value is copied out and handed by value to the
+-- covered step, which is called at the slices' own lifetimes, shares and ghost names, so that nothing has to come back; the context that it returned
+-- is stored through the borrow, which is closed at it.
+-- All that the proof knows of the covered step is that it meets its contract. Nothing here speaks of what the contract says, but `Promise`, nor of
+-- the context's fields.
 -- Assumes nothing.
 use mathlib.Core.Path.{_≡_, refl, ap}
 use Prim.Native.Nat.{ℕ}

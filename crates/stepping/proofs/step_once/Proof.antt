@@ -1,4 +1,5 @@
--- `stepping::step_once` meets its contract: a walk of its MIR, by hand. The context is copied into a local, which is lent to the outermost step for a lifetime that is made for the call, and comes back at the context's last value.
+-- `stepping::step_once` meets its contract: a walk of its MIR, by hand. The context is copied into a local, which is lent to the outermost step for a
+-- lifetime that is made for the call, and comes back at the context's last value.
 -- Its contract says nothing of a reference to a context, so whoever calls it needs no walk.
 -- Assumes nothing.
 use mathlib.Core.Path.{_≡_, refl, ap}
