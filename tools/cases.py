@@ -1,12 +1,12 @@
 #!/usr/bin/env python3
-"""Makes what the programs show, file_cases and call_cases read, and what they must write:
+"""Makes what the programs show, file_cases, call_cases and trace read, and what they must write:
 
     python3 tools/cases.py            writes crates/NAME/stdin and crates/NAME/stdout
     python3 tools/cases.py --check    says which of the committed files are not these
 
-show's file and line are document 01's. Those of the other two are taken from tests/model/cases, whose answers are the
+show's file and line are document 01's. Those of the others are taken from tests/model/cases, whose answers are the
 model's: file_cases reads `NAME LENGTH HEX` and writes `NAME LINE`; call_cases reads what stands before `=` in calls.txt
-and writes what stands after it. tests/model/README.md has the formats. Nothing here comes from a run of the machine.
+and writes what stands after it, and trace likewise in traces.txt. tests/model/README.md has the formats. Nothing here comes from a run of the machine.
 """
 import os
 import struct
@@ -51,6 +51,7 @@ def made():
     """Each file below crates/ with its bytes."""
     files = [line.split(" ") for line in lines("files.txt")]
     calls = [line.split(" = ") for line in lines("calls.txt")]
+    traces = [line.split(" = ") for line in lines("traces.txt")]
     return {
         "show/stdin": example(),
         "show/stdout": b"ended,0,2,0,0,0,0,40700000,00000000,00000000\n",
@@ -58,6 +59,8 @@ def made():
         "file_cases/stdout": text(name + " " + line for name, _, _, line in files),
         "call_cases/stdin": text(call[0] for call in calls),
         "call_cases/stdout": text(call[1] for call in calls if len(call) == 2),
+        "trace/stdin": text(line for line, _ in traces),
+        "trace/stdout": text(answer for _, answer in traces),
     }
 
 

@@ -122,7 +122,54 @@ def replay_calls(model):
         yield line, words[at + 1 :], [answer.word, *map(str, got), digest(machine)]
 
 
-REPLAYS = (replay_statements, replay_calls, replay_files)
+# lump's number in the header, record size, shape, and the refusal where there is no such record
+READS = {"statement": (0, 8, "<4H", "refused 14"), "function": (3, 36, "<7I8B", "refused 20"), "definition": (1, 8, "<HHI", "none")}
+
+
+def read_record(machine, kind, index, lent):
+    """What stands after `=`: a record of the lent bytes, where the state records its lump."""
+    lump, size, shape, absent = READS[kind]
+    offset, count = machine.state.lumps[2 * lump : 2 * lump + 2]
+    nothing = [0] * 14 if kind == "function" else []
+    if count > 0 and offset + size * count > lent:
+        return ["refused", 4, *nothing]
+    if not 0 <= index < count:
+        return [*absent.split(" "), *nothing]
+    record = struct.unpack_from(shape, machine.file, offset + size * index)
+    if kind == "function":
+        return ["accepted", 0, *record[:3], *record[4:]]
+    if kind == "statement":
+        return ["at", index, *record] if record[0] < 66 else ["refused", 7]
+    return ["at", *record]
+
+
+def replay_traces(model):
+    cells, saved = [0] * 64, [0] * 2048
+    for line in lines_of("traces.txt"):
+        given, expected = line.split(" = ")
+        kind, *words = given.split(" ")
+        if kind == "new":
+            file = bytes_of(*words)
+            machine = model.Machine(file, cells, saved)
+            answer = machine.load()
+            yield line, expected, f"{answer.word} {answer.detail}"
+            continue
+        number, lent = map(int, words)
+        if kind == "byte":
+            got = list(set_byte(model, machine, number, lent)[:2])
+        elif kind in READS:
+            got = read_record(machine, kind, number, lent)
+        else:
+            got = read_record(machine, "statement", machine.state.position, lent) if kind == "trace" else []
+            machine.file = file[:lent]
+            answer = machine.enter(number) if kind == "enter" else machine.statement()
+            machine.file = file
+            state = machine.state
+            got += [*answer[:2], state.position, state.function, state.depth, state.saved, digest(machine)]
+        yield line, expected, " ".join(map(str, got))
+
+
+REPLAYS = (replay_statements, replay_calls, replay_files, replay_traces)
 
 
 def differences(model):

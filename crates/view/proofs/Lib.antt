@@ -1,0 +1,3 @@
+mod Finding
+mod Readers
+mod Plain

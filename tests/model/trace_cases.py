@@ -1,0 +1,232 @@
+"""Records read through the view, and programs gone through statement by statement: cases/traces.txt."""
+
+from call_cases import digest_of
+from common import ONE, TWO, Xorshift, flt, hex_of, numbers, program, random_program
+from model import (
+    FLOAT, FUNCTION, FUNCTIONS, GLOBAL_DEFS, RECORD_SIZES, SAVE_FLAG, STATEMENTS, STRING, VECTOR,
+    Answer, Machine, Program, function,
+)
+
+MOST_STEPS = 40
+
+
+class Traces:
+    def __init__(self):
+        self.lines = []
+        self.seen = []  # (line's word, first word of what is expected, its number)
+        self.machine = None
+        self.file = b""
+
+    def note(self, text):
+        self.lines.append(f"# {text}")
+
+    def new(self, assembly, refused=0):
+        """64 lent cells and a saved store of 2,048, as the file before left them; zeros at first."""
+        cells, saved = (self.machine.cells, self.machine.saved_store) if self.machine else ([0] * 64, [0] * 2048)
+        self.file = assembly.bytes()
+        self.machine = Machine(self.file, cells, saved)
+        answer = self.machine.load()
+        assert answer.detail == refused, answer
+        self._write(f"new {hex_of(self.file)}", [*answer[:2]])
+
+    def _write(self, line, expected):
+        self.lines.append(f"{line} = {' '.join(map(str, expected))}")
+        self.seen.append((line.split(" ")[0], *expected[:2]))
+
+    # -- what the view's readers find ----------------------------------------------------------
+
+    def _records(self, lump, lent):
+        """The lump's count, and the reader of its records; nothing where refusal 4's condition fails."""
+        offset, count = self.machine.state.lumps[2 * lump : 2 * lump + 2]
+        if offset < 0 or count < 0 or (count > 0 and offset + RECORD_SIZES[lump] * count > lent):
+            return None, None
+        return count, Program(bytes(self.file[:lent]), self.machine.state.lumps)
+
+    def _statement(self, position, lent):
+        count, program_ = self._records(STATEMENTS, lent)
+        if program_ is None:
+            return ["refused", 4]
+        if not 0 <= position < count:
+            return ["refused", 14]
+        record = program_.statement(position)
+        if not 0 <= record.opcode <= 65:
+            return ["refused", 7]
+        return ["at", position, *(number & 0xFFFF for number in record)]
+
+    def statement(self, position, lent=None):
+        lent = len(self.file) if lent is None else lent
+        self._write(f"statement {position} {lent}", self._statement(position, lent))
+
+    def function(self, number, lent=None):
+        lent = len(self.file) if lent is None else lent
+        count, program_ = self._records(FUNCTIONS, lent)
+        fields = [0] * 14
+        if program_ is None:
+            answer = Answer("refused", 4)
+        elif not 0 <= number < count:
+            answer = Answer("refused", 20)
+        else:
+            answer, record = Answer("accepted"), program_.function(number)
+            first, local, locals_, _, name, source, arguments, sizes = record
+            fields = [x & 0xFFFFFFFF for x in (first, local, locals_, name, source, arguments)] + [*sizes]
+        self._write(f"function {number} {lent}", [*answer[:2], *fields])
+
+    def definition(self, index, lent=None):
+        lent = len(self.file) if lent is None else lent
+        count, program_ = self._records(GLOBAL_DEFS, lent)
+        if program_ is None:
+            expected = ["refused", 4]
+        elif not 0 <= index < count:
+            expected = ["none"]
+        else:
+            type_, cell, name = program_.definition(GLOBAL_DEFS, index)
+            expected = ["at", type_, cell, name & 0xFFFFFFFF]
+        self._write(f"definition {index} {lent}", expected)
+
+    # -- the machine ---------------------------------------------------------------------------
+
+    def byte(self, place, value):
+        self.file[place] = value
+        self._write(f"byte {place} {value}", ["accepted", 0])
+
+    def _state(self):
+        state = self.machine.state
+        return [state.position, state.function, state.depth, state.saved, f"{digest_of(self.machine):016x}"]
+
+    def _lent(self, lent, operation):
+        """The operation with so many of the file's bytes lent."""
+        self.machine.file = self.file[:lent]
+        answer = operation()
+        self.machine.file = self.file
+        return answer
+
+    def enter(self, number, refused=0):
+        answer = self.machine.enter(number)
+        assert answer.detail == refused, answer
+        self._write(f"enter {number} {len(self.file)}", [*answer[:2], *self._state()])
+
+    def trace(self, lent=None):
+        """The record of the statement at the position, and then one step."""
+        lent = len(self.file) if lent is None else lent
+        record = self._statement(self.machine.state.position, lent)
+        answer = self._lent(lent, self.machine.statement)
+        self._write(f"trace 0 {lent}", [*record, *answer[:2], *self._state()])
+        return answer
+
+    def through(self):
+        """Steps until the depth is 0 or one does not complete, at most MOST_STEPS."""
+        for _ in range(MOST_STEPS):
+            if self.trace().word != "accepted" or self.machine.state.depth == 0:
+                return
+
+    def records(self):
+        """Each record of three lumps, with one before the first and one after the last."""
+        lumps = self.machine.state.lumps
+        for lump, read in ((STATEMENTS, self.statement), (FUNCTIONS, self.function), (GLOBAL_DEFS, self.definition)):
+            for index in range(-1, lumps[2 * lump + 1] + 1):
+                read(index)
+
+
+def example():
+    """01's own file."""
+    statements = [("AddF", 28, 29, 30), ("Return", 30)]
+    return program(*statements, functions=[function(1, 30, 1)], cells={28: flt(1.5), 29: flt(2.25)})
+
+
+def calling():
+    """A call with arguments, a branch taken and one not taken, a builtin, definitions of several types."""
+    statements = [
+        ("StoreF", 28, 4),  # 1
+        ("StoreV", 31, 7),
+        ("Call2", 40),  # enters function 2
+        ("IfNot", 1, 2),  # cell 1 is not 0
+        ("If", 1, 2),
+        ("Done",),  # 6, jumped over
+        ("Call0", 41),  # a builtin
+        ("Return", 28),
+        ("MulFV", 44, 45, 50),  # 9: function 2
+        ("Goto", 2),
+        ("Done",),
+        ("Return", 50),  # 12
+    ]
+    functions = [
+        function(1, 30, 2, name=5, source=1, profile=77),
+        function(9, 44, 6, (1, 3), name=300, source=1),
+        function(-7, arguments=-1, name=2),
+    ]
+    cells = {28: TWO, 31: ONE, 32: TWO, 33: flt(-0.5), 40: 2, 41: 3}
+    definitions = [(FLOAT | SAVE_FLAG, 28, 258), (VECTOR, 31, 3), (FUNCTION, 40, 4), (FUNCTION, 41, 2)]
+    return program(*statements, functions=functions, cells=cells, definitions=definitions, strings=bytes(320))
+
+
+def refusing():
+    """The last statement of each function but one is refused or not there."""
+    statements = [("AddF", 28, 29, 30), ("AddF", 28, -1, 30), ("StoreF", 28, 29, 1), ("Address", 1, 2, 3), ("Goto", -9)]
+    functions = [function(1), function(3), function(4), function(5), function(99)]
+    return program(*statements, functions=functions, cells={28: ONE}, definitions=[(STRING, 30)])
+
+
+def cut(t):
+    """Reads and a step with fewer bytes lent: to the end of each lump, and one byte less."""
+    ends = [(lump, t.machine.state.lumps[2 * lump + 1]) for lump in (STATEMENTS, GLOBAL_DEFS, FUNCTIONS)]
+    for lump, count in ends:
+        end = t.machine.state.lumps[2 * lump] + RECORD_SIZES[lump] * count
+        for lent in (end, end - 1):
+            t.statement(0, lent)
+            t.function(1, lent)
+            t.definition(0, lent)
+    t.trace(len(t.file) - 1)
+
+
+def trace_cases():
+    t = Traces()
+    t.note("01's own file: every record, and each statement of the run")
+    t.new(example())
+    t.records()
+    t.enter(1)
+    t.through()
+    t.note("calls, branches, a builtin; fewer bytes lent")
+    t.new(calling())
+    t.records()
+    t.enter(1)
+    cut(t)
+    t.through()
+    t.note("refused statements, and positions where there is none")
+    t.new(refusing())
+    t.records()
+    for number in range(1, 6):
+        t.enter(number)
+        t.through()
+        t.through()
+    t.enter(-1, 20)
+    t.enter(6, 20)
+    t.note("an opcode that is none, in bytes that changed after the load; numbers far outside")
+    t.new(calling())
+    t.byte(t.machine.state.lumps[0] + 8, 66)
+    t.statement(1)
+    t.enter(1)
+    t.through()
+    for number in (2**31, 2**63 - 1, -(2**63)):
+        t.statement(number)
+        t.function(number)
+        t.definition(number)
+    t.note("a file that is refused: nothing is recorded of it")
+    broken = calling()
+    broken.version = 7
+    t.new(broken, 2)
+    t.records()
+    t.trace()
+    chance_cases(t)
+    return t
+
+
+def chance_cases(t):
+    t.note("programs made by chance")
+    chance = Xorshift(0x7ACE)
+    for _ in range(8):
+        t.new(random_program(chance, hosts=True))
+        for _ in range(6):
+            t.function(chance.below(8) - 1)
+            t.definition(chance.below(7) - 1)
+        t.enter(1)
+        t.through()
