@@ -233,10 +233,15 @@ def fixed_list():
         run 0 1
         poke 60 66
         statement
+        file 100
+        statement
+        poke 200 9
+        file %d
+        statement
         poke 60 61
         statement
         statement
-    """ % (len(data) - 1, len(data) + 40, len(data), len(data))
+    """ % (len(data) - 1, len(data) + 40, len(data), len(data), len(data))
     return data, [line.strip() for line in calls.strip().splitlines()]
 
 
