@@ -64,10 +64,12 @@ class Lent:
         self.entity_cells = [7 * i % 2**32 for i in range(entity_cells)]
 
     def poke(self, offset, byte):
-        if offset < self.length:
-            self.program[offset] = byte
+        if 0 <= offset < self.length:
+            self.program[offset] = byte % 256
 
     def file(self, length):
+        # a longer file is answered by its length alone
+        length = min(length, model.LARGEST_FILE + 1)
         self.program.extend(bytes(max(0, length - len(self.program))))
         self.length = length
 
@@ -85,6 +87,8 @@ class Lent:
             answer = self.load(machine)
         else:
             machine.state = self.state
+            if name == "write":
+                given[1] %= 2**32
             answer = words_of(name, self.operation(machine, name)(*given))
             self.state = machine.state
         return "%s => %s | %s" % (line, answer, self.shown())
@@ -241,7 +245,32 @@ def fixed_list():
         poke 60 61
         statement
         statement
-    """ % (len(data) - 1, len(data) + 40, len(data), len(data), len(data))
+        load 18446744073709551616
+        enter 18446744073709551617
+        enter -18446744073709551615
+        read 9223372036854775808
+        write -9223372036854775809 1
+        write 63 -1
+        write 62 4294967297
+        read 62
+        enter 1
+        run 9223372036854775807 1
+        run 18446744073709551616 18446744073709551616
+        abandon -9223372036854775808
+        abandon 18446744073709551616
+        poke -1 7
+        poke 18446744073709551676 7
+        poke 68 -195
+        statement
+        file 1048577
+        statement
+        load 0
+        file 18446744073709551616
+        statement
+        load 0
+        file %d
+        statement
+    """ % (len(data) - 1, len(data) + 40, len(data), len(data), len(data), len(data))
     return data, [line.strip() for line in calls.strip().splitlines()]
 
 

@@ -2,9 +2,12 @@
 //! line, and a line of output for each call of the machine. `docs/EMBEDDING.md` describes both.
 
 use std::env;
+use std::ffi::OsString;
 use std::fs;
 use std::io::{self, BufRead, BufWriter, Write};
+use std::num::{IntErrorKind, ParseIntError};
 use std::process::ExitCode;
+use std::thread;
 
 use host::{Handover, Machine, Outcome, Refusal, RunOutcome};
 
@@ -16,6 +19,12 @@ const SAVED: u32 = 2048;
 const FIRST_CELL: u32 = 3_221_225_472;
 const FIRST_SAVED: u32 = 2_684_354_560;
 
+/// A longer file is answered by its length alone, as this one is: refused 1 or 13.
+const TOO_LONG: usize = 1_048_577;
+
+/// Enough for the lookup of a type in the longest file, however small the first thread's stack is.
+const STACK: usize = 16 << 20;
+
 /// A line of the input.
 enum Line {
     Change(Change),
@@ -25,7 +34,7 @@ enum Line {
 /// A change of what is lent.
 enum Change {
     Lend(u32, u32, u32),
-    Poke(usize, u8),
+    Poke(i64, u8),
     File(usize),
 }
 
@@ -78,18 +87,24 @@ impl Replay {
                 *self.machine.saved_mut() = fresh_saved(saved);
                 self.entity_cells = fresh(entity_cells, |i| i.wrapping_mul(7));
             }
-            Change::Poke(offset, byte) => {
-                if let Some(place) = self.machine.program_mut().get_mut(offset) {
-                    *place = byte;
-                    self.program[offset] = byte;
-                }
-            }
+            Change::Poke(offset, byte) => self.poke(offset, byte),
             Change::File(length) => {
+                let length = length.min(TOO_LONG);
                 if self.program.len() < length {
                     self.program.resize(length, 0);
                 }
                 *self.machine.program_mut() = self.program[..length].to_vec();
             }
+        }
+    }
+
+    fn poke(&mut self, offset: i64, byte: u8) {
+        let Ok(offset) = usize::try_from(offset) else {
+            return;
+        };
+        if let Some(place) = self.machine.program_mut().get_mut(offset) {
+            *place = byte;
+            self.program[offset] = byte;
         }
     }
 
@@ -200,8 +215,8 @@ fn parse(line: &str) -> Option<Line> {
             saved.parse().ok()?,
             entity_cells.parse().ok()?,
         ),
-        ["poke", offset, byte] => Change::Poke(offset.parse().ok()?, byte.parse().ok()?),
-        ["file", length] => Change::File(length.parse().ok()?),
+        ["poke", offset, byte] => Change::Poke(number(offset)?, low_bits(byte)? as u8),
+        ["file", length] => Change::File(number(length)?.try_into().ok()?),
         _ => return parse_call(&words).map(Line::Call),
     };
     Some(Line::Change(change))
@@ -209,16 +224,33 @@ fn parse(line: &str) -> Option<Line> {
 
 fn parse_call(words: &[&str]) -> Option<Call> {
     Some(match *words {
-        ["load", entities] => Call::Load(entities.parse().ok()?),
-        ["enter", function] => Call::Enter(function.parse().ok()?),
+        ["load", entities] => Call::Load(number(entities)?),
+        ["enter", function] => Call::Enter(number(function)?),
         ["statement"] => Call::Statement,
-        ["run", target, limit] => Call::Run(target.parse().ok()?, limit.parse().ok()?),
+        ["run", target, limit] => Call::Run(number(target)?, number(limit)?),
         ["carry"] => Call::Carry,
-        ["abandon", depth] => Call::Abandon(depth.parse().ok()?),
-        ["read", address] => Call::Read(address.parse().ok()?),
-        ["write", address, value] => Call::Write(address.parse().ok()?, value.parse().ok()?),
+        ["abandon", depth] => Call::Abandon(number(depth)?),
+        ["read", address] => Call::Read(number(address)?),
+        ["write", address, value] => Call::Write(number(address)?, low_bits(value)?),
         _ => return None,
     })
+}
+
+/// A signed number. One that 64 bits can't hold is outside every range, and so is the nearest one that they can.
+fn number(word: &str) -> Option<i64> {
+    word.parse()
+        .or_else(|error: ParseIntError| match error.kind() {
+            IntErrorKind::PosOverflow => Ok(i64::MAX),
+            IntErrorKind::NegOverflow => Ok(i64::MIN),
+            _ => Err(error),
+        })
+        .ok()
+}
+
+/// A number modulo 2^32.
+fn low_bits(word: &str) -> Option<u32> {
+    let number: i128 = word.parse().ok()?;
+    Some(number as u32)
 }
 
 /// Performs all calls of the input; an error names the line that is none. Empty lines and lines that begin with `#`
@@ -243,18 +275,27 @@ pub fn replay(program: Vec<u8>, input: impl BufRead, mut output: impl Write) -> 
     output.flush()
 }
 
+fn replay_file(path: OsString) -> io::Result<()> {
+    let program = fs::read(path)?;
+    replay(program, io::stdin().lock(), BufWriter::new(io::stdout()))
+}
+
 fn main() -> ExitCode {
     let Some(path) = env::args_os().nth(1) else {
         eprintln!("usage: replay PROGRAM < CALLS");
         return ExitCode::from(2);
     };
-    let done = fs::read(&path)
-        .and_then(|program| replay(program, io::stdin().lock(), BufWriter::new(io::stdout())));
+    let thread = thread::Builder::new().stack_size(STACK);
+    let done = thread
+        .spawn(|| replay_file(path))
+        .map(|replay| replay.join());
     match done {
-        Ok(()) => ExitCode::SUCCESS,
-        Err(error) => {
+        Ok(Ok(Ok(()))) => ExitCode::SUCCESS,
+        Ok(Ok(Err(error))) | Err(error) => {
             eprintln!("replay: {error}");
             ExitCode::FAILURE
         }
+        // The thread has said why.
+        Ok(Err(_panic)) => ExitCode::FAILURE,
     }
 }

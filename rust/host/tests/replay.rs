@@ -44,8 +44,8 @@ fn lines_that_are_no_calls() {
         "enter",
         "enter x",
         "run 1",
-        "write 1 -1",
-        "poke 1 256",
+        "write 1 x",
+        "file -1",
         "load",
     ] {
         assert_eq!(
