@@ -45,7 +45,11 @@ impl<E: fmt::Display> fmt::Display for CallError<E> {
             f,
             ", after {} statements, at position {} in function {}",
             self.count, self.position, self.function
-        )
+        )?;
+        match self.abandon {
+            Some(refusal) => write!(f, "; what was entered could not be left: {refusal}"),
+            None => Ok(()),
+        }
     }
 }
 
@@ -98,18 +102,23 @@ impl Machine {
     ) -> Result<u32, CallError<E>> {
         let before = self.depth() as i64;
         let mut count = 0;
-        let ended = self.enter(function).map_err(Cause::Refused);
-        let ended = ended.and_then(|()| self.run_through(before, limit, &mut count, &mut host));
+        let entered = self.enter(function);
+        let ended = match entered {
+            Ok(()) => self.run_through(before, limit, &mut count, &mut host),
+            Err(refusal) => Err(Cause::Refused(refusal)),
+        };
         let Err(cause) = ended else {
             return Ok(count);
         };
         let (position, function) = (self.position(), self.function());
+        // Where the entry was refused there is nothing to leave.
+        let abandon = entered.ok().and_then(|()| self.abandon(before).err());
         Err(CallError {
             cause,
             count,
             position,
             function,
-            abandon: self.abandon(before).err(),
+            abandon,
         })
     }
 

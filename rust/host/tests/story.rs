@@ -153,3 +153,38 @@ fn a_limit_is_the_whole_calls() {
     }
     assert_eq!(machine.depth(), 0);
 }
+
+/// Nothing was entered, so there is nothing that could not be left.
+#[test]
+fn a_call_before_a_load() {
+    let mut machine = Machine::new(rules(), vec![0; CELLS], vec![0; SAVED_STORE]);
+    let error = machine.call(1, 2_000, no_builtins).unwrap_err();
+    assert_eq!(error.cause, Cause::Refused(Refusal::STATE));
+    assert_eq!((error.count, error.abandon), (0, None));
+}
+
+/// Hosts that take away what the call stands on: what is entered stays, and the error says so.
+#[test]
+fn hosts_that_leave_nothing_to_leave() {
+    let mut machine = machine();
+    let function = machine.find_function_by_name("EndOfMatch").unwrap();
+    let error = machine.call(function, 1_000, |_, machine| {
+        machine.program_mut().push(0);
+        Err("another file")
+    });
+    let error = error.unwrap_err();
+    assert_eq!(error.abandon, Some(Refusal::STATE));
+    assert_eq!(
+        error.to_string(),
+        "another file, after 2 statements, at position 9 in function 5; what was entered could not be left: \
+         refused 13: the file, the lent cells, the saved store or the state do not belong together"
+    );
+    machine.program_mut().pop();
+    assert_eq!((machine.depth(), machine.abandon(0)), (1, Ok(())));
+
+    machine.enter(4).unwrap();
+    let error = machine.call(function, 1_000, |_, machine| machine.abandon(0));
+    let error = error.unwrap_err();
+    assert_eq!(error.cause, Cause::Refused(Refusal::new(27)));
+    assert_eq!(error.abandon, Some(Refusal::new(29)));
+}
