@@ -6,7 +6,7 @@ use std::process::ExitCode;
 use host::assemble::{statement, Assembly, Function};
 use host::{Handover, Machine, Refusal, CELLS, SAVED_STORE};
 
-/// The cells that the host and the rules share. A rule file's definitions name them.
+/// Types of definitions.
 const FLOAT: u16 = 2;
 const STRING: u16 = 1;
 const FUNCTION: u16 = 6;
@@ -17,7 +17,7 @@ const LIMIT: i64 = 10_000;
 fn statements() -> Vec<[i16; 4]> {
     vec![
         statement("Done", 0, 0, 0),
-        // StartFrame: if (random() < 0.5) { red = red + 1; bprint(point); } else blue = blue + 1;
+        // StartFrame: if (random() < 0.5) { red = red + 1; bprint(message); } else blue = blue + 1;
         statement("Call0", 40, 0, 0),
         statement("Lt", 1, 43, 50),
         statement("IfNot", 50, 5, 0),
@@ -45,7 +45,7 @@ fn rules() -> Vec<u8> {
     let broken = rules.text("BrokenRule");
     let end_match = rules.text("EndMatch");
     let (red, blue) = (rules.text("red"), rules.text("blue"));
-    let point = rules.text("a point for red\n");
+    let (message, point) = (rules.text("message"), rules.text("a point for red\n"));
     rules.statements = statements();
     let plain = Function::default();
     let builtin = |number: i32, name| Function {
@@ -85,7 +85,7 @@ fn rules() -> Vec<u8> {
         (FLOAT, 29, blue),
         (FUNCTION, 40, random),
         (FUNCTION, 41, bprint),
-        (STRING, 42, point),
+        (STRING, 42, message),
     ];
     let half = 0.5_f32.to_bits();
     let one = 1.0_f32.to_bits();
@@ -144,7 +144,7 @@ fn cell(machine: &Machine, name: &str) -> Result<i64, String> {
 }
 
 /// By how much red is ahead at the end.
-fn play() -> Result<f32, Box<dyn std::error::Error>> {
+pub fn play() -> Result<f32, Box<dyn std::error::Error>> {
     let mut machine = Machine::new(rules(), vec![0; CELLS], vec![0; SAVED_STORE]);
     let mut world = World { seed: 5 };
     machine.load()?;

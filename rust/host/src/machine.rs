@@ -111,6 +111,9 @@ impl Machine {
     }
 
     /// Enters a function by its number, to go back to the present position at its return.
+    ///
+    /// Its arguments are copied from the cells from 4 on, three to each, to its local cells. At most 31 functions can be
+    /// entered and not left.
     pub fn enter(&mut self, function: i64) -> Result<(), Refusal> {
         let reply = library::enter(
             &self.context,
@@ -139,7 +142,12 @@ impl Machine {
         }
     }
 
-    /// Carries out statements until the call depth is `target`, at most `limit` of them, 1 to 99,999.
+    /// Carries out statements until the call depth is `target`, at most `limit` of them, 1 to 99,999. The target is
+    /// below the present depth, so that something must be entered before.
+    ///
+    /// After a hand-over the host carries the statement out and calls [`Machine::carry_on`]; [`Machine::call`] does
+    /// both. After a refusal, or where the limit is spent, the functions that were entered still are:
+    /// [`Machine::abandon`] leaves them.
     pub fn run(&mut self, target: i64, limit: i64) -> Run {
         let reply = library::run(
             &self.context,
@@ -163,7 +171,8 @@ impl Machine {
         }
     }
 
-    /// Goes past the statement that was handed over.
+    /// Goes past the statement that was handed over. Where the one at the position would not be handed over, it is
+    /// refused 27.
     pub fn carry_on(&mut self) -> Result<(), Refusal> {
         let reply = library::carry_on(&self.context, &self.program, &self.cells, &self.saved);
         self.keep(&reply)
