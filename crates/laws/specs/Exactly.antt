@@ -15,8 +15,8 @@ use Rattle.definition.specs.File.{leastCells}
 use Rattle.definition.specs.Statements.{Does, next, calls, returns, refuses, handsOver, placeOf}
 use Rattle.definition.specs.Machine.{Program, Config, countOf, withCells, advanced, entryConditions, entered, leaveConditions, left, returnConditions, returned, asStep, stepAs, completed, refusedStep, handedStep, step, Ran, runFor}
 use Rattle.definition.specs.Load.{loadConditions, loaded, load}
-use Rattle.definition.specs.Operations.{sound, natural, below, hostEnter, statement, runConditions, runAfter, run, carryOnConditions, carryOn, leftTimes, leavingsTo, abandonConditions, abandon, rawConditions, rawRead, rawWrite}
-use Rattle.definition.specs.CheckLaws.{All, FailsFirst, judge-all, judge-first, guard-accepts, accepted-all, guard-refuses, refused-first, WhenAccepted, guarded}
+use Rattle.definition.specs.Operations.{sound, natural, below, hostEnter, statement, runConditions, runAfter, run, carryOnConditions, carryOn, leftTimes, leavingsConditions, leavingsTo, abandonConditions, abandon, rawConditions, rawRead, rawWrite}
+use Rattle.definition.specs.CheckLaws.{All, FailsFirst, all-front, all-back, judge-all, judge-first, guard-accepts, accepted-all, guard-refuses, refused-first, WhenAccepted, guarded}
 
 -- x is accepted, with a, exactly where all of cs hold, and refused exactly with the number of the first that fails
 pub record Exactly {A : Type 0} (cs : Conditions) (a : A) (x : Checked A) : Type 0 where
@@ -115,3 +115,19 @@ abandon-ends P target c =
     in-depth : (t : ℤ) → below t (c .state .depth + 1) ≡ true → natural t ≤ c .state .depth
     in-depth (pos i) e = omega (arith, ltb-true i (c .state .depth + 1) e)
     in-depth (negsuc i) e = omega arith
+
+-- ---- an accepted abandonment could leave each of its functions, the outermost too
+
+abbrev pub LeavesEach : Program → ℕ → Config → Type 0
+LeavesEach P zero c = Unit {0}
+LeavesEach P (suc n) c = All (leaveConditions P c) × LeavesEach P n (left P c)
+
+leaves-each : (P : Program) (n : ℕ) (c : Config) → All (leavingsConditions P n c) → LeavesEach P n c
+unfolding leavingsConditions
+leaves-each P zero c h = tt
+leaves-each P (suc n) c h =
+    (all-front (leaveConditions P c) (leavingsConditions P n (left P c)) h, leaves-each P n (left P c) (all-back (leaveConditions P c) (leavingsConditions P n (left P c)) h))
+
+pub abandon-leaves : (P : Program) (target : ℤ) (c c′ : Config) → abandon P target c ≡ accepted c′ → LeavesEach P (leavingsTo target c) c
+unfolding abandonConditions
+abandon-leaves P target c c′ e = leaves-each P (leavingsTo target c) c (abandon-exactly P target c .accepts-only c′ e .0 .1 .1)

@@ -5,6 +5,7 @@ pub mod Sound
 pub mod Thirteen
 pub mod Leavable
 pub mod Exactly
+pub mod Loadable
 pub mod Alone
 pub mod Completed
 pub mod Runs

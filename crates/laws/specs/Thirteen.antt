@@ -1,11 +1,15 @@
 -- Check 13 in words: it passes exactly where the file, the buffers and the state belong together.
 use Prim.Native.Nat.{ℕ, _≤_}
 use mathlib.Core.Path.{_≡_, refl}
-use mathlib.Core.Bool.{Bool, true, false, _&&_}
+use mathlib.Core.List.{List}
+use mathlib.Core.Bool.{Bool, true, false, not, _&&_}
 use native.Mathlib.Omega.{arith}
 use borrow.Author.Tests.{leb-true, eqb-true, le-leb, eq-eqb}
 use lib.ListN.{length}
 use lib.Dec.{leb, eqb}
+use Rattle.definition.specs.declared.FileRecord.{FileRecord}
+use Rattle.definition.specs.File.{negative, fileOf, lengthFits, lumpsFit, leastCells, cellsFit, entityFits}
+use Rattle.definition.specs.Load.{sameFile, recordedIn}
 use Rattle.definition.specs.Machine.{Program, Config, limits}
 use Rattle.definition.specs.Operations.{enteredFunctions, allPresent, localsOf, sound}
 use Rattle.definition.specs.CheckLaws.{and-left, and-right}
@@ -51,4 +55,61 @@ thirteen-only P c h =
       present = and-right (a && b && d) e h4;
       most = leb-true (c .state .saved) 2048 (and-right (a && b && d && e) f h5);
       sum = eqb-true (c .state .saved) (localsOf P (enteredFunctions (c .state))) (and-right (a && b && d && e && f) g h);
+    }
+
+-- ---- the first clause, for the program of a file
+
+-- "file length, header lumps or cells per entity not as the state records, or outside 1, 4, 10 or 11; lent cells fewer than the file's"
+pub record Recorded (file : List ℕ) (r : FileRecord) (lent : ℕ) : Type 0 where
+  pub same : sameFile r (fileOf file) ≡ true
+  pub shortest : 60 ≤ r .length
+  pub longest : r .length ≤ 1048576
+  pub lumps : lumpsFit r ≡ true
+  pub least : 36 ≤ r .globals .count
+  pub most : r .globals .count ≤ 32768
+  pub per-entity : 105 ≤ r .entityfields
+  pub signed : not (negative (r .entityfields)) ≡ true
+  pub enough : r .globals .count ≤ lent
+
+pub recorded-passes : (file : List ℕ) (r : FileRecord) (lent : ℕ) → Recorded file r lent → recordedIn file r lent ≡ true
+unfolding recordedIn
+recorded-passes file r lent h =
+    rw (
+      h .same,
+      le-leb 60 (r .length) (h .shortest),
+      le-leb (r .length) 1048576 (h .longest),
+      h .lumps,
+      le-leb 36 (r .globals .count) (h .least),
+      le-leb (r .globals .count) 32768 (h .most),
+      le-leb 105 (r .entityfields) (h .per-entity),
+      h .signed,
+      le-leb (r .globals .count) lent (h .enough),
+    )
+
+pub recorded-only : (file : List ℕ) (r : FileRecord) (lent : ℕ) → recordedIn file r lent ≡ true → Recorded file r lent
+unfolding recordedIn
+recorded-only file r lent h =
+    let a : Bool = sameFile r (fileOf file) in
+    let b : Bool = lengthFits r in
+    let c : Bool = lumpsFit r in
+    let d : Bool = cellsFit leastCells r in
+    let e : Bool = entityFits r in
+    let f : Bool = leb (r .globals .count) lent in
+    let h4 : (a && b && c && d && e) ≡ true = and-left (a && b && c && d && e) f h in
+    let h3 : (a && b && c && d) ≡ true = and-left (a && b && c && d) e h4 in
+    let h2 : (a && b && c) ≡ true = and-left (a && b && c) d h3 in
+    let h1 : (a && b) ≡ true = and-left (a && b) c h2 in
+    let long : b ≡ true = and-right a b h1 in
+    let cells : d ≡ true = and-right (a && b && c) d h3 in
+    let entity : e ≡ true = and-right (a && b && c && d) e h4 in
+    record {
+      same = and-left a b h1;
+      shortest = leb-true 60 (r .length) (and-left (leb 60 (r .length)) (leb (r .length) 1048576) long);
+      longest = leb-true (r .length) 1048576 (and-right (leb 60 (r .length)) (leb (r .length) 1048576) long);
+      lumps = and-right (a && b) c h2;
+      least = leb-true 36 (r .globals .count) (and-left (leb 36 (r .globals .count)) (leb (r .globals .count) 32768) cells);
+      most = leb-true (r .globals .count) 32768 (and-right (leb 36 (r .globals .count)) (leb (r .globals .count) 32768) cells);
+      per-entity = leb-true 105 (r .entityfields) (and-left (leb 105 (r .entityfields)) (not (negative (r .entityfields))) entity);
+      signed = and-right (leb 105 (r .entityfields)) (not (negative (r .entityfields))) entity;
+      enough = leb-true (r .globals .count) lent (and-right (a && b && c && d && e) f h);
     }

@@ -9,7 +9,7 @@ use native.Mathlib.Omega.{arith}
 use borrow.Author.Tests.{ltb-true, leb-true, lt-ltb}
 use lib.IntN.{ℤ}
 use lib.ListN.{length, take, drop, getD, set, length-set, length-drop, length-append}
-use lib.Seq.{paste, length-paste, drop-paste, take-at, drop-at, length-take-le, drop-set-lt, drop-drop}
+use lib.Seq.{paste, length-paste, drop-paste, take-at, drop-at, length-take-le, take-set-le, drop-set-lt, drop-drop}
 use lib.Dec.{leb, ltb}
 use Rattle.definition.specs.Checks.{Condition, Conditions, Checked, refused, accepted, guard}
 use Rattle.definition.specs.File.{negative, fileOf, contentsOf, lengthFits, lumpsFit, leastCells, cellsFit, entityFits}
@@ -189,6 +189,26 @@ module _ (file lent : List ℕ) where
         returning = returned-touches;
         leave-one = left-touches;
       }
+
+-- a Return copies to cells 1, 2 and 3 and to no other, and then leaves
+pub record Returning (P : Program) (a : ℕ) (c : Config) : Type 0 where
+  pub cells : List ℕ
+  pub leaves : returned P a c ≡ left P (withCells c cells)
+  pub first : take 1 cells ≡ take 1 (c .cells)
+  pub others : drop 4 cells ≡ drop 4 (c .cells)
+
+pub returned-only : (P : Program) (a : ℕ) (c : Config) → Returning P a c
+unfolding copied successive
+returned-only P a c =
+    let one : List ℕ = set (c .cells) 1 (getD (c .cells) a 0) in
+    let two : List ℕ = set one 2 (getD one (a + 1) 0) in
+    let third : ℕ = getD two (a + 1 + 1) 0 in
+    record {
+      cells = copied (successive 3 a 1) (c .cells);
+      leaves = refl;
+      first = take-set-le 1 two 3 third (omega arith) ∙ take-set-le 1 one 2 (getD one (a + 1) 0) (omega arith) ∙ take-set-le 1 (c .cells) 1 (getD (c .cells) a 0) (omega arith);
+      others = drop-set-lt 4 two 3 third (omega arith) ∙ drop-set-lt 4 one 2 (getD one (a + 1) 0) (omega arith) ∙ drop-set-lt 4 (c .cells) 1 (getD (c .cells) a 0) (omega arith);
+    }
 
 -- a load fills the lent cells from 0 and leaves those past the file's count
 loaded-keeps : (file cells saved : List ℕ) → WhenAccepted (λ (c : Config). Keeps (fileOf file .globals .count) cells (c .cells)) (load file cells saved)

@@ -1,0 +1,100 @@
+-- What a load must accept, in words: no condition beyond these can be asked of a file.
+use Prim.Native.Nat.{ℕ, _≤_, _<_}
+use mathlib.Core.Path.{_≡_, refl}
+use mathlib.Core.List.{List, [], _∷_, _++_}
+use mathlib.Core.Bool.{true, not}
+use borrow.Author.Tests.{le-leb, lt-ltb, eq-eqb}
+use lib.ListN.{length}
+use Rattle.definition.specs.declared.Statement.{Statement}
+use Rattle.definition.specs.declared.Definition.{Definition}
+use Rattle.definition.specs.declared.FunctionDef.{FunctionDef}
+use Rattle.definition.specs.Checks.{Conditions, accepted}
+use Rattle.definition.specs.File.{negative, versionOf, checkNumberOf, fileOf, lumpsFit, leastCells, contentsOf, builtinKnown}
+use Rattle.definition.specs.Cells.{typeOf}
+use Rattle.definition.specs.Load.{functionConditions, statementConditions, globaldefConditions, fielddefConditions, each, headerConditions, recordConditions, cellConditions, loadConditions, loaded, load}
+use Rattle.definition.specs.CheckLaws.{All, and-both, guard-accepts}
+
+-- of each record of a list
+abbrev pub Every : {A : Type 0} → (A → Type 0) → List A → Type 0
+Every Q [] = Unit {0}
+Every Q (x ∷ xs) = Q x × Every Q xs
+
+abbrev pub FunctionIs : ℕ → FunctionDef → Type 0
+FunctionIs strings d = (builtinKnown d ≡ true) × (d .name < strings) × (d .srcfile < strings)
+
+abbrev pub StatementIs : Statement → Type 0
+StatementIs st = st .opcode < 66
+
+abbrev pub GlobaldefIs : ℕ → Definition → Type 0
+GlobaldefIs strings d = (d .name < strings) × (typeOf d ≤ 7)
+
+abbrev pub FielddefIs : ℕ → Definition → Type 0
+FielddefIs strings d = (d .name < strings) × (d .kind < 32768) × (typeOf d ≤ 7)
+
+pub record Loadable (file : List ℕ) (lent store : ℕ) : Type 0 where
+  pub shortest : 60 ≤ length file
+  pub longest : length file ≤ 1048576
+  pub version : versionOf file ≡ 6
+  pub check-number : checkNumberOf file ≡ 5927
+  pub lumps : lumpsFit (fileOf file) ≡ true
+  pub functions : Every (FunctionIs (fileOf file .strings .count)) (contentsOf file .functions)
+  pub statements : Every StatementIs (contentsOf file .statements)
+  pub globaldefs : Every (GlobaldefIs (fileOf file .strings .count)) (contentsOf file .globaldefs)
+  pub fielddefs : Every (FielddefIs (fileOf file .strings .count)) (contentsOf file .fielddefs)
+  pub least : 36 ≤ fileOf file .globals .count
+  pub most : fileOf file .globals .count ≤ 32768
+  pub per-entity : 105 ≤ fileOf file .entityfields
+  pub signed : not (negative (fileOf file .entityfields)) ≡ true
+  pub enough : fileOf file .globals .count ≤ lent
+  pub store-enough : 2048 ≤ store
+
+all-both : (cs ds : Conditions) → All cs → All ds → All (cs ++ ds)
+all-both [] ds p q = q
+all-both (c ∷ cs) ds p q = (p .0, all-both cs ds (p .1) q)
+
+every-each : {A : Type 0} (Q : A → Type 0) (conditions : A → Conditions) → ((x : A) → Q x → All (conditions x)) → (xs : List A) → Every Q xs → All (each conditions xs)
+unfolding each
+every-each Q conditions holds [] h = tt
+every-each Q conditions holds (x ∷ xs) h = all-both (conditions x) (each conditions xs) (holds x (h .0)) (every-each Q conditions holds xs (h .1))
+
+module _ (file cells saved : List ℕ) (h : Loadable file (length cells) (length saved)) where
+  header : All (headerConditions file)
+  unfolding headerConditions fileOf
+  header = (
+    and-both _ _ (le-leb 60 (length file) (h .shortest)) (le-leb (length file) 1048576 (h .longest)),
+    (eq-eqb _ _ (h .version), (eq-eqb _ _ (h .check-number), (h .lumps, tt))),
+  )
+
+  recorded : All (recordConditions (fileOf file .strings .count) (contentsOf file))
+  unfolding recordConditions
+  recorded =
+      let n = fileOf file .strings .count in
+      let k = contentsOf file in
+      let fs = each (functionConditions n) (k .functions) in
+      let ss = each statementConditions (k .statements) in
+      let gs = each (globaldefConditions n) (k .globaldefs) in
+      all-both (fs ++ ss ++ gs) (each (fielddefConditions n) (k .fielddefs))
+      (all-both (fs ++ ss) gs
+      (all-both fs ss
+      (every-each (FunctionIs n) (functionConditions n) (λ d q. (q .0, (lt-ltb _ _ (q .1), (lt-ltb _ _ (q .2), tt)))) (k .functions) (h .functions))
+      (every-each StatementIs statementConditions (λ st q. (lt-ltb _ _ q, tt)) (k .statements) (h .statements)))
+      (every-each (GlobaldefIs n) (globaldefConditions n) (λ d q. (lt-ltb _ _ (q .0), (le-leb _ _ (q .1), tt))) (k .globaldefs) (h .globaldefs)))
+      (every-each (FielddefIs n) (fielddefConditions n) (λ d q. (lt-ltb _ _ (q .0), (lt-ltb _ _ (q .1), (le-leb _ _ (q .2), tt)))) (k .fielddefs) (h .fielddefs))
+
+  lent-fit : All (cellConditions leastCells (fileOf file) (length cells) (length saved))
+  unfolding cellConditions
+  lent-fit = (
+    and-both _ _ (le-leb 36 _ (h .least)) (le-leb _ 32768 (h .most)),
+    (
+      and-both _ _ (le-leb 105 _ (h .per-entity)) (h .signed),
+      (and-both _ _ (le-leb _ _ (h .enough)) (le-leb 2048 _ (h .store-enough)), tt),
+    ),
+  )
+
+  pub loadable : load file cells saved ≡ accepted (loaded file cells saved)
+  unfolding load
+  loadable =
+      let hs = headerConditions file in
+      let rs = recordConditions (fileOf file .strings .count) (contentsOf file) in
+      let cs = cellConditions leastCells (fileOf file) (length cells) (length saved) in
+      guard-accepts (hs ++ rs ++ cs) (loaded file cells saved) (all-both (hs ++ rs) cs (all-both hs rs header recorded) lent-fit)
