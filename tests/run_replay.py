@@ -24,7 +24,9 @@ from replay import bytes_of, lines_of
 
 FNV_BASIS, FNV_PRIME = 14695981039346656037, 1099511628211
 # how many lists are made by chance
-RANDOM_LISTS = 150
+RANDOM_LISTS = 300
+# numbers at and past the edges of what is accepted, and of 32 and 64 bits
+EDGES = [-2**64, -2**63, -2**31 - 1, -1, 0, 30, 31, 63, 64, 2048, 100000, 2**31 - 1, 2**31, 2**32, 2**32 + 1, 2**63 - 1, 2**64]
 # what calls.txt calls otherwise
 NAMES = {"get": "read", "put": "write", "byte": "poke"}
 
@@ -291,18 +293,41 @@ def random_call(chance, length):
         return "read %d" % (chance.below(70) - 3)
     if kind < 92:
         return "write %d %d" % (28 + chance.below(40), chance.draw())
-    if kind < 95:
-        return "poke %d %d" % (60 + chance.below(length - 60), chance.below(256))
-    return chance.pick(["load 0", "lend 64 2048 2", "lend 66 2050 0", "file %d" % length, "file %d" % (length - 1), "poke 4 0", "poke 4 39"])
+    if kind < 94:
+        return "poke %d %d" % (60 + chance.below(max(1, length - 60)), chance.below(256))
+    return chance.pick(["load 0", "lend 64 2048 2", "lend 66 2050 0", "lend 63 2048 1", "lend 64 2047 0", "file %d" % length,
+                        "file %d" % max(0, length - 1), "file %d" % (length + 1), "poke 4 0", "poke 4 39",
+                        "poke %d %d" % (chance.below(60), chance.below(256))])
+
+
+def edged(chance, call):
+    """A call, now and then with a number at an edge."""
+    name, *numbers = call.split()
+    if numbers and name in ("enter", "run", "abandon", "read", "write") and chance.below(12) == 0:
+        numbers[chance.below(len(numbers))] = str(chance.pick(EDGES))
+    return " ".join([name, *numbers])
+
+
+def damaged(chance, program):
+    """A program, now and then with bytes changed, cut short, or of chance bytes altogether."""
+    kind = chance.below(12)
+    if kind == 0:
+        for _ in range(1 + chance.below(3)):
+            program[chance.below(len(program))] = chance.below(256)
+    if kind == 1:
+        program = program[:chance.below(len(program))]
+    if kind == 2:
+        program = bytearray(chance.below(256) for _ in range(chance.below(70)))
+    return program
 
 
 def random_lists():
     """Programs of the model's case makers, each with calls made by chance from a fixed seed."""
     for seed in range(1, RANDOM_LISTS + 1):
         chance = Xorshift(seed * 2654435761 % 2**32)
-        program = random_program(chance, hosts=True).bytes()
+        program = damaged(chance, random_program(chance, hosts=True).bytes())
         lend = "lend %d %d 1" % (64 + chance.below(8), 2048 + chance.below(4))
-        yield program, [lend, "load 0"] + [random_call(chance, len(program)) for _ in range(60)]
+        yield program, [lend, "load 0"] + [edged(chance, random_call(chance, len(program))) for _ in range(60)]
 
 
 def committed():
