@@ -35,6 +35,7 @@ pub const BUILTIN: u32 = 4;
 pub const OPCODE: u32 = 5;
 
 // The context after a call, and its answer in three numbers.
+#[repr(C)]
 pub struct Replied {
     pub context: ExecutionContext,
     pub word: u32,
@@ -53,7 +54,7 @@ pub struct Listed {
     pub answer: ListAnswer,
 }
 
-fn reply_answer(a: Answered) -> Replied
+pub fn reply_answer(a: Answered) -> Replied
     ensures { λ r. ⌜ r ≡ answering (a .context) (answerReply (a .answer)) ⌝ }
 {
     let context = a.context;
@@ -78,7 +79,7 @@ fn reply_answer(a: Answered) -> Replied
     }
 }
 
-fn reply_read(context: ExecutionContext, answer: ReadAnswer) -> Replied
+pub fn reply_read(context: ExecutionContext, answer: ReadAnswer) -> Replied
     ensures { λ r. ⌜ r ≡ answering context (readReply answer) ⌝ }
 {
     match answer {
@@ -124,7 +125,7 @@ fn reply_handover(context: ExecutionContext, handed: Handover, count: u32) -> Re
     }
 }
 
-fn reply_statement(s: Stepped) -> Replied
+pub fn reply_statement(s: Stepped) -> Replied
     ensures { λ r. ⌜ r ≡ answering (s .context) (statementReply (s .answer)) ⌝ }
 {
     let context = s.context;
@@ -150,7 +151,7 @@ fn reply_statement(s: Stepped) -> Replied
     }
 }
 
-fn reply_run(ran: Ran) -> Replied
+pub fn reply_run(ran: Ran) -> Replied
     ensures { λ r. ⌜ r ≡ answering (ran .context) (runReply (ran .answer) (ran .count)) ⌝ }
 {
     let context = ran.context;

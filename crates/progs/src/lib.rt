@@ -17,6 +17,7 @@ mod raw;
 mod state;
 
 // All that an operation leaves for the next, beside the lent bytes, cells and saved store.
+#[repr(C)]
 pub struct ExecutionContext {
     pub file: FileRecord,
     pub pc: i64,

@@ -1,0 +1,13 @@
+-- A load's answer in numbers.
+use Prim.Native.Nat.{ℕ}
+use mathlib.Core.Path.{_≡_, _∙_, ap}
+use mathlib.Core.List.{List}
+use Rattle.definition.specs.Answers as answers
+use Rattle.progs.specs.declared.Answered.{Answered}
+use Rattle.progs.specs.Contexts as contexts
+use Rattle.call_list.specs.declared.Replied.{Replied}
+use Rattle.call_list.specs.Encoding.{answerReply, answering, repliedOf}
+use Rattle.host.specs.Loading.{replied}
+
+pub load-replied : (r : Replied) (cells saved : List ℕ) (a : Answered) (o : answers.Outcome) → r ≡ answering (a .context) (answerReply (a .answer)) → contexts.outcomeOf a cells saved ≡ o → repliedOf r cells saved ≡ replied o
+load-replied r cells saved a o e h = ap (λ (s : Replied). repliedOf s cells saved) e ∙ ap replied h

@@ -1,0 +1,28 @@
+use Rattle.call_list.proofs.Replies.{call-writes}
+use mir.Facts.{toZ-ofZ}
+use mir.Val.{SFits}
+use mir.Syntax.{w64}
+use lib.IntN.{pos}
+use mathlib.Core.Path.{refl}
+use native.Mathlib.Omega.{arith}
+use borrow.Author.Needs.{needs}
+use Rattle.host.proofs.host_write.Statement.{statement}
+use Rattle.host.proofs.host_write.Tie as tie
+
+write-requires : tie.Need-write-requires
+write-requires c κs = search needs
+
+reply-answer-requires : tie.Need-reply-answer-requires
+reply-answer-requires c κs = search needs
+
+same-length : tie.Need-same-length
+same-length c = search needs
+
+returns : tie.Need-returns
+returns c =
+    let s = c .before .before .before .before .before .before .before .before in
+    let fits : SFits w64 (s .args .address) = search needs in
+    call-writes _ _ _ _ _ 6 _ (pos (s .args .value)) _ (c .reply-answer .ensures) (λ e. omega (arith, e)) (λ e. omega (arith, e)) (λ e. omega (arith, e)) (λ e. omega (arith, e)) (λ e. omega (arith, e)) (λ e. omega (arith, e)) _ refl (rw (toZ-ofZ fits) at (c .before .before .before .write .ensures))
+
+pub host-write-spec : {M : Type 1} → statement M
+host-write-spec = tie.close (tie.spec write-requires reply-answer-requires same-length returns)

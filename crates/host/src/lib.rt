@@ -1,0 +1,121 @@
+// The static library: each operation under a name of C. A function that is exported can't return an enum, so an answer is three numbers, those of a
+// list of calls, beside the context after the operation. No operation asks anything of its caller but that the buffers are what they are said to be.
+ghost use mathlib.Core.Path.{_≡_};
+ghost use Rattle.definition.specs.Load.{programOf};
+ghost use Rattle.definition.specs.Calls.{enters, steps, runs, carries, abandons, reads, writes};
+ghost use Rattle.progs.specs.Contexts.{config};
+ghost use Rattle.call_list.specs.Encoding.{repliedOf, afterCall};
+ghost use Rattle.host.specs.Loading.{afterLoad};
+use call_list::Replied;
+use progs::ExecutionContext;
+use progs::load;
+
+mod layout;
+
+// A refused load gives a context of zeros, which every operation refuses 13.
+#[no_mangle]
+pub extern "C" fn host_load(file: &[u8], cells: &mut [u32], saved: &[u32]) -> Replied
+    ensures { λ r. ⌜ repliedOf r (now (cells .exit)) (now (saved .entry)) ≡ afterLoad (now (file .entry)) (now (cells .entry)) (now (saved .entry)) ⌝ }
+{
+    let loaded = load::load(file, cells, saved);
+    call_list::reply_answer(loaded)
+}
+
+#[no_mangle]
+pub extern "C" fn host_enter(
+    context: ExecutionContext,
+    file: &[u8],
+    function: i64,
+    cells: &mut [u32],
+    saved: &mut [u32],
+) -> Replied
+    ensures { λ r. ⌜ repliedOf r (now (cells .exit)) (now (saved .exit)) ≡ afterCall (programOf (now (file .entry))) (enters function) (config context (now (cells .entry)) (now (saved .entry))) ⌝ }
+{
+    let entered = context.enter(file, function, cells, saved);
+    call_list::reply_answer(entered)
+}
+
+#[no_mangle]
+pub extern "C" fn host_statement(
+    context: ExecutionContext,
+    file: &[u8],
+    cells: &mut [u32],
+    saved: &mut [u32],
+) -> Replied
+    ensures { λ r. ⌜ repliedOf r (now (cells .exit)) (now (saved .exit)) ≡ afterCall (programOf (now (file .entry))) steps (config context (now (cells .entry)) (now (saved .entry))) ⌝ }
+{
+    let stepped = server::statement(context, file, cells, saved);
+    call_list::reply_statement(stepped)
+}
+
+#[no_mangle]
+pub extern "C" fn host_run(
+    context: ExecutionContext,
+    file: &[u8],
+    target: i64,
+    limit: i64,
+    cells: &mut [u32],
+    saved: &mut [u32],
+) -> Replied
+    ensures { λ r. ⌜ repliedOf r (now (cells .exit)) (now (saved .exit)) ≡ afterCall (programOf (now (file .entry))) (runs target limit) (config context (now (cells .entry)) (now (saved .entry))) ⌝ }
+{
+    let ran = server::run(context, file, target, limit, cells, saved);
+    call_list::reply_run(ran)
+}
+
+#[no_mangle]
+pub extern "C" fn host_carry_on(
+    context: ExecutionContext,
+    file: &[u8],
+    cells: &[u32],
+    saved: &[u32],
+) -> Replied
+    ensures { λ r. ⌜ repliedOf r (now (cells .entry)) (now (saved .entry)) ≡ afterCall (programOf (now (file .entry))) carries (config context (now (cells .entry)) (now (saved .entry))) ⌝ }
+{
+    let carried = context.carry_on(file, cells, saved);
+    call_list::reply_answer(carried)
+}
+
+#[no_mangle]
+pub extern "C" fn host_abandon(
+    context: ExecutionContext,
+    file: &[u8],
+    target: i64,
+    cells: &mut [u32],
+    saved: &[u32],
+) -> Replied
+    ensures { λ r. ⌜ repliedOf r (now (cells .exit)) (now (saved .entry)) ≡ afterCall (programOf (now (file .entry))) (abandons target) (config context (now (cells .entry)) (now (saved .entry))) ⌝ }
+{
+    let abandoned = context.abandon(file, target, cells, saved);
+    call_list::reply_answer(abandoned)
+}
+
+// The detail is the cell where it is accepted.
+#[no_mangle]
+pub extern "C" fn host_read(
+    context: ExecutionContext,
+    file: &[u8],
+    address: i64,
+    cells: &[u32],
+    saved: &[u32],
+) -> Replied
+    ensures { λ r. ⌜ repliedOf r (now (cells .entry)) (now (saved .entry)) ≡ afterCall (programOf (now (file .entry))) (reads address) (config context (now (cells .entry)) (now (saved .entry))) ⌝ }
+{
+    let read = context.read(file, address, cells, saved);
+    call_list::reply_read(context, read)
+}
+
+#[no_mangle]
+pub extern "C" fn host_write(
+    context: ExecutionContext,
+    file: &[u8],
+    address: i64,
+    value: u32,
+    cells: &mut [u32],
+    saved: &[u32],
+) -> Replied
+    ensures { λ r. ⌜ repliedOf r (now (cells .exit)) (now (saved .entry)) ≡ afterCall (programOf (now (file .entry))) (writes address value) (config context (now (cells .entry)) (now (saved .entry))) ⌝ }
+{
+    let written = context.write(file, address, value, cells, saved);
+    call_list::reply_answer(written)
+}

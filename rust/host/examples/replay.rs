@@ -1,0 +1,244 @@
+//! Replays a recorded list of calls on a program file: `replay PROGRAM`, with the calls on standard input, a call to a
+//! line, and a line of output for each call of the machine. `docs/EMBEDDING.md` describes both.
+
+use std::env;
+use std::fs;
+use std::io::{self, BufRead, BufWriter, Write};
+use std::process::ExitCode;
+
+use host::{Handover, Machine, Outcome, Refusal, RunOutcome};
+
+/// The cells and the saved store that are lent before any `lend`.
+const CELLS: u32 = 64;
+const SAVED: u32 = 2048;
+
+/// Where the numbers in fresh buffers start.
+const FIRST_CELL: u32 = 3_221_225_472;
+const FIRST_SAVED: u32 = 2_684_354_560;
+
+/// A call of the machine, or a change of what is lent.
+enum Call {
+    Lend(u32, u32, u32),
+    Poke(usize, u8),
+    File(usize),
+    Load(i64),
+    Enter(i64),
+    Statement,
+    Run(i64, i64),
+    Carry,
+    Abandon(i64),
+    Read(i64),
+    Write(i64, u32),
+}
+
+/// What is lent, and the machine over it.
+struct Replay {
+    machine: Machine,
+    /// All the program's bytes, of which the machine is lent the first ones.
+    program: Vec<u8>,
+    /// Of no use to the machine before it has entity fields.
+    entity_cells: Vec<u32>,
+}
+
+fn fresh(count: u32, number: impl Fn(u32) -> u32) -> Vec<u32> {
+    (0..count).map(number).collect()
+}
+
+fn fresh_cells(count: u32) -> Vec<u32> {
+    fresh(count, |i| FIRST_CELL.wrapping_add(i))
+}
+
+fn fresh_saved(count: u32) -> Vec<u32> {
+    fresh(count, |i| FIRST_SAVED.wrapping_add(i))
+}
+
+impl Replay {
+    fn new(program: Vec<u8>) -> Replay {
+        Replay {
+            machine: Machine::new(program.clone(), fresh_cells(CELLS), fresh_saved(SAVED)),
+            program,
+            entity_cells: Vec::new(),
+        }
+    }
+
+    /// Does a call. The answer is its words, or nothing where the call is only a change of what is lent.
+    fn perform(&mut self, call: Call) -> Option<String> {
+        match call {
+            Call::Lend(cells, saved, entity_cells) => {
+                *self.machine.cells_mut() = fresh_cells(cells);
+                *self.machine.saved_mut() = fresh_saved(saved);
+                self.entity_cells = fresh(entity_cells, |i| i.wrapping_mul(7));
+                return None;
+            }
+            Call::Poke(offset, byte) => {
+                if let Some(place) = self.machine.program_mut().get_mut(offset) {
+                    *place = byte;
+                    self.program[offset] = byte;
+                }
+                return None;
+            }
+            Call::File(length) => {
+                if self.program.len() < length {
+                    self.program.resize(length, 0);
+                }
+                *self.machine.program_mut() = self.program[..length].to_vec();
+                return None;
+            }
+            _ => {}
+        }
+        if !self.machine.loaded() && !matches!(call, Call::Load(_)) {
+            return Some("no state".to_string());
+        }
+        let answer = operate(&mut self.machine, call);
+        Some(format!("{answer} | {}", self.state()))
+    }
+
+    /// Position, function, depth, saved and the four digests.
+    fn state(&self) -> String {
+        let machine = &self.machine;
+        let first = if machine.loaded() {
+            let frames = machine.frames().iter();
+            let text: String = frames
+                .map(|frame| format!("{},{};", frame.instr_id, frame.func_id))
+                .collect();
+            format!(
+                "{} {} {} {} {}",
+                machine.position(),
+                machine.function(),
+                machine.depth(),
+                machine.saved_count(),
+                digest(text.bytes())
+            )
+        } else {
+            "-".to_string()
+        };
+        format!(
+            "{first} {} {} {}",
+            digest_of(machine.cells()),
+            digest_of(machine.saved()),
+            digest_of(&self.entity_cells)
+        )
+    }
+}
+
+/// One of the machine's own operations, and its answer in words.
+fn operate(machine: &mut Machine, call: Call) -> String {
+    let accepted = |answer: Result<(), Refusal>| match answer {
+        Ok(()) => "ok 0".to_string(),
+        Err(refusal) => refused(refusal),
+    };
+    match call {
+        // The number of entities has no use before the machine has entity fields.
+        Call::Load(_entities) => match machine.load() {
+            Ok(()) => "ok".to_string(),
+            Err(refusal) => refused(refusal),
+        },
+        Call::Enter(function) => accepted(machine.enter(function)),
+        Call::Carry => accepted(machine.carry_on()),
+        Call::Abandon(depth) => accepted(machine.abandon(depth)),
+        Call::Write(address, value) => accepted(machine.write(address, value)),
+        Call::Read(address) => match machine.read(address) {
+            Ok(value) => format!("ok {value}"),
+            Err(refusal) => refused(refusal),
+        },
+        Call::Statement => match machine.statement() {
+            Outcome::Completed => "completed 0".to_string(),
+            Outcome::Refused(refusal) => refused(refusal),
+            Outcome::HandedOver(handover) => handed_over(handover),
+        },
+        Call::Run(target, limit) => {
+            let run = machine.run(target, limit);
+            let word = match run.outcome {
+                RunOutcome::Ended => "ended 0".to_string(),
+                RunOutcome::Spent => "spent 0".to_string(),
+                RunOutcome::Refused(refusal) => refused(refusal),
+                RunOutcome::HandedOver(handover) => handed_over(handover),
+            };
+            format!("{word} {}", run.count)
+        }
+        Call::Lend(..) | Call::Poke(..) | Call::File(..) => String::new(),
+    }
+}
+
+fn refused(refusal: Refusal) -> String {
+    format!("refused {}", refusal.number())
+}
+
+fn handed_over(handover: Handover) -> String {
+    match handover {
+        Handover::Builtin(number) => format!("builtin {number}"),
+        Handover::Opcode(number) => format!("opcode {number}"),
+    }
+}
+
+/// FNV-1a of 64 bits, in 16 hexadecimal digits.
+fn digest(bytes: impl Iterator<Item = u8>) -> String {
+    let digest = bytes.fold(14_695_981_039_346_656_037_u64, |digest, byte| {
+        (digest ^ u64::from(byte)).wrapping_mul(1_099_511_628_211)
+    });
+    format!("{digest:016x}")
+}
+
+fn digest_of(numbers: &[u32]) -> String {
+    digest(numbers.iter().flat_map(|number| number.to_le_bytes()))
+}
+
+/// A call from its line, or nothing where the line is none.
+fn parse(line: &str) -> Option<Call> {
+    let words: Vec<&str> = line.split_whitespace().collect();
+    Some(match words[..] {
+        ["lend", cells, saved, entity_cells] => Call::Lend(
+            cells.parse().ok()?,
+            saved.parse().ok()?,
+            entity_cells.parse().ok()?,
+        ),
+        ["poke", offset, byte] => Call::Poke(offset.parse().ok()?, byte.parse().ok()?),
+        ["file", length] => Call::File(length.parse().ok()?),
+        ["load", entities] => Call::Load(entities.parse().ok()?),
+        ["enter", function] => Call::Enter(function.parse().ok()?),
+        ["statement"] => Call::Statement,
+        ["run", target, limit] => Call::Run(target.parse().ok()?, limit.parse().ok()?),
+        ["carry"] => Call::Carry,
+        ["abandon", depth] => Call::Abandon(depth.parse().ok()?),
+        ["read", address] => Call::Read(address.parse().ok()?),
+        ["write", address, value] => Call::Write(address.parse().ok()?, value.parse().ok()?),
+        _ => return None,
+    })
+}
+
+/// Performs all calls of the input; an error names the line that is none. Empty lines and lines that begin with `#`
+/// are passed over.
+pub fn replay(program: Vec<u8>, input: impl BufRead, mut output: impl Write) -> io::Result<()> {
+    let mut replay = Replay::new(program);
+    for (number, line) in input.lines().enumerate() {
+        let line = line?;
+        let line = line.trim();
+        if line.is_empty() || line.starts_with('#') {
+            continue;
+        }
+        let Some(call) = parse(line) else {
+            let message = format!("line {} is no call: {line}", number + 1);
+            return Err(io::Error::new(io::ErrorKind::InvalidData, message));
+        };
+        if let Some(answer) = replay.perform(call) {
+            writeln!(output, "{line} => {answer}")?;
+        }
+    }
+    output.flush()
+}
+
+fn main() -> ExitCode {
+    let Some(path) = env::args_os().nth(1) else {
+        eprintln!("usage: replay PROGRAM < CALLS");
+        return ExitCode::from(2);
+    };
+    let done = fs::read(&path)
+        .and_then(|program| replay(program, io::stdin().lock(), BufWriter::new(io::stdout())));
+    match done {
+        Ok(()) => ExitCode::SUCCESS,
+        Err(error) => {
+            eprintln!("replay: {error}");
+            ExitCode::FAILURE
+        }
+    }
+}

@@ -1,0 +1,57 @@
+//! A host's side of the QuakeC program machine: the safe Rust over the proved static library.
+//!
+//! A [`Machine`] owns a program file's bytes, the cells and the saved store that it lends to the library, and the
+//! context that the library hands back. Every operation of the library is a method: [`Machine::load`],
+//! [`Machine::enter`], [`Machine::statement`], [`Machine::run`], [`Machine::carry_on`], [`Machine::abandon`],
+//! [`Machine::read`] and [`Machine::write`]. What is refused changes nothing and gives a [`Refusal`], the number of
+//! document 01 with its sentence. [`Machine::call`] does what a server does with a function: it enters, runs, has
+//! the host answer what is handed over, and leaves the machine at the depth where it was, however the call went.
+//!
+//! What the library promises is proved. What this crate does around it is not: it is Rust, tested.
+//!
+//! ```
+//! use host::assemble::{Assembly, Function};
+//! use host::{Machine, CELLS, SAVED_STORE};
+//!
+//! // Function 1 adds cells 28 and 29 and returns the sum.
+//! let program = Assembly {
+//!     statements: vec![[0, 0, 0, 0], [6, 28, 29, 30], [43, 30, 0, 0]],
+//!     functions: vec![
+//!         Function::default(),
+//!         Function { first: 1, local: 30, locals: 1, ..Function::default() },
+//!     ],
+//!     cells: vec![(28, 1.5_f32.to_bits()), (29, 2.25_f32.to_bits())],
+//!     ..Assembly::default()
+//! };
+//! let mut machine = Machine::new(program.bytes(), vec![0; CELLS], vec![0; SAVED_STORE]);
+//! machine.load()?;
+//! machine.enter(1)?;
+//! let run = machine.run(0, 99_999);
+//! assert_eq!(run.outcome, host::RunOutcome::Ended);
+//! assert_eq!(run.count, 2);
+//! assert_eq!(f32::from_bits(machine.read(1)?), 3.75);
+//! # Ok::<(), host::Refusal>(())
+//! ```
+
+#![deny(missing_docs)]
+#![deny(unsafe_code)]
+#![warn(rust_2018_idioms)]
+
+#[cfg(not(all(target_arch = "x86_64", target_os = "linux")))]
+compile_error!("the static library is compiled for x86-64 Linux");
+
+pub mod assemble;
+mod call;
+mod context;
+#[allow(unsafe_code)]
+mod library;
+mod machine;
+mod program;
+mod refusal;
+
+pub use call::{CallError, Cause};
+pub use context::{Context, FileRecord, Lump, StackFrame, FRAMES};
+pub use library::Reply;
+pub use machine::{Handover, Machine, Outcome, Run, RunOutcome, CELLS, SAVED_STORE};
+pub use program::{Definition, Function, Program};
+pub use refusal::Refusal;

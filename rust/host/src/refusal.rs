@@ -1,0 +1,85 @@
+//! Refusals in words.
+
+use std::error::Error;
+use std::fmt;
+
+/// The sentences of the numbers 1 to 29.
+const SENTENCES: [&str; 29] = [
+    "the file is shorter than 60 bytes or longer than 1,048,576",
+    "the version isn't 6",
+    "the check number isn't 5927",
+    "a lump has a negative offset or count, or ends past the end of the file",
+    "a function's first statement is negative and names no builtin",
+    "the name of a function or definition, or a source file, is outside the strings",
+    "the opcode isn't 0 to 65",
+    "a definition's type is over 7, the save flag apart",
+    "a field definition has the save flag",
+    "there are fewer than 36 cells or more than 32,768",
+    "there are fewer than 105 cells per entity",
+    "fewer cells are lent than the file has, or the saved store is shorter than 2,048",
+    "the file, the lent cells, the saved store or the state do not belong together",
+    "there is no statement at the position",
+    "a cell number is negative or not below the file's count of cells",
+    "a cell's definition has another type",
+    "a negative entity or field is read, or StoreS moves a negative string number",
+    "the third operand of a Store or the second of a Not isn't 0",
+    "the function is number 0",
+    "there is no function with that number",
+    "the function is a builtin",
+    "the call depth is already 31",
+    "the local count is negative, or more than 2,048 cells would be saved",
+    "the argument count isn't 0 to 8",
+    "the call depth is 0: there is nothing to return from",
+    "fewer cells are saved than the function has locals",
+    "the statement at the position would not be handed over",
+    "the limit isn't 1 to 99,999",
+    "the target depth is negative or not below the depth; for abandon, above it",
+];
+
+/// Why an operation was refused: document 01's number, and its sentence.
+///
+/// What is refused leaves context and buffers as they were; a run, as they were after the last completed statement.
+///
+/// ```
+/// use host::Refusal;
+/// let refusal = Refusal::new(15);
+/// assert_eq!(refusal.number(), 15);
+/// assert_eq!(
+///     refusal.to_string(),
+///     "refused 15: a cell number is negative or not below the file's count of cells"
+/// );
+/// ```
+#[derive(Clone, Copy, Debug, PartialEq, Eq, PartialOrd, Ord, Hash)]
+pub struct Refusal(u32);
+
+impl Refusal {
+    /// The file, the lent buffers or the context do not belong together: what every operation answers before a load.
+    pub const STATE: Refusal = Refusal(13);
+
+    /// The refusal of a number.
+    pub const fn new(number: u32) -> Refusal {
+        Refusal(number)
+    }
+
+    /// Document 01's number.
+    pub const fn number(self) -> u32 {
+        self.0
+    }
+
+    /// The sentence of the number, in the words of the repository's table of refusals.
+    pub fn sentence(self) -> &'static str {
+        let index = (self.0 as usize).wrapping_sub(1);
+        SENTENCES
+            .get(index)
+            .copied()
+            .unwrap_or("no such refusal is listed")
+    }
+}
+
+impl fmt::Display for Refusal {
+    fn fmt(&self, f: &mut fmt::Formatter<'_>) -> fmt::Result {
+        write!(f, "refused {}: {}", self.0, self.sentence())
+    }
+}
+
+impl Error for Refusal {}

@@ -1,0 +1,360 @@
+//! What holds for program files, states and call lists made by chance. Seeds are fixed: a failure comes back.
+
+mod common;
+
+use common::{random_file, random_machine, Chance};
+use host::{Context, Machine, Outcome, Program, Refusal, RunOutcome, SAVED_STORE};
+
+#[derive(Clone, Copy, Debug)]
+enum Call {
+    Load,
+    Enter(i64),
+    Statement,
+    Run(i64, i64),
+    CarryOn,
+    Abandon(i64),
+    Read(i64),
+    Write(i64, u32),
+}
+
+fn random_call(chance: &mut Chance) -> Call {
+    match chance.below(40) {
+        0 => Call::Load,
+        1..=9 => Call::Enter(chance.number() % 9),
+        10..=17 => Call::Statement,
+        18..=22 => Call::Run(chance.between(-1, 3), chance.between(-1, 40)),
+        23 => Call::Run(chance.number(), chance.number()),
+        24..=27 => Call::CarryOn,
+        28..=31 => Call::Abandon(chance.number() % 5),
+        32..=35 => Call::Read(chance.number()),
+        _ => Call::Write(chance.number(), chance.draw() as u32),
+    }
+}
+
+/// Does a call; a refusal is given, with the completed statements of a run.
+fn perform(machine: &mut Machine, call: Call) -> Result<(), (Refusal, u32)> {
+    let alone = |refusal| (refusal, 0);
+    match call {
+        Call::Load => machine.load().map_err(alone),
+        Call::Enter(function) => machine.enter(function).map_err(alone),
+        Call::CarryOn => machine.carry_on().map_err(alone),
+        Call::Abandon(depth) => machine.abandon(depth).map_err(alone),
+        Call::Read(address) => machine.read(address).map(drop).map_err(alone),
+        Call::Write(address, value) => machine.write(address, value).map_err(alone),
+        Call::Statement => match machine.statement() {
+            Outcome::Refused(refusal) => Err(alone(refusal)),
+            _ => Ok(()),
+        },
+        Call::Run(target, limit) => {
+            let run = machine.run(target, limit);
+            match run.outcome {
+                RunOutcome::Refused(refusal) => Err((refusal, run.count)),
+                _ => Ok(()),
+            }
+        }
+    }
+}
+
+/// What must hold of one call, whatever the machine's buffers and context are.
+fn check(machine: &mut Machine, call: Call) -> Result<(), (Refusal, u32)> {
+    let before = machine.clone();
+    let answer = perform(machine, call);
+    assert_eq!(machine.program(), before.program());
+    let most = before
+        .context()
+        .file
+        .globals
+        .count
+        .max(declared_cells(&before));
+    let kept = most.min(before.cells().len());
+    assert_eq!(machine.cells()[kept..], before.cells()[kept..], "{call:?}");
+    let store = SAVED_STORE.min(before.saved().len());
+    assert_eq!(machine.saved()[store..], before.saved()[store..]);
+    if let Err((refusal, count)) = answer {
+        assert!((1..=29).contains(&refusal.number()), "{call:?} {refusal}");
+        assert!(refusal.to_string().len() > 20);
+        if count == 0 {
+            assert_unchanged(machine, &before, call);
+        }
+    }
+    if let Call::Read(_) = call {
+        assert_unchanged(machine, &before, call);
+    }
+    answer
+}
+
+fn assert_unchanged(machine: &Machine, before: &Machine, call: Call) {
+    assert_eq!(machine.context(), before.context(), "{call:?}");
+    assert_eq!(machine.cells(), before.cells(), "{call:?}");
+    assert_eq!(machine.saved(), before.saved(), "{call:?}");
+    assert_eq!(machine.loaded(), before.loaded());
+}
+
+/// The file's count of cells, which a load that is accepted may fill.
+fn declared_cells(machine: &Machine) -> usize {
+    let four = machine.program().get(52..56);
+    let count = four.map_or(0, |four| i32::from_le_bytes(four.try_into().unwrap()));
+    usize::try_from(count).unwrap_or(0)
+}
+
+/// How often something was seen, so that a test that meets nothing doesn't pass.
+#[derive(Default)]
+struct Seen {
+    loads: u32,
+    accepted: u32,
+    refused: [u32; 30],
+}
+
+impl Seen {
+    fn note(&mut self, answer: Result<(), (Refusal, u32)>) {
+        match answer {
+            Ok(()) => self.accepted += 1,
+            Err((refusal, _)) => self.refused[refusal.number() as usize] += 1,
+        }
+    }
+}
+
+#[test]
+fn random_programs_and_calls() {
+    let mut seen = Seen::default();
+    for seed in 0..3_000 {
+        let mut chance = Chance::new(seed);
+        let mut machine = random_machine(&mut chance);
+        seen.loads += u32::from(check(&mut machine, Call::Load).is_ok());
+        for _ in 0..60 {
+            seen.note(check(&mut machine, random_call(&mut chance)));
+        }
+    }
+    assert!(seen.loads > 1_500, "{}", seen.loads);
+    assert!(seen.accepted > 30_000, "{}", seen.accepted);
+    for number in [13, 14, 15, 16, 18, 19, 20, 21, 23, 24, 25, 27, 28, 29] {
+        assert!(seen.refused[number] > 0, "{number} was never met");
+    }
+}
+
+/// A number that a state might be given.
+fn made_up(chance: &mut Chance, now: usize) -> usize {
+    match chance.below(8) {
+        0 => now.wrapping_add(1),
+        1 => now.wrapping_sub(1),
+        2 => chance.pick(&[0, 31, 32, 2_048, 2_049, 1 << 31, 1 << 32, usize::MAX]),
+        3 => chance.draw() as usize,
+        _ => chance.below(40) as usize,
+    }
+}
+
+/// A state with some of its numbers changed.
+fn made_up_context(chance: &mut Chance, now: &Context) -> Context {
+    let mut context = *now;
+    for _ in 0..chance.between(1, 4) {
+        let frame = chance.below(31) as usize;
+        match chance.below(12) {
+            0 => context.file.length = made_up(chance, now.file.length),
+            1 => context.file.functions.count = made_up(chance, now.file.functions.count),
+            2 => context.file.globals.count = made_up(chance, now.file.globals.count),
+            3 => context.file.statements.offset = made_up(chance, now.file.statements.offset),
+            4 => context.file.entityfields = made_up(chance, now.file.entityfields),
+            5 => context.pc = chance.number(),
+            6 => context.current_function = made_up(chance, now.current_function),
+            7 => context.depth = made_up(chance, now.depth),
+            8 => context.saved = made_up(chance, now.saved),
+            9 => context.frames[frame].instr_id = chance.number(),
+            10 => context.frames[0].func_id = made_up(chance, 0),
+            _ => context.frames[frame].func_id = made_up(chance, 0),
+        }
+    }
+    context
+}
+
+/// A state of chance numbers altogether.
+fn random_context(chance: &mut Chance) -> Context {
+    let mut context = made_up_context(chance, &Context::default());
+    context.file.length = chance.draw() as usize;
+    context.depth = made_up(chance, 3);
+    for frame in &mut context.frames {
+        frame.instr_id = chance.draw() as i64;
+        frame.func_id = made_up(chance, 2);
+    }
+    context
+}
+
+/// Check 13 on a program file that was loaded, read again from document 01's row, with records read by this crate.
+fn sound(machine: &Machine, loaded: &Context) -> bool {
+    let context = machine.context();
+    if context.file != loaded.file || context.depth > 31 || context.saved > 2_048 {
+        return false;
+    }
+    let mut entered = vec![context.current_function];
+    entered.extend(
+        context.frames[..context.depth]
+            .iter()
+            .skip(1)
+            .map(|frame| frame.func_id),
+    );
+    if context.depth == 0 {
+        entered.clear();
+    }
+    let program = machine.records();
+    let locals: Option<Vec<u64>> = entered
+        .into_iter()
+        .map(|number| {
+            let function = program.function(i64::try_from(number).ok()?)?;
+            u64::try_from(function.locals).ok()
+        })
+        .collect();
+    locals.is_some_and(|locals| locals.iter().sum::<u64>() == context.saved as u64)
+}
+
+#[test]
+fn states_that_a_host_makes_up() {
+    let (mut sound_ones, mut others, mut below_zero) = (0, 0, 0);
+    for seed in 0..3_000 {
+        let mut chance = Chance::new(1_000_000 + seed);
+        let mut machine = random_machine(&mut chance);
+        if machine.load().is_err() {
+            continue;
+        }
+        let loaded = *machine.context();
+        for _ in 0..40 {
+            perform(&mut machine, random_call(&mut chance)).ok();
+            let kept = *machine.context();
+            let made = if chance.one_in(5) {
+                random_context(&mut chance)
+            } else {
+                made_up_context(&mut chance, &kept)
+            };
+            machine.set_context(made);
+            let is_sound = sound(&machine, &loaded);
+            let answer = check(&mut machine, Call::Read(0));
+            assert_eq!(answer.is_ok(), is_sound, "{made:?}");
+            let call = random_call(&mut chance);
+            let answer = check(&mut machine, call);
+            if !is_sound && !matches!(call, Call::Load) {
+                assert_eq!(answer, Err((Refusal::STATE, 0)));
+            }
+            sound_ones += u32::from(is_sound);
+            others += u32::from(!is_sound);
+            below_zero += u32::from(is_sound && made.pc < 0);
+            if !is_sound {
+                machine.set_context(kept);
+            }
+        }
+    }
+    assert!(
+        sound_ones > 5_000 && others > 5_000,
+        "{sound_ones} {others}"
+    );
+    assert!(below_zero > 50, "{below_zero}");
+}
+
+#[test]
+fn buffers_that_a_host_changes() {
+    let (mut refused, mut accepted) = (0, 0);
+    for seed in 0..1_500 {
+        let mut chance = Chance::new(2_000_000 + seed);
+        let mut machine = random_machine(&mut chance);
+        machine.load().ok();
+        for _ in 0..30 {
+            match chance.below(8) {
+                0 => {
+                    let length = machine.program().len() as u64;
+                    if length > 0 {
+                        let at = chance.below(length) as usize;
+                        machine.program_mut()[at] = chance.draw() as u8;
+                    }
+                }
+                1 => machine
+                    .cells_mut()
+                    .truncate(chance.between(30, 90) as usize),
+                2 => machine.cells_mut().resize(80, 5),
+                3 => machine
+                    .saved_mut()
+                    .truncate(chance.between(2_040, 2_060) as usize),
+                4 => machine.saved_mut().resize(SAVED_STORE + 8, 6),
+                _ => {}
+            }
+            match check(&mut machine, random_call(&mut chance)) {
+                Ok(()) => accepted += 1,
+                Err(_) => refused += 1,
+            }
+        }
+    }
+    assert!(accepted > 2_000 && refused > 2_000, "{accepted} {refused}");
+}
+
+/// Calls leave the depth where it was, and the position, however they end.
+#[test]
+fn calls_leave_the_depth() {
+    let (mut ended, mut failed, mut handed) = (0, 0, 0);
+    for seed in 0..2_000 {
+        let mut chance = Chance::new(3_000_000 + seed);
+        let mut machine = random_machine(&mut chance);
+        if machine.load().is_err() {
+            continue;
+        }
+        for _ in 0..10 {
+            if chance.one_in(3) {
+                machine.enter(chance.between(0, 7)).ok();
+            }
+            let before = *machine.context();
+            let give_up = chance.one_in(4);
+            let called = machine.call(
+                chance.between(-1, 8),
+                chance.between(1, 200),
+                |_, machine| {
+                    handed += 1;
+                    machine.write(1, 7).unwrap();
+                    if give_up {
+                        Err("given up")
+                    } else {
+                        Ok(())
+                    }
+                },
+            );
+            match called {
+                Ok(count) => ended += u32::from(count > 0),
+                Err(error) => {
+                    failed += 1;
+                    assert_eq!(error.abandon, None);
+                }
+            }
+            assert_eq!(machine.context(), &before);
+        }
+    }
+    assert!(
+        ended > 300 && failed > 3_000 && handed > 300,
+        "{ended} {failed} {handed}"
+    );
+}
+
+#[test]
+fn records_of_any_bytes() {
+    for seed in 0..4_000 {
+        let mut chance = Chance::new(4_000_000 + seed);
+        let mut file = random_file(&mut chance);
+        for _ in 0..chance.below(4) {
+            if file.len() >= 60 {
+                let at = chance.below(60) as usize;
+                file[at] = chance.draw() as u8;
+            }
+        }
+        let program = Program::new(&file);
+        for _ in 0..20 {
+            let number = chance.number();
+            program.function(number);
+            program.function_name(number);
+            program.definition(number);
+            program.field(number);
+            if let Some(text) = program.text(number) {
+                assert!(!text.contains(&0));
+            }
+        }
+        program.find_function_by_name("main");
+        program.find_definition_by_name("");
+        program.find_field_by_name("health");
+        program.find_definition_of_cell(30);
+        let last = program.function_count() as i64;
+        assert_eq!(program.function(last), None);
+        assert_eq!(program.function(-1), None);
+    }
+}

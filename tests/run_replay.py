@@ -1,0 +1,299 @@
+#!/usr/bin/env python3
+"""Runs the host's replay program on lists of calls and compares what it prints with what the model of tests/model answers.
+
+    python3 tests/run_replay.py REPLAY      the lists of tests/model/cases/calls.txt, and the list of rust/host/tests/replay
+    python3 tests/run_replay.py --write     writes the list of rust/host/tests/replay, with what the model prints for it
+    python3 tests/run_replay.py --check     says whether the committed one is that
+
+REPLAY is the built program, as rust/host/target/debug/examples/replay. Lists of calls.txt that change a state's numbers
+can't be replayed, and are left out.
+"""
+import os
+import struct
+import subprocess
+import sys
+import tempfile
+
+ROOT = os.path.dirname(os.path.dirname(os.path.abspath(__file__)))
+FOLDER = os.path.join(ROOT, "rust/host/tests/replay")
+
+sys.path.insert(0, os.path.join(ROOT, "tests/model"))
+import model
+from replay import bytes_of, lines_of
+
+FNV_BASIS, FNV_PRIME = 14695981039346656037, 1099511628211
+# what calls.txt calls otherwise
+NAMES = {"get": "read", "put": "write", "byte": "poke"}
+
+
+def digest(data):
+    result = FNV_BASIS
+    for byte in data:
+        result = (result ^ byte) * FNV_PRIME % 2**64
+    return "%016x" % result
+
+
+class Digests:
+    """Digests of lists of cells; one that was seen last is not worked out again."""
+
+    def __init__(self):
+        self.last = {}
+
+    def of(self, name, numbers):
+        packed = struct.pack("<%dI" % len(numbers), *numbers)
+        if self.last.get(name, (None,))[0] != packed:
+            self.last[name] = packed, digest(packed)
+        return self.last[name][1]
+
+
+class Lent:
+    """The model, with what the host lends and the state of the last accepted load."""
+
+    def __init__(self, program):
+        self.program, self.length = bytearray(program), len(program)
+        self.loaded, self.state = False, None
+        self.digests = Digests()
+        self.lend(64, 2048, 0)
+
+    def lend(self, cells, saved, entity_cells):
+        self.cells = [(3221225472 + i) % 2**32 for i in range(cells)]
+        self.saved = [(2684354560 + i) % 2**32 for i in range(saved)]
+        self.entity_cells = [7 * i % 2**32 for i in range(entity_cells)]
+
+    def poke(self, offset, byte):
+        if offset < self.length:
+            self.program[offset] = byte
+
+    def file(self, length):
+        self.program.extend(bytes(max(0, length - len(self.program))))
+        self.length = length
+
+    def perform(self, line):
+        """What replay prints for a line; nothing for a change of what is lent."""
+        name, *words = line.split()
+        given = [int(word) for word in words]
+        if name in ("lend", "poke", "file"):
+            getattr(self, name)(*given)
+            return None
+        if name != "load" and not self.loaded:
+            return line + " => no state"
+        machine = model.Machine(bytearray(self.program[:self.length]), self.cells, self.saved)
+        if name == "load":
+            answer = self.load(machine)
+        else:
+            machine.state = self.state
+            answer = words_of(name, self.operation(machine, name)(*given))
+            self.state = machine.state
+        return "%s => %s | %s" % (line, answer, self.shown())
+
+    def load(self, machine):
+        answer = machine.load()
+        if answer.word == "refused":
+            return "refused %d" % answer.detail
+        self.loaded, self.state = True, machine.state
+        return "ok"
+
+    @staticmethod
+    def operation(machine, name):
+        return getattr(machine, {"carry": "carry_on"}.get(name, name))
+
+    def shown(self):
+        first = "-"
+        if self.loaded:
+            s = self.state
+            frames = "".join("%d,%d;" % frame for frame in s.frames)
+            first = "%d %d %d %d %s" % (s.position, s.function, s.depth, s.saved, digest(frames.encode()))
+        buffers = ("cells", self.cells), ("saved", self.saved), ("entity", self.entity_cells)
+        return " ".join([first] + [self.digests.of(*buffer) for buffer in buffers])
+
+
+def words_of(name, answer):
+    if name == "run":
+        return "%s %d %d" % (answer.word, answer.detail, answer.count)
+    if answer.word == "accepted":
+        return "%s %d" % ("completed" if name == "statement" else "ok", answer.detail)
+    return "%s %d" % (answer.word, answer.detail)
+
+
+def expected(program, lines):
+    lent = Lent(program)
+    answers = (lent.perform(line) for line in lines)
+    return [answer for answer in answers if answer is not None]
+
+
+def lists():
+    """The program and the calls of each list of calls.txt."""
+    program, calls = None, []
+    for line in lines_of("calls.txt"):
+        name, *words = line.split(" ")
+        if name == "new":
+            if program is not None:
+                yield program, calls
+            program = bytes_of(words[2], words[3])
+            calls = ["lend %s %s 3" % (words[0], words[1])]
+            continue
+        call = [NAMES.get(name, name)] + words[:words.index("=")]
+        calls.append("load 0" if name == "load" else " ".join(call))
+    yield program, calls
+
+
+def fixed_list():
+    """A program and calls that reach each kind of answer, and each change of what is lent."""
+    f = model.function
+    program = model.Assembly(
+        statements=[("Done",), ("AddF", 28, 29, 30), ("Call0", 40), ("LoadF", 28, 28, 31), ("Call0", 41), ("Return", 30),
+                    ("AddF", 28, 33, 30), ("Goto", 0)],
+        functions=[f(), f(1, 30, 2), f(-7, arguments=-1), f(5, 44, 1), f(6), f(7)],
+        definitions=[(model.STRING, 33)],
+        cells={28: 0x3FC00000, 29: 0x40100000, 40: 2, 41: 3},
+    )
+    data = program.bytes()
+    calls = """
+        statement
+        read 0
+        lend 10 2048 2
+        load 0
+        carry
+        lend 64 2048 0
+        load 0
+        lend 10 2048 2
+        load 0
+        lend 70 2050 5
+        enter 3
+        load 0
+        read 28
+        read 63
+        read 64
+        read -1
+        write 50 4294967295
+        write 64 1
+        enter 1
+        run 0 1
+        run 0 100
+        statement
+        carry
+        statement
+        run 0 100
+        carry
+        statement
+        run 0 1000
+        carry
+        statement
+        statement
+        run 0 0
+        run 0 100000
+        run 1 5
+        run 0 5
+        enter 4
+        statement
+        run 0 9
+        abandon 0
+        enter 5
+        run 0 77
+        abandon -1
+        abandon 2
+        abandon 1
+        abandon 0
+        enter 2
+        enter 6
+        enter -9223372036854775808
+        statement
+        statement
+        poke 0 7
+        read 1
+        load 0
+        poke 0 6
+        load 0
+        enter 1
+        lend 64 2048 0
+        read 1
+        lend 63 2048 0
+        read 1
+        lend 64 2047 1
+        read 1
+        lend 64 2048 1
+        read 1
+        file %d
+        read 1
+        load 0
+        file %d
+        load 0
+        file %d
+        read 1
+        file 59
+        load 0
+        file 0
+        load 0
+        statement
+        file %d
+        load 0
+        run 0 1
+        poke 60 66
+        statement
+        poke 60 61
+        statement
+        statement
+    """ % (len(data) - 1, len(data) + 40, len(data), len(data))
+    return data, [line.strip() for line in calls.strip().splitlines()]
+
+
+def committed():
+    """The files of the fixed list: the program, the calls, and what is printed."""
+    program, calls = fixed_list()
+    text = "".join(line + "\n" for line in calls)
+    answers = "".join(line + "\n" for line in expected(program, calls))
+    return {"program.dat": bytes(program), "calls": text.encode(), "expected": answers.encode()}
+
+
+def check():
+    wrong = 0
+    for name, content in committed().items():
+        with open(os.path.join(FOLDER, name), "rb") as f:
+            if f.read() != content:
+                wrong += 1
+                print("rust/host/tests/replay/%s is not what tests/run_replay.py --write makes" % name)
+    print("replay's fixed list: %d files differ" % wrong)
+    return wrong
+
+
+def run(replay, program, calls):
+    with tempfile.NamedTemporaryFile() as file:
+        file.write(program)
+        file.flush()
+        text = "".join(line + "\n" for line in calls)
+        done = subprocess.run([replay, file.name], input=text.encode(), stdout=subprocess.PIPE, check=True)
+    return done.stdout.decode().splitlines()
+
+
+def compare(replay):
+    counted, left_out, differ = 0, 0, 0
+    for program, calls in [fixed_list()] + list(lists()):
+        if any(call.startswith("field ") for call in calls):
+            left_out += 1
+            continue
+        got, wanted = run(replay, program, calls), expected(program, calls)
+        counted += len(wanted)
+        pairs = [pair for pair in zip(got, wanted) if pair[0] != pair[1]]
+        if got != wanted:
+            differ += 1
+            print(pairs[0] if pairs else "%d lines instead of %d" % (len(got), len(wanted)))
+    print("%d calls replayed, %d lists differ, %d lists left out" % (counted, differ, left_out))
+    return differ
+
+
+def main():
+    if sys.argv[1:] == ["--write"]:
+        os.makedirs(FOLDER, exist_ok=True)
+        for name, content in committed().items():
+            with open(os.path.join(FOLDER, name), "wb") as f:
+                f.write(content)
+        return 0
+    if sys.argv[1:] == ["--check"]:
+        return check()
+    if len(sys.argv) == 2:
+        return compare(sys.argv[1])
+    sys.exit(__doc__)
+
+
+if __name__ == "__main__":
+    sys.exit(main() != 0)
