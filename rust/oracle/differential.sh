@@ -42,7 +42,10 @@ for build in release debug; do
         cargo build --offline --quiet
     fi
     run="${CARGO_TARGET_DIR:-target}/$build/differential"
-    for what in "facts" "story" "altered $((programs / 10))" "functions $programs" "programs $programs"; do
+    rules=
+    [ -d ../../tests/rules ] && rules="folder ../../tests/rules"
+    for what in "facts" "story" "altered $((programs / 10))" "functions $programs" "programs $programs" "$rules"; do
+        [ -n "$what" ] || continue
         echo
         echo "== $build build: $what =="
         # shellcheck disable=SC2086

@@ -1,13 +1,14 @@
-//! Each of 01's reference answers alone: the `op_` functions, `enter_function` and `leave_function`. (`load` and `execute_program`
-//! are compared alone by the programs: every load is compared before anything runs.)
+//! Each of 01's reference answers alone: `load`, the `op_` functions, `enter_function` and `leave_function`. (`execute_program` is what
+//! the programs are run by.)
 
-use crate::compare::{compare, Call, Rules, Verdict};
-use crate::generate;
+use crate::compare::{Call, Rules, Verdict};
+use crate::generate::{self, Case, Kind};
 use crate::oracle::{self, End, Level, Variant};
-use crate::ours::{Left, Ours};
+use crate::ours::{Answer, Left, Ours};
 use crate::program::{Program, View};
 use crate::random::Random;
 use crate::report::{grouped, Counts, Tally};
+use crate::runs;
 use changed::switches::{self, Switch};
 
 const RULES: Rules = Rules {
@@ -26,6 +27,12 @@ const UNCHANGED: Rules = Rules {
 
 pub fn run(seed: u64, count: u64) -> bool {
     let mut functions = [
+        (
+            "load, of damaged files",
+            Totals::default(),
+            load as Step,
+            count,
+        ),
         (
             "the op_ functions and op_return",
             Totals::default(),
@@ -52,7 +59,7 @@ pub fn run(seed: u64, count: u64) -> bool {
             .changed
             .print("richter with the named differences changed, NaN canonical");
         if totals.opcodes.total() > 0 {
-            totals.opcodes.print("statements, by opcode:");
+            totals.opcodes.print_range("opcodes");
         }
         good &= totals.unchanged.unexplained + totals.changed.unexplained == 0;
     }
@@ -91,9 +98,43 @@ impl Doing<'_> {
             entry_only: self.entered.is_some(),
             statement: self.statement,
         };
-        let verdict = compare(&call, rules, &seen, left);
+        let verdict = runs::verdict(&call, rules, &seen, left);
         (verdict, seen.end == End::Done)
     }
+}
+
+/// A load on its own.
+fn load(totals: &mut Totals, r: &mut Random, number: u64) {
+    let case = Case {
+        kind: Kind::Damaged,
+        bytes: generate::damaged(r),
+        calls: Vec::new(),
+    };
+    if runs::reserves_too_much(&case.bytes) {
+        (totals.unchanged.left_out).add("the Rust would reserve memory for over 1,048,576 records");
+        return;
+    }
+    let performed = runs::perform(&case);
+    let answer = match &performed.load {
+        Ok(left) => left.answer,
+        Err(number) => Answer::Refused(*number),
+    };
+    let unchanged = runs::unchanged(&case, &performed);
+    report(
+        &mut totals.unchanged,
+        &unchanged[0],
+        answer,
+        number,
+        "load, unchanged",
+    );
+    let changed = runs::changed(&case, &performed);
+    report(
+        &mut totals.changed,
+        &changed[0],
+        answer,
+        number,
+        "load, changed",
+    );
 }
 
 /// A statement on its own, half of them within function 1.
@@ -123,15 +164,11 @@ fn statement(totals: &mut Totals, r: &mut Random, number: u64) {
         doing.verdict(&mut *level, rules, &left).0
     };
     let answer = left.answer;
-    let changed = |off: &[Switch], rules| {
-        let on_: Vec<Switch> = switches::ALL
-            .into_iter()
-            .filter(|s| !off.contains(s))
-            .collect();
-        switches::set(&on_);
+    let changed = |switches: &[Switch], rules| {
+        switches::set(switches);
         on(Variant::Changed, rules)
     };
-    let with_all = changed(&[], RULES);
+    let with_all = changed(&switches::ALL, RULES);
     report(
         &mut totals.changed,
         &with_all,
@@ -140,55 +177,32 @@ fn statement(totals: &mut Totals, r: &mut Random, number: u64) {
         "op, changed",
     );
     let unchanged = on(Variant::Unchanged, UNCHANGED);
-    let causes: Vec<Switch> = match (&unchanged, &with_all) {
-        (Verdict::Differs(_), with_all) if !matches!(with_all, Verdict::Differs(_)) => {
-            switches::ALL
-                .into_iter()
-                .filter(|&s| {
-                    changed(
-                        &[s],
-                        Rules {
-                            nan_as_nan: true,
-                            ..RULES
-                        },
-                    ) != *with_all
-                })
-                .collect()
-        }
-        _ => Vec::new(),
+    let explained = match (&unchanged, &with_all) {
+        (_, Verdict::Differs(_)) => None,
+        (Verdict::Differs(_), _) => runs::explained_by(|switches, nan_as_nan| {
+            changed(
+                switches,
+                Rules {
+                    nan_as_nan,
+                    ..RULES
+                },
+            ) != with_all
+        }),
+        _ => None,
     };
-    named(
-        &mut totals.unchanged,
-        &unchanged,
-        &causes,
-        answer,
-        number,
-        "op, unchanged",
-    );
-}
-
-fn named(
-    tally: &mut Tally,
-    verdict: &Verdict,
-    causes: &[Switch],
-    answer: crate::ours::Answer,
-    number: u64,
-    what: &str,
-) {
-    if causes.is_empty() {
-        return report(tally, verdict, answer, number, what);
+    match explained {
+        Some(causes) => totals.unchanged.named.add(causes),
+        None => report(
+            &mut totals.unchanged,
+            &unchanged,
+            answer,
+            number,
+            "op, unchanged",
+        ),
     }
-    let names: Vec<String> = causes.iter().map(|c| format!("{:?}", c)).collect();
-    tally.named.add(names.join(" and "));
 }
 
-fn report(
-    tally: &mut Tally,
-    verdict: &Verdict,
-    answer: crate::ours::Answer,
-    number: u64,
-    what: &str,
-) {
+fn report(tally: &mut Tally, verdict: &Verdict, answer: Answer, number: u64, what: &str) {
     if let Verdict::Differs(text) = verdict {
         println!("UNEXPLAINED case {} ({}): {}", number, what, text);
     }
@@ -278,7 +292,7 @@ fn list_of_entries(
             number,
             if what.is_some() { "enter" } else { "leave" },
         );
-        if !done {
+        if !done || !matches!(verdict, Verdict::Same { .. }) {
             break;
         }
     }

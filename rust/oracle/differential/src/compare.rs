@@ -391,8 +391,9 @@ pub fn wraps_an_address(call: &Call, ours: &Left) -> bool {
     if ours.answer != Answer::Refused(15) {
         return false;
     }
-    let function = match (call.entered, ours.depth, call.view.statement(ours.position)) {
-        (Some(function), 0, _) => call.view.function(function),
+    let entry = call.entry_only || ours.depth == 0;
+    let function = match (call.entered, entry, call.view.statement(ours.position)) {
+        (Some(function), true, _) => call.view.function(function),
         (_, _, Some([51..=59, a, _, _])) => {
             let number = ours.cells.get(a as usize).copied().unwrap_or(0);
             call.view.function(number as usize)

@@ -687,7 +687,7 @@ fn sizes_at_edges(r: &mut Random) -> Program {
 
 // ---- damaged
 
-fn damaged(r: &mut Random) -> Vec<u8> {
+pub fn damaged(r: &mut Random) -> Vec<u8> {
     let mut bytes = if r.percent(60) {
         whole(r).bytes()
     } else {
@@ -811,6 +811,8 @@ pub fn functions_alone(r: &mut Random) -> Program {
         arguments(r, kind, &mut function);
         if r.percent(5) {
             function.locals = r.pick(&[-1, 2_048, 2_049, 300]);
+        } else if r.percent(5) {
+            function.local = r.pick(&[-3, 301, 305, 32_767, 65_536 + 30]);
         }
         program.functions.push(function);
     }

@@ -1,8 +1,10 @@
 //! Whole programs: load, then the functions that the host enters, by `execute_program`.
 
+use crate::classes::Class;
 use crate::compare::Verdict;
 use crate::generate::{self, Case, KINDS};
 use crate::ours::Answer;
+use crate::program::{Lump, View};
 use crate::report::{grouped, Counts, Tally};
 use crate::runs::{self, Performed, Verdicts};
 
@@ -10,8 +12,11 @@ use crate::runs::{self, Performed, Verdicts};
 struct Totals {
     kinds: [u64; KINDS.len()],
     reserves: u64,
+    /// Programs by what came of them with the unchanged Rust, the changed one, and either.
+    programs: [Counts; 3],
     unchanged: Tally,
     changed: Tally,
+    statements: u64,
     /// Programs that only the changed Rust covers.
     covered_by_changed: Counts,
     copies_compared: u64,
@@ -37,6 +42,7 @@ pub fn run(seed: u64, first: u64, count: u64) -> bool {
 fn one(totals: &mut Totals, number: u64, case: &Case, performed: &Performed) {
     let unchanged = runs::unchanged(case, performed);
     let changed = runs::changed(case, performed);
+    summarise(totals, &unchanged, &changed, performed);
     add(&mut totals.changed, &changed, performed);
     if let Some(text) = difference(&changed) {
         unexplained(number, "changed", text, case);
@@ -62,6 +68,33 @@ fn one(totals: &mut Totals, number: u64, case: &Case, performed: &Performed) {
     }
 }
 
+/// What came of a program: of the last of its load and calls that was compared.
+fn outcome(verdicts: &Verdicts) -> &'static str {
+    match verdicts.last() {
+        Some(Verdict::Same { .. }) => "compared in full, equal",
+        Some(Verdict::OtherNumber(..)) => "compared in full, refused by both by another number",
+        Some(Verdict::LeftOut(Class::HandedOver)) => "left out: handed over to the host",
+        Some(Verdict::LeftOut(_)) => "left out: the Rust panics",
+        Some(Verdict::ByDesign(_)) => "differs by design",
+        Some(Verdict::Differs(_)) | None => "differs, see below",
+    }
+}
+
+fn summarise(totals: &mut Totals, unchanged: &Verdicts, changed: &Verdicts, performed: &Performed) {
+    let (first, second) = (outcome(unchanged), outcome(changed));
+    let compared = |outcome: &str| outcome.starts_with("compared");
+    totals.programs[0].add(first);
+    totals.programs[1].add(second);
+    totals.programs[2].add(match (compared(first), compared(second)) {
+        (true, _) => first,
+        (false, true) => "compared in full with the changed Rust alone, equal",
+        (false, false) => second,
+    });
+    if compared(first) || compared(second) {
+        totals.statements += performed.calls.iter().map(|left| left.count).sum::<u64>();
+    }
+}
+
 fn difference(verdicts: &[Verdict]) -> Option<&str> {
     match verdicts.last() {
         Some(Verdict::Differs(text)) => Some(text),
@@ -79,16 +112,15 @@ fn explain(
     changed: &Verdicts,
 ) {
     let causes = match difference(changed) {
-        Some(_) => Vec::new(),
+        Some(_) => None,
         None => runs::causes(case, performed, changed),
     };
-    if causes.is_empty() {
+    let Some(causes) = causes else {
         totals.unchanged.unexplained += 1;
         unexplained(number, "unchanged", text, case);
         return;
-    }
-    let names: Vec<String> = causes.iter().map(|c| format!("{:?}", c)).collect();
-    totals.unchanged.named.add(names.join(" and "));
+    };
+    totals.unchanged.named.add(causes);
     let covered = match changed.last() {
         Some(Verdict::Same { .. }) => "compared with the changed Rust, equal",
         _ => "left out or by design with the changed Rust",
@@ -163,7 +195,7 @@ fn is_unexplained(case: &Case) -> bool {
     let changed = runs::changed(case, &performed);
     let unchanged = runs::unchanged(case, &performed);
     difference(&changed).is_some()
-        || (difference(&unchanged).is_some() && runs::causes(case, &performed, &changed).is_empty())
+        || (difference(&unchanged).is_some() && runs::causes(case, &performed, &changed).is_none())
 }
 
 fn print(totals: &Totals, count: u64) {
@@ -175,13 +207,25 @@ fn print(totals: &Totals, count: u64) {
         "  {} left out whole: the Rust would reserve memory for over 1,048,576 records",
         grouped(totals.reserves)
     );
-    totals.unchanged.print("richter unchanged");
+    print_totals(totals);
+}
+
+fn print_totals(totals: &Totals) {
+    let [unchanged, changed, either] = &totals.programs;
+    unchanged.print("programs and richter unchanged:");
+    changed.print("programs and richter changed:");
+    either.print("programs and either:");
+    println!(
+        "    {} statements completed in the programs compared in full",
+        grouped(totals.statements)
+    );
+    totals.unchanged.print("loads and runs, richter unchanged");
     totals
         .covered_by_changed
         .print("programs with such a difference, and the changed Rust:");
     totals
         .changed
-        .print("richter with the named differences changed, NaN canonical");
+        .print("loads and runs, richter with the named differences changed, NaN canonical");
     println!(
         "  {} programs also through the changed copy with all changes off: same verdicts as unchanged",
         grouped(totals.copies_compared)
@@ -220,6 +264,34 @@ pub fn show(case: &Case) -> bool {
         runs::causes(case, &performed, &changed)
     );
     !is_unexplained(case)
+}
+
+/// Every function of every program file in a folder, entered by the host right after the load.
+pub fn run_folder(folder: &str) -> bool {
+    let mut totals = Totals::default();
+    let mut files: Vec<_> = (std::fs::read_dir(folder).into_iter().flatten().flatten())
+        .map(|entry| entry.path())
+        .filter(|path| path.extension().is_some_and(|e| e == "dat"))
+        .collect();
+    files.sort();
+    let mut count = 0;
+    for path in &files {
+        let bytes = std::fs::read(path).unwrap_or_default();
+        let functions = View(&bytes).count(Lump::Functions).max(0) as usize;
+        for function in 0..functions {
+            let case = Case {
+                kind: generate::Kind::Random,
+                bytes: bytes.clone(),
+                calls: vec![function],
+            };
+            let performed = runs::perform(&case);
+            one(&mut totals, count, &case, &performed);
+            count += 1;
+        }
+    }
+    println!("{} functions of {} files", grouped(count), files.len());
+    print_totals(&totals);
+    count > 0 && totals.unchanged.unexplained + totals.changed.unexplained == 0
 }
 
 /// A file, and the functions that the host enters one after the other.

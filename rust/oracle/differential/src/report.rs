@@ -25,6 +25,22 @@ impl Counts {
     }
 }
 
+impl Counts {
+    /// How many names, and the least and the greatest count.
+    pub fn print_range(&self, title: &str) {
+        let least = self.0.values().min().copied().unwrap_or(0);
+        let most = self.0.values().max().copied().unwrap_or(0);
+        let (least, most) = (grouped(least), grouped(most));
+        println!(
+            "    {} {}, {} to {} times each",
+            self.0.len(),
+            title,
+            least,
+            most
+        );
+    }
+}
+
 /// 12345 as 12,345.
 pub fn grouped(number: u64) -> String {
     let digits = number.to_string();

@@ -141,7 +141,8 @@ pub fn verdicts(case: &Case, performed: &Performed, variant: Variant, rules: Rul
     all
 }
 
-fn verdict(call: &Call, rules: Rules, seen: &Seen, left: &Left) -> Verdict {
+/// The comparison, with the addresses that the Rust wraps set apart.
+pub fn verdict(call: &Call, rules: Rules, seen: &Seen, left: &Left) -> Verdict {
     if !rules.counted && matches!(left.answer, Answer::Builtin(_)) {
         return Verdict::LeftOut(Class::HandedOver);
     }
@@ -173,16 +174,42 @@ pub fn unchanged(case: &Case, performed: &Performed) -> Verdicts {
     )
 }
 
-/// The named differences without whose change the verdicts are others.
-pub fn causes(case: &Case, performed: &Performed, with_all: &Verdicts) -> Vec<Switch> {
-    let named = [Switch::Arguments, Switch::Return, Switch::NotV, Switch::NaN];
-    let needed = |&&off: &&Switch| {
-        let on: Vec<Switch> = switches::ALL.into_iter().filter(|&s| s != off).collect();
-        switches::set(&on);
-        let rules = rules(Variant::Changed, off == Switch::NaN);
+/// The named differences without whose change the verdicts are others; where it takes several at once, the fewest that do.
+pub fn causes(case: &Case, performed: &Performed, with_all: &Verdicts) -> Option<String> {
+    explained_by(|on, nan_as_nan| {
+        switches::set(on);
+        let rules = rules(Variant::Changed, nan_as_nan);
         verdicts(case, performed, Variant::Changed, rules) != *with_all
+    })
+}
+
+/// Tries the sets of named differences, smaller ones first. `differs` says whether something is another with these switches on.
+pub fn explained_by(differs: impl Fn(&[Switch], bool) -> bool) -> Option<String> {
+    let named = [Switch::Arguments, Switch::Return, Switch::NotV, Switch::NaN];
+    let needed = |off: &Vec<Switch>| {
+        let on: Vec<Switch> = (switches::ALL.into_iter())
+            .filter(|s| !off.contains(s))
+            .collect();
+        differs(&on, off.contains(&Switch::NaN))
     };
-    named.iter().filter(needed).copied().collect()
+    let mut subsets: Vec<Vec<Switch>> = (1..16_u32)
+        .map(|bits| (0..4).filter(move |i| bits >> i & 1 == 1))
+        .map(|members| members.map(|i| named[i]).collect())
+        .collect();
+    subsets.sort_by_key(Vec::len);
+    let names = |set: &Vec<Switch>, joined: &str| {
+        let names: Vec<String> = set.iter().map(|s| format!("{:?}", s)).collect();
+        names.join(joined)
+    };
+    let (alone, together) = subsets.split_at(named.len());
+    let alone: Vec<Switch> = (alone.iter().filter(|off| needed(off)))
+        .map(|off| off[0])
+        .collect();
+    if !alone.is_empty() {
+        return Some(names(&alone, " and "));
+    }
+    let together = together.iter().find(|off| needed(off))?;
+    Some(names(together, " only together with "))
 }
 
 /// With all switches off the changed Rust is the unchanged one: whether it gives the same verdicts.
