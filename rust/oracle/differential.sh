@@ -44,7 +44,8 @@ for build in release debug; do
     run="${CARGO_TARGET_DIR:-target}/$build/differential"
     rules=
     [ -d ../../tests/rules ] && rules="folder ../../tests/rules"
-    for what in "facts" "story" "altered $((programs / 10))" "functions $programs" "programs $programs" "$rules"; do
+    for what in "facts" "story" "altered $((programs / 10))" "functions $programs" "programs $programs" \
+        "cases ../../tests/model/cases/files.txt" "$rules"; do
         [ -n "$what" ] || continue
         echo
         echo "== $build build: $what =="

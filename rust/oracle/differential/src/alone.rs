@@ -11,34 +11,14 @@ use crate::report::{grouped, Counts, Tally};
 use crate::runs;
 use changed::switches::{self, Switch};
 
-const RULES: Rules = Rules {
-    nan_as_nan: false,
-    entries_ended: 0,
-    ended_adds: false,
-    call_frames: false,
-    counted: false,
-    all_arguments: true,
-};
-const UNCHANGED: Rules = Rules {
-    nan_as_nan: true,
-    all_arguments: false,
-    ..RULES
-};
+const RULES: Rules =
+    Rules { nan_as_nan: false, entries_ended: 0, ended_adds: false, call_frames: false, counted: false, all_arguments: true };
+const UNCHANGED: Rules = Rules { nan_as_nan: true, all_arguments: false, ..RULES };
 
 pub fn run(seed: u64, count: u64) -> bool {
     let mut functions = [
-        (
-            "load, of damaged files",
-            Totals::default(),
-            load as Step,
-            count,
-        ),
-        (
-            "the op_ functions and op_return",
-            Totals::default(),
-            statement as Step,
-            count,
-        ),
+        ("load, of damaged files", Totals::default(), load as Step, count),
+        ("the op_ functions and op_return", Totals::default(), statement as Step, count),
         (
             "enter_function and leave_function",
             Totals::default(),
@@ -55,9 +35,7 @@ pub fn run(seed: u64, count: u64) -> bool {
         }
         println!("{} cases of {}", grouped(*count), name);
         totals.unchanged.print("richter unchanged");
-        totals
-            .changed
-            .print("richter with the named differences changed, NaN canonical");
+        totals.changed.print("richter with the named differences changed, NaN canonical");
         if totals.opcodes.total() > 0 {
             totals.opcodes.print_range("opcodes");
         }
@@ -92,12 +70,7 @@ impl Doing<'_> {
         if !self.position {
             seen.observed.pc = left.position as usize;
         }
-        let call = Call {
-            view: View(self.bytes),
-            entered: self.entered,
-            entry_only: self.entered.is_some(),
-            statement: self.statement,
-        };
+        let call = Call { view: View(self.bytes), entered: self.entered, entry_only: self.entered.is_some(), statement: self.statement };
         let verdict = runs::verdict(&call, rules, &seen, left);
         (verdict, seen.end == End::Done)
     }
@@ -105,11 +78,7 @@ impl Doing<'_> {
 
 /// A load on its own.
 fn load(totals: &mut Totals, r: &mut Random, number: u64) {
-    let case = Case {
-        kind: Kind::Damaged,
-        bytes: generate::damaged(r),
-        calls: Vec::new(),
-    };
+    let case = Case { kind: Kind::Damaged, bytes: generate::damaged(r), calls: Vec::new() };
     if runs::reserves_too_much(&case.bytes) {
         (totals.unchanged.left_out).add("the Rust would reserve memory for over 1,048,576 records");
         return;
@@ -120,85 +89,68 @@ fn load(totals: &mut Totals, r: &mut Random, number: u64) {
         Err(number) => Answer::Refused(*number),
     };
     let unchanged = runs::unchanged(&case, &performed);
-    report(
-        &mut totals.unchanged,
-        &unchanged[0],
-        answer,
-        number,
-        "load, unchanged",
-    );
+    report(&mut totals.unchanged, &unchanged[0], answer, number, "load, unchanged");
     let changed = runs::changed(&case, &performed);
-    report(
-        &mut totals.changed,
-        &changed[0],
-        answer,
-        number,
-        "load, changed",
-    );
+    report(&mut totals.changed, &changed[0], answer, number, "load, changed");
 }
 
-/// A statement on its own, half of them within function 1.
-fn statement(totals: &mut Totals, r: &mut Random, number: u64) {
-    let program = generate::one_statement(r);
-    let bytes = program.bytes();
-    let entered = r.percent(50);
-    let statement = program.statements[0];
-    totals.opcodes.add(format!("{:>2}", statement[0]));
-    let mut ours = Ours::load(&bytes).expect("a whole file");
-    if entered {
-        ours.enter(1);
-    }
-    let left = ours.statement();
-    let doing = Doing {
-        bytes: &bytes,
-        entered: None,
-        statement: Some(statement),
-        rust: &|level| level.op(statement),
-        position: statement[0] == 43,
-    };
-    let on = |variant, rules| {
-        let mut level = oracle::load_whole(variant, &bytes);
+/// A statement on its own, half of them within function 1, and what this machine did with it.
+struct Single {
+    bytes: Vec<u8>,
+    statement: [i16; 4],
+    entered: bool,
+    left: Left,
+}
+
+impl Single {
+    fn new(r: &mut Random) -> Single {
+        let program = generate::one_statement(r);
+        let bytes = program.bytes();
+        let entered = r.percent(50);
+        let mut ours = Ours::load(&bytes).expect("a whole file");
         if entered {
+            ours.enter(1);
+        }
+        let left = ours.statement();
+        Single { bytes, statement: program.statements[0], entered, left }
+    }
+
+    fn verdict(&self, variant: Variant, rules: Rules) -> Verdict {
+        let mut level = oracle::load_whole(variant, &self.bytes);
+        if self.entered {
             level.enter_function(1).expect("function 1");
         }
-        doing.verdict(&mut *level, rules, &left).0
-    };
-    let answer = left.answer;
-    let changed = |switches: &[Switch], rules| {
-        switches::set(switches);
-        on(Variant::Changed, rules)
-    };
-    let with_all = changed(&switches::ALL, RULES);
-    report(
-        &mut totals.changed,
-        &with_all,
-        answer,
-        number,
-        "op, changed",
-    );
-    let unchanged = on(Variant::Unchanged, UNCHANGED);
-    let explained = match (&unchanged, &with_all) {
+        let doing = Doing {
+            bytes: &self.bytes,
+            entered: None,
+            statement: Some(self.statement),
+            rust: &|level| level.op(self.statement),
+            position: self.statement[0] == 43,
+        };
+        doing.verdict(&mut *level, rules, &self.left).0
+    }
+
+    fn changed(&self, on: &[Switch], nan_as_nan: bool) -> Verdict {
+        switches::set(on);
+        self.verdict(Variant::Changed, Rules { nan_as_nan, ..RULES })
+    }
+}
+
+fn statement(totals: &mut Totals, r: &mut Random, number: u64) {
+    let single = Single::new(r);
+    let answer = single.left.answer;
+    totals.opcodes.add(format!("{:>2}", single.statement[0]));
+    let changed = single.changed(&switches::ALL, false);
+    report(&mut totals.changed, &changed, answer, number, "op, changed");
+    let unchanged = single.verdict(Variant::Unchanged, UNCHANGED);
+    let explained = match (&unchanged, &changed) {
         (_, Verdict::Differs(_)) => None,
-        (Verdict::Differs(_), _) => runs::explained_by(|switches, nan_as_nan| {
-            changed(
-                switches,
-                Rules {
-                    nan_as_nan,
-                    ..RULES
-                },
-            ) != with_all
-        }),
+        (Verdict::Differs(_), _) => runs::explained_by(|on, nan_as_nan| single.changed(on, nan_as_nan) != changed),
         _ => None,
     };
     match explained {
         Some(causes) => totals.unchanged.named.add(causes),
-        None => report(
-            &mut totals.unchanged,
-            &unchanged,
-            answer,
-            number,
-            "op, unchanged",
-        ),
+        None => report(&mut totals.unchanged, &unchanged, answer, number, "op, unchanged"),
     }
 }
 
@@ -214,26 +166,11 @@ fn entries(totals: &mut Totals, r: &mut Random, number: u64) {
     let program = generate::functions_alone(r);
     let list: Vec<Option<usize>> = entry_list(r, &program);
     switches::set(&switches::ALL);
-    list_of_entries(
-        &mut totals.changed,
-        &program,
-        &list,
-        Variant::Changed,
-        number,
-    );
+    list_of_entries(&mut totals.changed, &program, &list, Variant::Changed, number);
     if program.functions.iter().all(|f| f.components() <= 1) {
-        list_of_entries(
-            &mut totals.unchanged,
-            &program,
-            &list,
-            Variant::Unchanged,
-            number,
-        );
+        list_of_entries(&mut totals.unchanged, &program, &list, Variant::Unchanged, number);
     } else {
-        totals
-            .unchanged
-            .left_out
-            .add("argument copying: more than one cell (compared with the changed Rust)");
+        totals.unchanged.left_out.add("argument copying: more than one cell (compared with the changed Rust)");
     }
 }
 
@@ -249,13 +186,7 @@ fn entry_list(r: &mut Random, program: &Program) -> Vec<Option<usize>> {
         .collect()
 }
 
-fn list_of_entries(
-    tally: &mut Tally,
-    program: &Program,
-    list: &[Option<usize>],
-    variant: Variant,
-    number: u64,
-) {
+fn list_of_entries(tally: &mut Tally, program: &Program, list: &[Option<usize>], variant: Variant, number: u64) {
     let bytes = program.bytes();
     let mut ours = Ours::load(&bytes).expect("a whole file");
     let mut level = oracle::load_whole(variant, &bytes);
@@ -279,19 +210,9 @@ fn list_of_entries(
             },
             position: true,
         };
-        let rules = if variant == Variant::Changed {
-            RULES
-        } else {
-            UNCHANGED
-        };
+        let rules = if variant == Variant::Changed { RULES } else { UNCHANGED };
         let (verdict, done) = doing.verdict(&mut *level, rules, &left);
-        report(
-            tally,
-            &verdict,
-            left.answer,
-            number,
-            if what.is_some() { "enter" } else { "leave" },
-        );
+        report(tally, &verdict, left.answer, number, if what.is_some() { "enter" } else { "leave" });
         if !done || !matches!(verdict, Verdict::Same { .. }) {
             break;
         }

@@ -10,15 +10,7 @@ use crate::report::{grouped, Counts};
 use crate::runs;
 
 /// What is altered, by name.
-const ALTERATIONS: [&str; 7] = [
-    "answer",
-    "count of statements",
-    "position",
-    "function",
-    "depth",
-    "a cell",
-    "a cell past the file's count",
-];
+const ALTERATIONS: [&str; 7] = ["answer", "count of statements", "position", "function", "depth", "a cell", "a cell past the file's count"];
 
 fn alter(r: &mut Random, which: usize, left: &mut Left) {
     match which {
@@ -49,9 +41,7 @@ pub fn run(seed: u64, count: u64) -> bool {
         }
         let mut performed = runs::perform(&case);
         let ended = matches!(performed.calls.last(), Some(left) if left.answer == Answer::Ended);
-        if !ended
-            || runs::changed(&case, &performed).last() != Some(&Verdict::Same { traces: false })
-        {
+        if !ended || runs::changed(&case, &performed).last() != Some(&Verdict::Same { traces: false }) {
             continue;
         }
         let mut r = Random::new(seed ^ 0xa17e, number);
@@ -63,10 +53,7 @@ pub fn run(seed: u64, count: u64) -> bool {
             _ => missed.add(ALTERATIONS[which]),
         }
     }
-    println!(
-        "{} programs, results of this machine altered in one thing",
-        grouped(count)
-    );
+    println!("{} programs, results of this machine altered in one thing", grouped(count));
     found.print("found:");
     missed.print("missed:");
     found.total() > 0 && missed.total() == 0

@@ -124,9 +124,7 @@ impl Class {
             Class::TypeOver7 => "load: a definition's type is over 7",
             Class::NotUtf8 => "load: the strings aren't UTF-8",
             Class::NameWithoutZero => "a name without a zero byte after it is converted",
-            Class::NameNotAtCharacter => {
-                "a name that begins or ends within a character is converted"
-            }
+            Class::NameNotAtCharacter => "a name that begins or ends within a character is converted",
             Class::NoStatement => "no statement at the position",
             Class::CellEqualToCount => "a cell number equal to the count",
             Class::ArgumentCount => "argument count outside 0 to 8",
@@ -144,18 +142,14 @@ impl Class {
 
     /// Whether this machine may answer so where the Rust panics so.
     pub fn allows(self, answer: Answer) -> bool {
-        let refused =
-            |numbers: &[u32]| matches!(answer, Answer::Refused(n) if numbers.contains(&n));
+        let refused = |numbers: &[u32]| matches!(answer, Answer::Refused(n) if numbers.contains(&n));
         match self {
             Class::Version => refused(&[2, 1]),
             Class::CheckNumber => refused(&[3, 1]),
             Class::LumpEnds | Class::Capacity => refused(&[4, 1]),
             Class::TypeOver7 => refused(&[8, 4, 1]),
             // Strings are bytes here, and StoreFnc moves bits: whatever comes after gives the answer.
-            Class::NotUtf8
-            | Class::NameWithoutZero
-            | Class::NameNotAtCharacter
-            | Class::NegativeFunction => true,
+            Class::NotUtf8 | Class::NameWithoutZero | Class::NameNotAtCharacter | Class::NegativeFunction => true,
             Class::NoStatement => refused(&[14]),
             // An entry of the Rust stops at a cell; here a wrong count of arguments or locals is found before.
             Class::CellEqualToCount => refused(&[15, 23, 24]),
@@ -176,20 +170,14 @@ const PROGS: &str = include_str!("../../richter/src/server/progs/mod.rs");
 
 /// The lines of `progs/mod.rs` that have a text. In the changed copy those of a load are the same, the later ones a few further.
 fn lines_with(text: &str) -> Vec<u32> {
-    (PROGS.lines().enumerate())
-        .filter(|(_, line)| line.contains(text))
-        .map(|(i, _)| i as u32 + 1)
-        .collect()
+    (PROGS.lines().enumerate()).filter(|(_, line)| line.contains(text)).map(|(i, _)| i as u32 + 1).collect()
 }
 
 /// Where a load unwraps a type.
 static LOAD_LINES: LazyLock<Vec<u32>> = LazyLock::new(|| lines_with("Type::from_u16("));
 /// A statement is fetched after this line; arguments are copied well before it.
-static LOAD_STATEMENT: LazyLock<u32> =
-    LazyLock::new(|| lines_with("pub fn load_statement(&self)")[0]);
+static LOAD_STATEMENT: LazyLock<u32> = LazyLock::new(|| lines_with("pub fn load_statement(&self)")[0]);
 
 fn line_of(place: &str) -> u32 {
-    (place.rsplit(':').next())
-        .and_then(|line| line.parse().ok())
-        .unwrap_or(0)
+    (place.rsplit(':').next()).and_then(|line| line.parse().ok()).unwrap_or(0)
 }

@@ -51,9 +51,7 @@ pub struct Call<'a> {
 
 pub fn compare(call: &Call, rules: Rules, rust: &Seen, ours: &Left) -> Verdict {
     if !ours.rest_untouched {
-        return Verdict::Differs(
-            "a cell, a frame or a saved cell that isn't the program's was written".into(),
-        );
+        return Verdict::Differs("a cell, a frame or a saved cell that isn't the program's was written".into());
     }
     if let Some(at) = rust.builtin_at {
         return handed_over(rules, at, ours);
@@ -67,16 +65,10 @@ pub fn compare(call: &Call, rules: Rules, rust: &Seen, ours: &Left) -> Verdict {
                 Class::HandedOver => handed_over(rules, rust.fetched, ours),
                 Class::Runaway => runaway(rules, rust, ours),
                 _ if class.allows(ours.answer) => left_out(class, rules, rust, ours),
-                Class::CellEqualToCount
-                    if ours.answer == Answer::Refused(17)
-                        && Failing::of(call, ours).is_store_s() =>
-                {
+                Class::CellEqualToCount if ours.answer == Answer::Refused(17) && Failing::of(call, ours).is_store_s() => {
                     left_out(class, rules, rust, ours)
                 }
-                _ => differs(format!(
-                    "{} where the Rust panics: {:?}",
-                    ours.answer, panic
-                )),
+                _ => differs(format!("{} where the Rust panics: {:?}", ours.answer, panic)),
             }
         }
     }
@@ -91,40 +83,27 @@ fn handed_over(rules: Rules, fetched: u64, ours: &Left) -> Verdict {
         return differs(format!("{} where the Rust goes to the host", ours.answer));
     }
     if rules.counted && ours.count + 1 != fetched {
-        return differs(format!(
-            "{} statements before a hand-over, the Rust {}",
-            ours.count,
-            fetched - 1
-        ));
+        return differs(format!("{} statements before a hand-over, the Rust {}", ours.count, fetched - 1));
     }
     Verdict::LeftOut(Class::HandedOver)
 }
 
 /// A panic: the same number of statements was completed, where the Rust got that far and this machine stopped there.
 fn left_out(class: Class, rules: Rules, rust: &Seen, ours: &Left) -> Verdict {
-    let goes_on = matches!(
-        class,
-        Class::NameWithoutZero | Class::NameNotAtCharacter | Class::NegativeFunction
-    );
+    let goes_on = matches!(class, Class::NameWithoutZero | Class::NameNotAtCharacter | Class::NegativeFunction);
     let completed = match class {
         Class::NoStatement => rust.fetched,
         _ => rust.fetched.saturating_sub(1),
     };
     if rules.counted && !goes_on && completed != ours.count {
-        return differs(format!(
-            "{} statements, the Rust {} and a panic",
-            ours.count, completed
-        ));
+        return differs(format!("{} statements, the Rust {} and a panic", ours.count, completed));
     }
     Verdict::LeftOut(class)
 }
 
 fn runaway(rules: Rules, rust: &Seen, ours: &Left) -> Verdict {
     if ours.answer != Answer::Spent || ours.count != 99_999 {
-        return differs(format!(
-            "{} after {} where the Rust runs away",
-            ours.answer, ours.count
-        ));
+        return differs(format!("{} after {} where the Rust runs away", ours.answer, ours.count));
     }
     match state(rules, &rust.observed, ours, false).or_else(|| cells(rules, rust, ours, &[])) {
         Some(text) => differs(text),
@@ -137,10 +116,7 @@ fn done(rules: Rules, rust: &Seen, ours: &Left) -> Verdict {
         return differs(format!("{} where the Rust ends", ours.answer));
     }
     if rules.counted && rust.fetched != ours.count {
-        return differs(format!(
-            "{} statements, the Rust {}",
-            ours.count, rust.fetched
-        ));
+        return differs(format!("{} statements, the Rust {}", ours.count, rust.fetched));
     }
     let mut rules = rules;
     rules.entries_ended += rules.ended_adds as i64;
@@ -152,25 +128,17 @@ fn done(rules: Rules, rust: &Seen, ours: &Left) -> Verdict {
 
 fn error(call: &Call, rules: Rules, rust: &Seen, ours: &Left, text: &str) -> Verdict {
     let Answer::Refused(number) = ours.answer else {
-        return differs(format!(
-            "{} where the Rust ends with the error {}",
-            ours.answer, text
-        ));
+        return differs(format!("{} where the Rust ends with the error {}", ours.answer, text));
     };
     let Some(rusts) = number_of(text) else {
         return differs(format!("an error without a number: {}", text));
     };
     if rules.counted && ours.count != rust.fetched.saturating_sub(1) {
-        return differs(format!(
-            "{} statements, the Rust {}",
-            ours.count,
-            rust.fetched.saturating_sub(1)
-        ));
+        return differs(format!("{} statements, the Rust {}", ours.count, rust.fetched.saturating_sub(1)));
     }
     let failing = Failing::of(call, ours);
     let traces = failing.cells(rules, rusts);
-    let found = state(rules, &rust.observed, ours, failing.is_entry())
-        .or_else(|| cells(rules, rust, ours, &traces));
+    let found = state(rules, &rust.observed, ours, failing.is_entry()).or_else(|| cells(rules, rust, ours, &traces));
     if let Some(text) = found {
         return differs(text);
     }
@@ -182,17 +150,11 @@ fn error(call: &Call, rules: Rules, rust: &Seen, ours: &Left, text: &str) -> Ver
             (15 | 16, 17) if failing.is_store_s() => Verdict::OtherNumber(rusts, 17),
             // A negative local count and the saved cells add up to a small number in the release build.
             (15, 23) if failing.has_negative_locals() => Verdict::OtherNumber(15, 23),
-            _ => differs(format!(
-                "refused {}, the Rust's error stands for {}",
-                number, rusts
-            )),
+            _ => differs(format!("refused {}, the Rust's error stands for {}", number, rusts)),
         };
     }
-    let strays = rust.observed.frames.len() != ours.depth
-        || rust.observed.local_stack.len() != ours.saved.len();
-    Verdict::Same {
-        traces: strays || cells(rules, rust, ours, &[]).is_some(),
-    }
+    let strays = rust.observed.frames.len() != ours.depth || rust.observed.local_stack.len() != ours.saved.len();
+    Verdict::Same { traces: strays || cells(rules, rust, ours, &[]).is_some() }
 }
 
 /// What failed where the Rust ended with an error.
@@ -206,9 +168,7 @@ impl Failing {
         if let (Some(function), true) = (call.entered, call.entry_only || ours.depth == 0) {
             return Failing::Entry(call.view.function(function));
         }
-        let statement = call
-            .statement
-            .or_else(|| call.view.statement(ours.position));
+        let statement = call.statement.or_else(|| call.view.statement(ours.position));
         match statement {
             Some([51..=59, a, _, _]) => {
                 let number = ours.cells.get(a as usize).copied().unwrap_or(0);
@@ -237,14 +197,8 @@ impl Failing {
         match *self {
             // Arguments are copied last, and a missing cell is all that can go wrong then.
             Failing::Entry(Some(ref f)) if rusts == 15 => {
-                let cells = if rules.all_arguments {
-                    f.components()
-                } else {
-                    1
-                };
-                (0..cells)
-                    .map(|i| (f.local as usize).wrapping_add(i) as i16 as usize)
-                    .collect()
+                let cells = if rules.all_arguments { f.components() } else { 1 };
+                (0..cells).map(|i| (f.local as usize).wrapping_add(i) as i16 as usize).collect()
             }
             Failing::Statement([3 | 4 | 7 | 9 | 45, _, _, c]) => three(c),
             Failing::Statement([32, _, b, _]) => three(b),
@@ -259,16 +213,10 @@ fn state(rules: Rules, rust: &Observed, ours: &Left, strays: bool) -> Option<Str
     let further = |lowest: bool| if lowest { rules.entries_ended } else { 0 };
     let pc = rust.pc as i64 - further(ours.depth == 0);
     if pc != ours.position {
-        return Some(format!(
-            "position {}, the Rust's {}",
-            ours.position, rust.pc
-        ));
+        return Some(format!("position {}, the Rust's {}", ours.position, rust.pc));
     }
     if rust.function != ours.function {
-        return Some(format!(
-            "function {}, the Rust's {}",
-            ours.function, rust.function
-        ));
+        return Some(format!("function {}, the Rust's {}", ours.function, rust.function));
     }
     let frames: Vec<(i64, usize)> = (rust.frames.iter().enumerate())
         .map(|(i, &(pc, f))| {
@@ -278,10 +226,7 @@ fn state(rules: Rules, rust: &Observed, ours: &Left, strays: bool) -> Option<Str
         .collect();
     let many = frames.len() == ours.depth || (strays && frames.len() == ours.depth + 1);
     if !many || frames[..ours.depth] != ours.frames[..] {
-        return Some(format!(
-            "frames {:?}, the Rust's {:?}",
-            ours.frames, rust.frames
-        ));
+        return Some(format!("frames {:?}, the Rust's {:?}", ours.frames, rust.frames));
     }
     let saved = &rust.local_stack;
     let many = saved.len() == ours.saved.len() || (strays && saved.len() > ours.saved.len());
@@ -298,21 +243,12 @@ fn same_cell(rules: Rules, a: u32, b: u32) -> bool {
 
 fn cells(rules: Rules, rust: &Seen, ours: &Left, excepted: &[usize]) -> Option<String> {
     if rust.cells.len() != ours.cells.len() {
-        return Some(format!(
-            "{} cells, the Rust {}",
-            ours.cells.len(),
-            rust.cells.len()
-        ));
+        return Some(format!("{} cells, the Rust {}", ours.cells.len(), rust.cells.len()));
     }
     (0..ours.cells.len())
         .filter(|i| !excepted.contains(i))
         .find(|&i| !same_cell(rules, rust.cells[i], ours.cells[i]))
-        .map(|i| {
-            format!(
-                "cell {} {:08x}, the Rust's {:08x}",
-                i, ours.cells[i], rust.cells[i]
-            )
-        })
+        .map(|i| format!("cell {} {:08x}, the Rust's {:08x}", i, ours.cells[i], rust.cells[i]))
 }
 
 /// A load of both.
@@ -321,65 +257,36 @@ pub fn compare_load(view: &View, rust: Result<&Seen, &End>, ours: Result<&Left, 
         (Ok(rust), Ok(ours)) => done(LOADED, rust, ours),
         (Ok(_), Err(number)) => match taken_by_the_rust(view, number) {
             Some(name) => Verdict::ByDesign(name),
-            None => differs(format!(
-                "load refused {} where the Rust takes the file",
-                number
-            )),
+            None => differs(format!("load refused {} where the Rust takes the file", number)),
         },
         (Err(End::Error(text)), Err(number)) => match number_of(text) {
             Some(rusts) if rusts == number => Verdict::Same { traces: false },
             // The header is checked first here; the Rust finds a lump past the end where it reads it.
             Some(rusts) if matches!(number, 1 | 4) => Verdict::OtherNumber(rusts, number),
-            _ => differs(format!(
-                "load refused {}, the Rust's error: {}",
-                number, text
-            )),
+            _ => differs(format!("load refused {}, the Rust's error: {}", number, text)),
         },
-        (Err(End::Error(text)), Ok(_)) => {
-            differs(format!("load accepted, the Rust's error: {}", text))
-        }
+        (Err(End::Error(text)), Ok(_)) => differs(format!("load accepted, the Rust's error: {}", text)),
         (Err(End::Panic(panic)), ours) => {
             let answer = ours.map_or_else(Answer::Refused, |_| Answer::Completed);
             let class = Class::of(panic);
             match class.allows(answer) {
                 true => Verdict::LeftOut(class),
-                false => differs(format!(
-                    "load {} where the Rust panics: {:?}",
-                    answer, panic
-                )),
+                false => differs(format!("load {} where the Rust panics: {:?}", answer, panic)),
             }
         }
         (Err(End::Done), _) => unreachable!("a load that is done is loaded"),
     }
 }
 
-const LOADED: Rules = Rules {
-    nan_as_nan: false,
-    entries_ended: 0,
-    ended_adds: false,
-    call_frames: false,
-    counted: false,
-    all_arguments: false,
-};
+const LOADED: Rules =
+    Rules { nan_as_nan: false, entries_ended: 0, ended_adds: false, call_frames: false, counted: false, all_arguments: false };
 
 /// "the sizes and address ranges of the table hold also where the Rust takes more".
 fn taken_by_the_rust(view: &View, number: u32) -> Option<&'static str> {
-    const LUMPS: [Lump; 6] = [
-        Lump::Statements,
-        Lump::GlobalDefs,
-        Lump::FieldDefs,
-        Lump::Functions,
-        Lump::Strings,
-        Lump::Cells,
-    ];
+    const LUMPS: [Lump; 6] = [Lump::Statements, Lump::GlobalDefs, Lump::FieldDefs, Lump::Functions, Lump::Strings, Lump::Cells];
     match number {
         1 if view.0.len() > 1_048_576 => Some("a file of more than 1,048,576 bytes"),
-        4 if LUMPS
-            .iter()
-            .any(|&l| view.count(l) == 0 && view.offset(l) < 0) =>
-        {
-            Some("an empty lump at a negative offset")
-        }
+        4 if LUMPS.iter().any(|&l| view.count(l) == 0 && view.offset(l) < 0) => Some("an empty lump at a negative offset"),
         10 if view.cells() > 32_768 => Some("more than 32,768 cells"),
         11 if view.entity_cells() < 0 => Some("negative cells per entity"),
         _ => None,

@@ -36,13 +36,7 @@ pub fn case(seed: u64, number: u64) -> Case {
         Kind::Boundary => boundary(r).bytes(),
         Kind::Damaged => damaged(r),
     };
-    let calls = if r.percent(70) {
-        vec![1]
-    } else {
-        (0..r.between(1, 3))
-            .map(|_| r.pick(&[1, 1, 2, 0, 3, 9]))
-            .collect()
-    };
+    let calls = if r.percent(70) { vec![1] } else { (0..r.between(1, 3)).map(|_| r.pick(&[1, 1, 2, 0, 3, 9])).collect() };
     Case { kind, bytes, calls }
 }
 
@@ -71,14 +65,7 @@ const FLOATS: [u32; 20] = [
     0x501502f9,  // 1e10
     0x42c80000,  // 100
 ];
-const NOT_FINITE: [u32; 6] = [
-    0x7f80_0000,
-    0xff80_0000,
-    0x7fc0_0000,
-    0xffc0_0000,
-    0x7fa0_0001,
-    0xffff_ffff,
-];
+const NOT_FINITE: [u32; 6] = [0x7f80_0000, 0xff80_0000, 0x7fc0_0000, 0xffc0_0000, 0x7fa0_0001, 0xffff_ffff];
 
 /// What a program is like.
 struct Style {
@@ -111,19 +98,8 @@ enum Arguments {
 fn style(r: &mut Random) -> Style {
     Style {
         infinities: r.percent(30),
-        returns: r.pick(&[
-            Returns::InARow,
-            Returns::InARow,
-            Returns::FirstAlone,
-            Returns::FirstAlone,
-            Returns::Any,
-        ]),
-        arguments: r.pick(&[
-            Arguments::None,
-            Arguments::None,
-            Arguments::One,
-            Arguments::Many,
-        ]),
+        returns: r.pick(&[Returns::InARow, Returns::InARow, Returns::FirstAlone, Returns::FirstAlone, Returns::Any]),
+        arguments: r.pick(&[Arguments::None, Arguments::None, Arguments::One, Arguments::Many]),
         not_v: r.percent(40),
         careless: r.pick(&[0, 0, 1, 3, 15]),
         handed_over: r.percent(10),
@@ -161,16 +137,10 @@ impl Cells {
     fn new(r: &mut Random, program: &mut Program, functions: usize, style: &Style) -> Cells {
         let count = program.cells.len();
         let share = r.pick(&[0, 0, 20, 60, 95]);
-        let mut cells = Cells {
-            types: vec![UNTYPED; count],
-            uses: vec![FLOAT; count],
-        };
+        let mut cells = Cells { types: vec![UNTYPED; count], uses: vec![FLOAT; count] };
         let mut cell = 28;
         while cell < count {
-            let type_ = r.pick(&[
-                FLOAT, FLOAT, FLOAT, FLOAT, VECTOR, VECTOR, STRING, ENTITY, FIELD, FUNCTION,
-                FUNCTION,
-            ]);
+            let type_ = r.pick(&[FLOAT, FLOAT, FLOAT, FLOAT, VECTOR, VECTOR, STRING, ENTITY, FIELD, FUNCTION, FUNCTION]);
             let width = if type_ == VECTOR { 3 } else { 1 };
             cells.uses[cell] = type_;
             if r.percent(share) {
@@ -183,9 +153,7 @@ impl Cells {
         }
         if r.percent(5) {
             let name = 0;
-            program
-                .globaldefs
-                .push((r.below(8) as u16, r.below(count + 4) as u16, name));
+            program.globaldefs.push((r.below(8) as u16, r.below(count + 4) as u16, name));
         }
         cells
     }
@@ -219,17 +187,12 @@ impl Cells {
     fn operand(&self, r: &mut Random, want: u16, style: &Style) -> i16 {
         let count = self.types.len();
         if r.percent(style.careless) {
-            return if r.percent(50) {
-                r.below(count) as i16
-            } else {
-                edge(r, count)
-            };
+            return if r.percent(50) { r.below(count) as i16 } else { edge(r, count) };
         }
         let width = if want == VECTOR { 3 } else { 1 };
         for _ in 0..if want == FUNCTION { 60 } else { 12 } {
             let cell = r.below(count - width + 1);
-            let fits =
-                (0..width).all(|i| self.fits(cell + i, if want == VECTOR { FLOAT } else { want }));
+            let fits = (0..width).all(|i| self.fits(cell + i, if want == VECTOR { FLOAT } else { want }));
             if fits && (want == FLOAT || want == VECTOR || self.uses[cell] == want) {
                 return cell as i16;
             }
@@ -336,11 +299,7 @@ impl Maker<'_> {
     }
 
     fn calculation(&mut self) -> [i16; 4] {
-        let shape = if self.style.not_v && self.r.percent(8) {
-            NOT_V
-        } else {
-            self.r.pick(&SHAPES)
-        };
+        let shape = if self.style.not_v && self.r.percent(8) { NOT_V } else { self.r.pick(&SHAPES) };
         let (opcode, [a, b, c]) = shape;
         [opcode, self.operand(a), self.operand(b), self.operand(c)]
     }
@@ -380,15 +339,8 @@ impl Maker<'_> {
     }
 
     fn handed_over(&mut self) -> [i16; 4] {
-        let opcode = self
-            .r
-            .pick(&[24, 25, 26, 27, 28, 29, 30, 37, 38, 39, 40, 41, 42, 60]);
-        [
-            opcode,
-            self.operand(ENTITY),
-            self.operand(FIELD),
-            self.operand(FLOAT),
-        ]
+        let opcode = self.r.pick(&[24, 25, 26, 27, 28, 29, 30, 37, 38, 39, 40, 41, 42, 60]);
+        [opcode, self.operand(ENTITY), self.operand(FIELD), self.operand(FLOAT)]
     }
 
     fn statement(&mut self) -> [i16; 4] {
@@ -415,9 +367,7 @@ impl Maker<'_> {
             program.statements.push(statement);
         }
         program.statements.push([8, counter, one, counter]);
-        program
-            .statements
-            .push([49, counter, -(inner as i16) - 1, 0]);
+        program.statements.push([49, counter, -(inner as i16) - 1, 0]);
     }
 
     fn body(&mut self, program: &mut Program) {
@@ -471,19 +421,12 @@ fn whole(r: &mut Random) -> Program {
     let mut program = Program::new(r.pick(&[36, 40, 64, 64, 64, 100, 180]));
     program.strings = b"\0main\0".to_vec();
     if r.percent(3) {
-        program.strings = r
-            .pick(&[&b"\0main"[..], &b"\0m\xc3\xa9in\0"[..], &b"\0m\xffin\0"[..]])
-            .to_vec();
+        program.strings = r.pick(&[&b"\0main"[..], &b"\0m\xc3\xa9in\0"[..], &b"\0m\xffin\0"[..]]).to_vec();
     }
     let functions = r.between(2, 6) as usize;
     let style = style(r);
     let cells = Cells::new(r, &mut program, functions, &style);
-    let mut maker = Maker {
-        r,
-        style,
-        cells,
-        functions,
-    };
+    let mut maker = Maker { r, style, cells, functions };
     for _ in 1..maker.functions {
         maker.function(&mut program);
     }
@@ -493,9 +436,7 @@ fn whole(r: &mut Random) -> Program {
     }
     if maker.r.percent(10) {
         let flag = if maker.r.percent(10) { 0x8000 } else { 0 };
-        program
-            .fielddefs
-            .push((maker.r.below(8) as u16 | flag, 0, 0));
+        program.fielddefs.push((maker.r.below(8) as u16 | flag, 0, 0));
     }
     program
 }
@@ -515,10 +456,7 @@ fn boundary(r: &mut Random) -> Program {
 
 fn few_cells(r: &mut Random) -> Program {
     let mut program = Program::new(r.pick(&[36, 37, 64]));
-    let plain = Style {
-        infinities: true,
-        ..style(r)
-    };
+    let plain = Style { infinities: true, ..style(r) };
     for cell in 0..program.cells.len() {
         program.cells[cell] = float(r, &plain);
         if r.percent(30) {
@@ -529,11 +467,7 @@ fn few_cells(r: &mut Random) -> Program {
         let cell = r.below(program.cells.len() + 3) as u16;
         program.globaldefs.push((r.below(8) as u16, cell, 0));
     }
-    program.functions.push(Function {
-        first: 1,
-        local: 30,
-        ..Function::default()
-    });
+    program.functions.push(Function { first: 1, local: 30, ..Function::default() });
     program
 }
 
@@ -570,23 +504,7 @@ fn statements_at_edges(r: &mut Random) -> Program {
 fn entry_at_edges(r: &mut Random) -> Program {
     let mut program = few_cells(r);
     let count = program.cells.len() as i64;
-    let local = r.pick(&[
-        0,
-        1,
-        4,
-        5,
-        28,
-        30,
-        count - 3,
-        count - 1,
-        count,
-        count + 1,
-        -1,
-        -4,
-        32_767,
-        65_536 + 30,
-        1 << 30,
-    ]);
+    let local = r.pick(&[0, 1, 4, 5, 28, 30, count - 3, count - 1, count, count + 1, -1, -4, 32_767, 65_536 + 30, 1 << 30]);
     let locals = r.pick(&[0, 0, 1, 2, 3, 5, 30, 36, 37, 2_048, 2_049, -1, 1 << 30]);
     program.functions[1].local = local as i32;
     program.functions[1].locals = locals;
@@ -594,15 +512,10 @@ fn entry_at_edges(r: &mut Random) -> Program {
     for size in &mut program.functions[1].sizes {
         *size = r.pick(&[0, 1, 1, 2, 3, 3, 3, 200]);
     }
-    program.functions.push(Function {
-        first: 2,
-        ..Function::default()
-    });
+    program.functions.push(Function { first: 2, ..Function::default() });
     program.cells[29] = 1;
     // Function 2 calls function 1.
-    program
-        .statements
-        .extend([[0, 0, 0, 0], [51, 29, 0, 0], [6, 28, 31, 32], [0, 0, 0, 0]]);
+    program.statements.extend([[0, 0, 0, 0], [51, 29, 0, 0], [6, 28, 31, 32], [0, 0, 0, 0]]);
     program
 }
 
@@ -613,19 +526,8 @@ fn recursion(r: &mut Random) -> Program {
     program.cells[30] = (r.pick(&[3, 29, 30, 31, 32, 100]) as f32).to_bits();
     program.cells[31] = 1.0_f32.to_bits();
     program.cells[32] = 1;
-    program.functions.push(Function {
-        first: 1,
-        local: 40,
-        locals,
-        ..Function::default()
-    });
-    program.statements.extend([
-        [6, 40, 31, 40],
-        [8, 30, 31, 30],
-        [50, 30, 2, 0],
-        [51, 32, 0, 0],
-        [43, 40, 41, 42],
-    ]);
+    program.functions.push(Function { first: 1, local: 40, locals, ..Function::default() });
+    program.statements.extend([[6, 40, 31, 40], [8, 30, 31, 30], [50, 30, 2, 0], [51, 32, 0, 0], [43, 40, 41, 42]]);
     program
 }
 
@@ -633,21 +535,14 @@ fn recursion(r: &mut Random) -> Program {
 fn endless(r: &mut Random) -> Program {
     let mut program = Program::new(64);
     program.cells[28] = 1.0_f32.to_bits();
-    program.functions.push(Function {
-        first: 1,
-        ..Function::default()
-    });
+    program.functions.push(Function { first: 1, ..Function::default() });
     if r.percent(90) {
         // Ends: two statements for each count, and the Done.
         program.cells[29] = (r.between(1, 400) as f32).to_bits();
-        program
-            .statements
-            .extend([[8, 29, 28, 29], [49, 29, -1, 0], [0, 0, 0, 0]]);
+        program.statements.extend([[8, 29, 28, 29], [49, 29, -1, 0], [0, 0, 0, 0]]);
     } else {
         program.cells[29] = (r.between(49_997, 50_001) as f32).to_bits();
-        program
-            .statements
-            .extend([[8, 29, 28, 29], [49, 29, -1, 0], [0, 0, 0, 0]]);
+        program.statements.extend([[8, 29, 28, 29], [49, 29, -1, 0], [0, 0, 0, 0]]);
     }
     program
 }
@@ -657,9 +552,7 @@ fn branches_out(r: &mut Random) -> Program {
     let mut program = few_cells(r);
     let by = r.pick(&[-3, -2, -1, 0, 1, 2, 3, 4, 32_767, -32_768]);
     program.functions[1].first = r.pick(&[0, 1, 2, 3, 4, 100, i32::MAX]);
-    program
-        .statements
-        .extend([[61, by, 0, 0], [49, 28, by, 0], [50, 28, by, 0]]);
+    program.statements.extend([[61, by, 0, 0], [49, 28, by, 0], [50, 28, by, 0]]);
     program
 }
 
@@ -668,12 +561,8 @@ fn sizes_at_edges(r: &mut Random) -> Program {
     let mut program = few_cells(r);
     program.statements.push([0, 0, 0, 0]);
     match r.below(40) {
-        0 => program
-            .cells
-            .resize(r.pick(&[32_767, 32_768, 32_769, 40_000]), 0),
-        1 => program
-            .strings
-            .resize(1_048_576 - r.pick(&[500, 501, 600, 700]), 0),
+        0 => program.cells.resize(r.pick(&[32_767, 32_768, 32_769, 40_000]), 0),
+        1 => program.strings.resize(1_048_576 - r.pick(&[500, 501, 600, 700]), 0),
         2 => {
             let more = 1_048_576 - program.bytes().len() + r.pick(&[0, 1, 2]);
             program.strings.resize(1 + more - r.pick(&[0, 1]), 0);
@@ -688,11 +577,7 @@ fn sizes_at_edges(r: &mut Random) -> Program {
 // ---- damaged
 
 pub fn damaged(r: &mut Random) -> Vec<u8> {
-    let mut bytes = if r.percent(60) {
-        whole(r).bytes()
-    } else {
-        boundary(r).bytes()
-    };
+    let mut bytes = if r.percent(60) { whole(r).bytes() } else { boundary(r).bytes() };
     for _ in 0..r.between(1, 3) {
         damage(r, &mut bytes);
     }
@@ -782,11 +667,9 @@ pub fn one_statement(r: &mut Random) -> Program {
         operands[1] = operands[0];
     }
     program.statements[0] = [opcode, operands[0], operands[1], operands[2]];
-    program.functions.push(Function {
-        local: 30,
-        locals: r.pick(&[0, 1, 4]),
-        ..Function::default()
-    });
+    // A Return at depth 0 leaves function 0.
+    program.functions[0].locals = r.percent(20) as i32;
+    program.functions.push(Function { local: 30, locals: r.pick(&[0, 1, 4]), ..Function::default() });
     program
 }
 
@@ -799,15 +682,9 @@ pub fn functions_alone(r: &mut Random) -> Program {
     }
     let kind = r.pick(&[Arguments::None, Arguments::One, Arguments::Many]);
     for _ in 0..r.between(1, 5) {
-        let locals = r
-            .pick(&[0, 1, 2, 5, 20, 66, 67, 250])
-            .min(count as i32 - 30);
-        let mut function = Function {
-            first: r.below(4) as i32,
-            local: r.between(0, count - 1 - locals as i64) as i32,
-            locals,
-            ..Function::default()
-        };
+        let locals = r.pick(&[0, 1, 2, 5, 20, 66, 67, 250]).min(count as i32 - 30);
+        let mut function =
+            Function { first: r.below(4) as i32, local: r.between(0, count - 1 - locals as i64) as i32, locals, ..Function::default() };
         arguments(r, kind, &mut function);
         if r.percent(5) {
             function.locals = r.pick(&[-1, 2_048, 2_049, 300]);

@@ -19,7 +19,7 @@ mod story;
 /// Decides all random programs.
 const SEED: u64 = 0x746f_7368_7765_6761;
 
-const USAGE: &str = "differential programs COUNT [FIRST] | functions COUNT | altered COUNT | story | facts | load FILE | sample FILE | show NUMBER | folder FOLDER | file FILE FUNCTION..";
+const USAGE: &str = "differential programs COUNT [FIRST] | functions COUNT | altered COUNT | story | facts | load FILE | sample FILE | show NUMBER | folder FOLDER | cases FILE | file FILE FUNCTION..";
 
 fn number(arguments: &[String], index: usize) -> Option<u64> {
     arguments.get(index).and_then(|text| text.parse().ok())
@@ -39,6 +39,7 @@ fn main() {
         ("sample", _) if arguments.len() == 2 => sample::write(SEED, &arguments[1]),
         ("show", Some(number)) => programs::show(&generate::case(SEED, number)),
         ("folder", _) if arguments.len() == 2 => programs::run_folder(&arguments[1]),
+        ("cases", _) if arguments.len() == 2 => programs::run_cases(&arguments[1]),
         ("file", _) if arguments.len() > 2 => programs::show_file(&arguments[1], &arguments[2..]),
         _ => {
             eprintln!("{}", USAGE);

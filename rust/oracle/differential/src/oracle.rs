@@ -112,8 +112,7 @@ macro_rules! level {
         }
 
         fn $load(bytes: &[u8]) -> Result<Box<dyn Level>, String> {
-            let progs =
-                $from::server::progs::load(Cursor::new(bytes)).map_err(|e| e.to_string())?;
+            let progs = $from::server::progs::load(Cursor::new(bytes)).map_err(|e| e.to_string())?;
             Ok(Box::new($name($from::server::LevelState::new(progs))))
         }
     };
@@ -136,10 +135,7 @@ thread_local! {
 
 /// Panics of the Rust are kept, not printed. Call once.
 pub fn install() {
-    count::install(&[
-        ("richter::server", richter::SERVER_SOURCE),
-        ("changed::server", changed::SERVER_SOURCE),
-    ]);
+    count::install(&[("richter::server", richter::SERVER_SOURCE), ("changed::server", changed::SERVER_SOURCE)]);
     std::panic::set_hook(Box::new(|info| {
         let message = match info.payload().downcast_ref::<&str>() {
             Some(text) => text.to_string(),
@@ -189,12 +185,7 @@ pub struct Seen {
 }
 
 /// A call on a level. Counting logs, and a log message of richter's converts names; `counted` says whether to.
-pub fn call(
-    level: &mut dyn Level,
-    cells: usize,
-    counted: bool,
-    what: impl FnOnce(&mut dyn Level) -> Result<(), String>,
-) -> Seen {
+pub fn call(level: &mut dyn Level, cells: usize, counted: bool, what: impl FnOnce(&mut dyn Level) -> Result<(), String>) -> Seen {
     count::start(counted);
     let end = match ended(|| what(level)) {
         Ok(()) => End::Done,
@@ -202,11 +193,5 @@ pub fn call(
     };
     let (fetched, builtin_at) = (count::fetched(), count::builtin_at());
     count::start(false);
-    Seen {
-        end,
-        fetched,
-        builtin_at,
-        observed: level.observe(),
-        cells: (0..cells.min(32_768)).map(|i| level.cell(i)).collect(),
-    }
+    Seen { end, fetched, builtin_at, observed: level.observe(), cells: (0..cells.min(32_768)).map(|i| level.cell(i)).collect() }
 }

@@ -57,11 +57,7 @@ impl Ours {
     /// The loaded machine, or the refusal's number.
     pub fn load(bytes: &[u8]) -> Result<Ours, u32> {
         let count = View(bytes).cells().min(40_000);
-        let mut machine = Machine::new(
-            bytes.to_vec(),
-            vec![FILL; count + MORE],
-            vec![FILL; 2_048 + MORE],
-        );
+        let mut machine = Machine::new(bytes.to_vec(), vec![FILL; count + MORE], vec![FILL; 2_048 + MORE]);
         match machine.load() {
             Ok(()) => Ok(Ours { machine, count }),
             Err(refusal) => Err(refusal.number()),
@@ -123,9 +119,7 @@ impl Ours {
             position: m.position(),
             function: m.function(),
             depth,
-            frames: (frames[..depth].iter())
-                .map(|f| (f.instr_id, f.func_id))
-                .collect(),
+            frames: (frames[..depth].iter()).map(|f| (f.instr_id, f.func_id)).collect(),
             saved: m.saved()[..saved].to_vec(),
             cells: m.cells()[..self.count].to_vec(),
             rest_untouched: m.cells()[self.count..].iter().all(|&c| c == FILL)

@@ -177,7 +177,6 @@ impl View<'_> {
     pub fn strings(&self) -> Option<&[u8]> {
         let (at, count) = (self.offset(Lump::Strings), self.count(Lump::Strings));
         let end = at.checked_add(count)?;
-        self.0
-            .get(usize::try_from(at).ok()?..usize::try_from(end).ok()?)
+        self.0.get(usize::try_from(at).ok()?..usize::try_from(end).ok()?)
     }
 }

@@ -28,11 +28,15 @@ pub fn run(seed: u64, first: u64, count: u64) -> bool {
     for number in first..first + count {
         let case = generate::case(seed, number);
         totals.kinds[case.kind as usize] += 1;
+        let performed = runs::perform(&case);
         if runs::reserves_too_much(&case.bytes) {
             totals.reserves += 1;
+            if !matches!(performed.load, Err(1..=4)) {
+                totals.unchanged.unexplained += 1;
+                unexplained(number, "whole", "more records than a file can have", &case);
+            }
             continue;
         }
-        let performed = runs::perform(&case);
         one(&mut totals, number, &case, &performed);
     }
     print(&totals, count);
@@ -58,12 +62,7 @@ fn one(totals: &mut Totals, number: u64, case: &Case, performed: &Performed) {
         totals.copies_compared += 1;
         if !runs::copy_is_faithful(case, performed, &unchanged) {
             totals.changed.unexplained += 1;
-            unexplained(
-                number,
-                "copy",
-                "the changed Rust with all switches off differs from the unchanged",
-                case,
-            );
+            unexplained(number, "copy", "the changed Rust with all switches off differs from the unchanged", case);
         }
     }
 }
@@ -74,6 +73,7 @@ fn outcome(verdicts: &Verdicts) -> &'static str {
         Some(Verdict::Same { .. }) => "compared in full, equal",
         Some(Verdict::OtherNumber(..)) => "compared in full, refused by both by another number",
         Some(Verdict::LeftOut(Class::HandedOver)) => "left out: handed over to the host",
+        Some(Verdict::LeftOut(Class::Runaway)) => "left out: the Rust panics at the 100,000th statement; up to there compared, equal",
         Some(Verdict::LeftOut(_)) => "left out: the Rust panics",
         Some(Verdict::ByDesign(_)) => "differs by design",
         Some(Verdict::Differs(_)) | None => "differs, see below",
@@ -103,14 +103,7 @@ fn difference(verdicts: &[Verdict]) -> Option<&str> {
 }
 
 /// Puts a difference of the unchanged Rust to the named ones, by the changed Rust.
-fn explain(
-    totals: &mut Totals,
-    number: u64,
-    text: &str,
-    case: &Case,
-    performed: &Performed,
-    changed: &Verdicts,
-) {
+fn explain(totals: &mut Totals, number: u64, text: &str, case: &Case, performed: &Performed, changed: &Verdicts) {
     let causes = match difference(changed) {
         Some(_) => None,
         None => runs::causes(case, performed, changed),
@@ -146,22 +139,14 @@ fn add(tally: &mut Tally, verdicts: &[Verdict], performed: &Performed) {
 
 /// Prints the case, writes it out, and writes a smaller one that still differs.
 fn unexplained(number: u64, which: &str, text: &str, case: &Case) {
-    println!(
-        "UNEXPLAINED program {} ({:?}, {}): {}",
-        number, case.kind, which, text
-    );
+    println!("UNEXPLAINED program {} ({:?}, {}): {}", number, case.kind, which, text);
     let folder = std::env::temp_dir().join("differential");
     let _ = std::fs::create_dir_all(&folder);
     let smaller = shrink(case);
     for (name, bytes) in [("whole", &case.bytes), ("smaller", &smaller)] {
         let path = folder.join(format!("{}-{}-{}.dat", number, which, name));
         if std::fs::write(&path, bytes).is_ok() {
-            println!(
-                "  {} ({} bytes), calls {:?}",
-                path.display(),
-                bytes.len(),
-                case.calls
-            );
+            println!("  {} ({} bytes), calls {:?}", path.display(), bytes.len(), case.calls);
         }
     }
 }
@@ -174,11 +159,7 @@ fn shrink(case: &Case) -> Vec<u8> {
             let mut tried = smaller.clone();
             let end = (at + size).min(tried.len());
             tried[at..end].fill(0);
-            let case = Case {
-                kind: case.kind,
-                bytes: tried,
-                calls: case.calls.clone(),
-            };
+            let case = Case { kind: case.kind, bytes: tried, calls: case.calls.clone() };
             if smaller != case.bytes && is_unexplained(&case) {
                 smaller = case.bytes;
             }
@@ -194,8 +175,7 @@ fn is_unexplained(case: &Case) -> bool {
     let performed = runs::perform(case);
     let changed = runs::changed(case, &performed);
     let unchanged = runs::unchanged(case, &performed);
-    difference(&changed).is_some()
-        || (difference(&unchanged).is_some() && runs::causes(case, &performed, &changed).is_none())
+    difference(&changed).is_some() || (difference(&unchanged).is_some() && runs::causes(case, &performed, &changed).is_none())
 }
 
 fn print(totals: &Totals, count: u64) {
@@ -204,7 +184,7 @@ fn print(totals: &Totals, count: u64) {
         println!("  {:>9}  {:?}", grouped(count), kind);
     }
     println!(
-        "  {} left out whole: the Rust would reserve memory for over 1,048,576 records",
+        "  {} left out whole: the Rust would reserve memory for over 1,048,576 records; here load refused 1 to 4",
         grouped(totals.reserves)
     );
     print_totals(totals);
@@ -215,17 +195,14 @@ fn print_totals(totals: &Totals) {
     unchanged.print("programs and richter unchanged:");
     changed.print("programs and richter changed:");
     either.print("programs and either:");
+    println!("    {} statements completed in the programs compared in full", grouped(totals.statements));
     println!(
-        "    {} statements completed in the programs compared in full",
-        grouped(totals.statements)
+        "    {} runs without a known count of statements: a name is no text, and counting would convert it",
+        grouped(runs::uncounted())
     );
     totals.unchanged.print("loads and runs, richter unchanged");
-    totals
-        .covered_by_changed
-        .print("programs with such a difference, and the changed Rust:");
-    totals
-        .changed
-        .print("loads and runs, richter with the named differences changed, NaN canonical");
+    totals.covered_by_changed.print("programs with such a difference, and the changed Rust:");
+    totals.changed.print("loads and runs, richter with the named differences changed, NaN canonical");
     println!(
         "  {} programs also through the changed copy with all changes off: same verdicts as unchanged",
         grouped(totals.copies_compared)
@@ -253,43 +230,58 @@ pub fn show(case: &Case) -> bool {
             &left.cells[1..4]
         );
     }
-    let (unchanged, changed) = (
-        runs::unchanged(case, &performed),
-        runs::changed(case, &performed),
-    );
+    let (unchanged, changed) = (runs::unchanged(case, &performed), runs::changed(case, &performed));
     println!("richter unchanged: {:?}", unchanged);
     println!("richter changed: {:?}", changed);
-    println!(
-        "named differences that play a part: {:?}",
-        runs::causes(case, &performed, &changed)
-    );
+    println!("named differences that play a part: {:?}", runs::causes(case, &performed, &changed));
     !is_unexplained(case)
 }
 
 /// Every function of every program file in a folder, entered by the host right after the load.
 pub fn run_folder(folder: &str) -> bool {
-    let mut totals = Totals::default();
     let mut files: Vec<_> = (std::fs::read_dir(folder).into_iter().flatten().flatten())
         .map(|entry| entry.path())
         .filter(|path| path.extension().is_some_and(|e| e == "dat"))
         .collect();
     files.sort();
-    let mut count = 0;
-    for path in &files {
+    let functions = files.iter().flat_map(|path| {
         let bytes = std::fs::read(path).unwrap_or_default();
         let functions = View(&bytes).count(Lump::Functions).max(0) as usize;
-        for function in 0..functions {
-            let case = Case {
-                kind: generate::Kind::Random,
-                bytes: bytes.clone(),
-                calls: vec![function],
-            };
-            let performed = runs::perform(&case);
+        (0..functions).map(move |function| (bytes.clone(), function))
+    });
+    run_files("functions of compiled rule files", functions)
+}
+
+/// The files of tests/model: `NAME LENGTH HEX LINE`, bytes not given are zeros. The host enters function 1.
+pub fn run_cases(path: &str) -> bool {
+    let text = std::fs::read_to_string(path).unwrap_or_default();
+    let files = text.lines().filter(|line| !line.starts_with('#')).map(|line| {
+        let words: Vec<&str> = line.split(' ').collect();
+        let hex = words[2].trim_matches('-').as_bytes();
+        let digit = |d: u8| (d as char).to_digit(16).expect("a hexadecimal digit") as u8;
+        let mut bytes: Vec<u8> = hex.chunks(2).map(|d| 16 * digit(d[0]) + digit(d[1])).collect();
+        bytes.resize(words[1].parse().expect("a length"), 0);
+        (bytes, 1)
+    });
+    run_files("files of the model's cases", files)
+}
+
+/// Files, each with the function that the host enters.
+fn run_files(what: &str, files: impl Iterator<Item = (Vec<u8>, usize)>) -> bool {
+    let mut totals = Totals::default();
+    let mut count = 0;
+    for (bytes, function) in files {
+        let case = Case { kind: generate::Kind::Random, bytes, calls: vec![function] };
+        let performed = runs::perform(&case);
+        count += 1;
+        if runs::reserves_too_much(&case.bytes) {
+            totals.reserves += 1;
+        } else {
             one(&mut totals, count, &case, &performed);
-            count += 1;
         }
     }
-    println!("{} functions of {} files", grouped(count), files.len());
+    println!("{} {}", grouped(count), what);
+    println!("  {} left out whole: the Rust would reserve memory for over 1,048,576 records", totals.reserves);
     print_totals(&totals);
     count > 0 && totals.unchanged.unexplained + totals.changed.unexplained == 0
 }

@@ -31,13 +31,7 @@ impl Counts {
         let least = self.0.values().min().copied().unwrap_or(0);
         let most = self.0.values().max().copied().unwrap_or(0);
         let (least, most) = (grouped(least), grouped(most));
-        println!(
-            "    {} {}, {} to {} times each",
-            self.0.len(),
-            title,
-            least,
-            most
-        );
+        println!("    {} {}, {} to {} times each", self.0.len(), title, least, most);
     }
 }
 
@@ -77,18 +71,14 @@ impl Tally {
                 self.compared.add(format!("{}{}", what, answer));
                 self.traces += *traces as u64;
             }
-            Verdict::OtherNumber(rusts, ours) => (self.other_numbers).add(format!(
-                "{}{} here, in the Rust what is {}",
-                what, ours, rusts
-            )),
+            Verdict::OtherNumber(rusts, ours) => (self.other_numbers).add(format!("{}{} here, in the Rust what is {}", what, ours, rusts)),
             Verdict::LeftOut(class) => {
                 let answer = match answer {
                     Answer::Builtin(_) => "builtin".to_string(),
                     Answer::Opcode(_) => "opcode".to_string(),
                     answer => answer.to_string(),
                 };
-                self.left_out
-                    .add(format!("{} (here: {}{})", class.name(), what, answer))
+                self.left_out.add(format!("{} (here: {}{})", class.name(), what, answer))
             }
             Verdict::ByDesign(name) => self.by_design.add(*name),
             Verdict::Differs(_) => self.unexplained += 1,
@@ -98,21 +88,15 @@ impl Tally {
     pub fn print(&self, title: &str) {
         println!("  {}", title);
         self.compared.print("compared, equal; by answer:");
-        println!(
-            "    {} of these with traces in the Rust, excepted",
-            grouped(self.traces)
-        );
+        println!("    {} of these with traces in the Rust, excepted", grouped(self.traces));
         if self.other_numbers.total() > 0 {
-            self.other_numbers
-                .print("refused by both, by another number:");
+            self.other_numbers.print("refused by both, by another number:");
         }
         if self.left_out.total() > 0 {
-            self.left_out
-                .print("left out: the Rust panics, or hands to the host:");
+            self.left_out.print("left out: the Rust panics, or hands to the host:");
         }
         if self.named.total() > 0 {
-            self.named
-                .print("differences by pr_exec.c's way or NaN, by what explains them:");
+            self.named.print("differences by pr_exec.c's way or NaN, by what explains them:");
         }
         if self.by_design.total() > 0 {
             self.by_design.print("differences by design:");

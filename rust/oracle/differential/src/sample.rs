@@ -30,21 +30,15 @@ pub fn write(seed: u64, path: &str) -> bool {
     for number in 0..TRIED {
         let mut case = generate::case(seed ^ 0x5a, number);
         case.calls = vec![1];
-        if case.bytes.len() > BYTES
-            || reserves_too_much(&case.bytes)
-            || !names_are_texts(&View(&case.bytes))
-        {
+        if case.bytes.len() > BYTES || reserves_too_much(&case.bytes) || !names_are_texts(&View(&case.bytes)) {
             continue;
         }
         let unchanged = line(&case, Variant::Unchanged).map(|line| ("unchanged", line));
-        let either =
-            unchanged.or_else(|| line(&case, Variant::Changed).map(|line| ("changed", line)));
+        let either = unchanged.or_else(|| line(&case, Variant::Changed).map(|line| ("changed", line)));
         let Some((name, line)) = either else {
             continue;
         };
-        let count = kept
-            .entry(format!("{} {}", name, answer(&line)))
-            .or_default();
+        let count = kept.entry(format!("{} {}", name, answer(&line))).or_default();
         if *count < most(&line) {
             *count += 1;
             writeln!(text, "{}-{} {} {}", name, number, file(&case.bytes), line).unwrap();
@@ -71,19 +65,9 @@ fn answer(line: &str) -> String {
 }
 
 fn file(bytes: &[u8]) -> String {
-    let given = bytes
-        .iter()
-        .rposition(|&b| b != 0)
-        .map_or(0, |last| last + 1);
-    let hex: String = bytes[..given]
-        .iter()
-        .map(|b| format!("{:02x}", b))
-        .collect();
-    format!(
-        "{} {}",
-        bytes.len(),
-        if hex.is_empty() { "-" } else { &hex }
-    )
+    let given = bytes.iter().rposition(|&b| b != 0).map_or(0, |last| last + 1);
+    let hex: String = bytes[..given].iter().map(|b| format!("{:02x}", b)).collect();
+    format!("{} {}", bytes.len(), if hex.is_empty() { "-" } else { &hex })
 }
 
 fn line(case: &Case, variant: Variant) -> Option<String> {
@@ -107,9 +91,7 @@ fn line(case: &Case, variant: Variant) -> Option<String> {
 
 fn negative_offset(view: &View) -> bool {
     use crate::program::Lump::*;
-    [Statements, GlobalDefs, FieldDefs, Functions, Strings, Cells]
-        .iter()
-        .any(|&l| view.offset(l) < 0)
+    [Statements, GlobalDefs, FieldDefs, Functions, Strings, Cells].iter().any(|&l| view.offset(l) < 0)
 }
 
 /// Whether the cells of an entry could be wrapped to 16 bits.
@@ -124,16 +106,7 @@ fn wraps(view: &View) -> bool {
 /// Only what can't be the header's: a lump past the end is another number there, found earlier.
 fn refused_load(view: &View, text: &str) -> Option<String> {
     use crate::program::Lump::*;
-    let inside = [
-        (Statements, 8),
-        (GlobalDefs, 8),
-        (FieldDefs, 8),
-        (Functions, 36),
-        (Strings, 1),
-        (Cells, 4),
-    ]
-    .iter()
-    .all(|&(l, size)| {
+    let inside = [(Statements, 8), (GlobalDefs, 8), (FieldDefs, 8), (Functions, 36), (Strings, 1), (Cells, 4)].iter().all(|&(l, size)| {
         let (at, count) = (view.offset(l) as i64, view.count(l) as i64);
         at >= 0 && count >= 0 && (count == 0 || at + count * size <= view.0.len() as i64)
     });
@@ -146,9 +119,7 @@ fn agrees_with_pr_exec(case: &Case) -> bool {
     let cells = View(&case.bytes).cells();
     let seen = [Variant::Unchanged, Variant::Changed].map(|variant| {
         let mut level = oracle::load(variant, &case.bytes).ok()?;
-        Some(oracle::call(&mut *level, cells, true, |l| {
-            l.execute_program(1)
-        }))
+        Some(oracle::call(&mut *level, cells, true, |l| l.execute_program(1)))
     });
     match seen {
         [Some(a), Some(b)] => a.end == b.end && a.fetched == b.fetched && a.cells == b.cells,
@@ -169,14 +140,9 @@ fn ended(view: &View, variant: Variant, seen: &Seen) -> Option<String> {
             if leaves_traces(view, seen, number) {
                 return None;
             }
-            (
-                format!("refused,{}", number),
-                seen.fetched.saturating_sub(1),
-            )
+            (format!("refused,{}", number), seen.fetched.saturating_sub(1))
         }
-        End::Panic(panic) if Class::of(panic) == Class::Runaway => {
-            ("spent,0".to_string(), seen.fetched)
-        }
+        End::Panic(panic) if Class::of(panic) == Class::Runaway => ("spent,0".to_string(), seen.fetched),
         End::Panic(_) => return None,
     };
     let further = (variant == Variant::Unchanged && seen.end == End::Done) as usize;

@@ -10,20 +10,8 @@ fn rules(locals: i32) -> Program {
     let mut program = Program::new(160);
     program.strings = b"\0player_hit\0match_end\0score\0".to_vec();
     program.globaldefs.push((1, 31, 22));
-    program.functions.push(Function {
-        first: 1,
-        local: 50,
-        locals,
-        name: 1,
-        ..Function::default()
-    });
-    program.functions.push(Function {
-        first: 4,
-        local: 40,
-        locals: 1,
-        name: 12,
-        ..Function::default()
-    });
+    program.functions.push(Function { first: 1, local: 50, locals, name: 1, ..Function::default() });
+    program.functions.push(Function { first: 4, local: 40, locals: 1, name: 12, ..Function::default() });
     program.cells[28] = 1.0_f32.to_bits();
     program.cells[32] = 7.0_f32.to_bits();
     program.statements.extend([
@@ -73,13 +61,7 @@ fn one_match(title: &str, locals: i32) -> bool {
     }
     let rust = oracle::call(&mut *level, 160, false, |l| l.execute_program(MATCH_END));
     let left = ours.execute(MATCH_END);
-    println!(
-        "  end of the match: Rust {}. Here {} after {}, cell 1 {:08x}",
-        text(&rust.end),
-        left.answer,
-        left.count,
-        left.cells[1]
-    );
+    println!("  end of the match: Rust {}. Here {} after {}, cell 1 {:08x}", text(&rust.end), left.answer, left.count, left.cells[1]);
     good && matches!(&rust.end, End::Error(e) if e.contains("overflow"))
         && left.answer == Answer::Ended
         && left.cells[1] == 7.0_f32.to_bits()
