@@ -1,7 +1,7 @@
 #!/usr/bin/env python3
 """Runs the host's replay program on lists of calls and compares what it prints with what the model of tests/model answers.
 
-    python3 tests/run_replay.py REPLAY      the lists of tests/model/cases/calls.txt, and the list of rust/host/tests/replay
+    python3 tests/run_replay.py REPLAY      the lists of tests/model/cases/calls.txt, the list of rust/host/tests/replay, and lists made by chance
     python3 tests/run_replay.py --write     writes the list of rust/host/tests/replay, with what the model prints for it
     python3 tests/run_replay.py --check     says whether the committed one is that
 
@@ -19,9 +19,12 @@ FOLDER = os.path.join(ROOT, "rust/host/tests/replay")
 
 sys.path.insert(0, os.path.join(ROOT, "tests/model"))
 import model
+from common import Xorshift, random_program
 from replay import bytes_of, lines_of
 
 FNV_BASIS, FNV_PRIME = 14695981039346656037, 1099511628211
+# how many lists are made by chance
+RANDOM_LISTS = 150
 # what calls.txt calls otherwise
 NAMES = {"get": "read", "put": "write", "byte": "poke"}
 
@@ -230,11 +233,47 @@ def fixed_list():
         run 0 1
         poke 60 66
         statement
+        file 100
+        statement
+        poke 200 9
+        file %d
+        statement
         poke 60 61
         statement
         statement
-    """ % (len(data) - 1, len(data) + 40, len(data), len(data))
+    """ % (len(data) - 1, len(data) + 40, len(data), len(data), len(data))
     return data, [line.strip() for line in calls.strip().splitlines()]
+
+
+def random_call(chance, length):
+    """A call, or a change of what is lent."""
+    kind = chance.below(100)
+    if kind < 25:
+        return "enter %d" % (chance.below(9) - 1)
+    if kind < 45:
+        return "statement"
+    if kind < 65:
+        return "run %d %d" % (chance.below(4) - 1, chance.below(60))
+    if kind < 75:
+        return "carry"
+    if kind < 82:
+        return "abandon %d" % (chance.below(5) - 1)
+    if kind < 87:
+        return "read %d" % (chance.below(70) - 3)
+    if kind < 92:
+        return "write %d %d" % (28 + chance.below(40), chance.draw())
+    if kind < 95:
+        return "poke %d %d" % (60 + chance.below(length - 60), chance.below(256))
+    return chance.pick(["load 0", "lend 64 2048 2", "lend 66 2050 0", "file %d" % length, "file %d" % (length - 1), "poke 4 0", "poke 4 39"])
+
+
+def random_lists():
+    """Programs of the model's case makers, each with calls made by chance from a fixed seed."""
+    for seed in range(1, RANDOM_LISTS + 1):
+        chance = Xorshift(seed * 2654435761 % 2**32)
+        program = random_program(chance, hosts=True).bytes()
+        lend = "lend %d %d 1" % (64 + chance.below(8), 2048 + chance.below(4))
+        yield program, [lend, "load 0"] + [random_call(chance, len(program)) for _ in range(60)]
 
 
 def committed():
@@ -267,7 +306,7 @@ def run(replay, program, calls):
 
 def compare(replay):
     counted, left_out, differ = 0, 0, 0
-    for program, calls in [fixed_list()] + list(lists()):
+    for program, calls in [fixed_list()] + list(lists()) + list(random_lists()):
         if any(call.startswith("field ") for call in calls):
             left_out += 1
             continue

@@ -14,17 +14,8 @@ const FUNCTION: u16 = 6;
 /// The most statements that one call may take.
 const LIMIT: i64 = 10_000;
 
-/// The rules: `StartFrame` throws a coin for a point, `EndMatch` returns by how much red is ahead.
-fn rules() -> Vec<u8> {
-    let mut rules = Assembly::default();
-    let random = rules.text("random");
-    let bprint = rules.text("bprint");
-    let start_frame = rules.text("StartFrame");
-    let broken = rules.text("BrokenRule");
-    let end_match = rules.text("EndMatch");
-    let (red, blue) = (rules.text("red"), rules.text("blue"));
-    let point = rules.text("a point for red\n");
-    rules.statements = vec![
+fn statements() -> Vec<[i16; 4]> {
+    vec![
         statement("Done", 0, 0, 0),
         // StartFrame: if (random() < 0.5) { red = red + 1; bprint(point); } else blue = blue + 1;
         statement("Call0", 40, 0, 0),
@@ -42,7 +33,20 @@ fn rules() -> Vec<u8> {
         // EndMatch(red, blue)
         statement("SubF", 52, 53, 54),
         statement("Return", 54, 0, 0),
-    ];
+    ]
+}
+
+/// The rules: `StartFrame` throws a coin for a point, `EndMatch` returns by how much red is ahead.
+fn rules() -> Vec<u8> {
+    let mut rules = Assembly::default();
+    let random = rules.text("random");
+    let bprint = rules.text("bprint");
+    let start_frame = rules.text("StartFrame");
+    let broken = rules.text("BrokenRule");
+    let end_match = rules.text("EndMatch");
+    let (red, blue) = (rules.text("red"), rules.text("blue"));
+    let point = rules.text("a point for red\n");
+    rules.statements = statements();
     let plain = Function::default();
     let builtin = |number: i32, name| Function {
         first: -number,
