@@ -1,9 +1,10 @@
 // Float and vector arithmetic, and comparisons of floats and vectors. A function here stands for the Rust's functions that its comment lists.
 use definition::Answer;
+use functions::fetch;
 ghost use mathlib.Core.Path.{_≡_};
 ghost use Prim.Native.Nat.{_+_, _-_, _*_, _≤_, _<_};
 ghost use lib.ListN.{length, getD, set};
-ghost use Rattle.definition.specs.Cells.{float};
+ghost use Rattle.definition.specs.Cells.{float, cellOf};
 ghost use Rattle.definition.specs.Statements.{floatsEffect, vectorsEffect, dotsEffect, component, vectorResult};
 ghost use Rattle.floats.specs.Opcodes.{floatOp, componentOp, dotOp};
 ghost use Rattle.typed.specs.Typing.{typing};
@@ -34,6 +35,33 @@ fn check_floats(
     typed::check_cell(file, defs, ndefs, count, typed::FLOAT, c)
 }
 
+// The same of operands. Where there are no definitions, one below the count passes and is its own cell.
+fn check_operands(
+    file: &[u8],
+    defs: usize,
+    ndefs: usize,
+    count: usize,
+    x: u16,
+    y: u16,
+    z: u16,
+) -> u8
+    requires { ⌜ (8 * ndefs ≤ length (now file) - defs) × (count ≤ 32768) ⌝ }
+    ensures { λ r. ⌜ r ≡ threeRefusal (typing (now (file .entry)) defs ndefs count) float (cellOf x) float (cellOf y) float (cellOf z) ⌝ }
+{
+    if (ndefs == 0) & ((x as usize) < count) & ((y as usize) < count) & ((z as usize) < count) {
+        return 0;
+    }
+    check_floats(
+        file,
+        defs,
+        ndefs,
+        count,
+        fetch::cell_of(x),
+        fetch::cell_of(y),
+        fetch::cell_of(z),
+    )
+}
+
 fn apply_floats(cells: &mut [u32], op: u16, a: usize, b: usize, c: usize)
     requires { ⌜ (a < length (now cells)) × (b < length (now cells)) × (c < length (now cells)) ⌝ }
     ensures { λ _. ⌜ now (cells .exit) ≡ set (now (cells .entry)) c (floatOp op (getD (now (cells .entry)) a 0) (getD (now (cells .entry)) b 0)) ⌝ }
@@ -49,18 +77,18 @@ pub fn op_floats(
     count: usize,
     cells: &mut [u32],
     op: u16,
-    a: usize,
-    b: usize,
-    c: usize,
+    x: u16,
+    y: u16,
+    z: u16,
 ) -> Answer
-    requires { ⌜ (8 * ndefs ≤ length (now file) - defs) × (count ≤ length (now cells)) ⌝ }
-    ensures { λ r. ⌜ after r (now (cells .exit)) ≡ effectOn (floatsEffect (floatOp op) (typing (now (file .entry)) defs ndefs count) a b c (now (cells .entry))) (now (cells .entry)) ⌝ }
+    requires { ⌜ (8 * ndefs ≤ length (now file) - defs) × (count ≤ length (now cells)) × (count ≤ 32768) ⌝ }
+    ensures { λ r. ⌜ after r (now (cells .exit)) ≡ effectOn (floatsEffect (floatOp op) (typing (now (file .entry)) defs ndefs count) (cellOf x) (cellOf y) (cellOf z) (now (cells .entry))) (now (cells .entry)) ⌝ }
 {
-    let refusal = check_floats(file, defs, ndefs, count, a, b, c);
+    let refusal = check_operands(file, defs, ndefs, count, x, y, z);
     if refusal != 0 {
         return Answer::Refused(refusal);
     }
-    apply_floats(cells, op, a, b, c);
+    apply_floats(cells, op, x as usize, y as usize, z as usize);
     Answer::Accepted
 }
 

@@ -20,9 +20,9 @@ use Rattle.execution.specs.declared.Executed.the-variants as does
 use Rattle.execution.specs.declared.shapes.CellOp.{CellOp}
 use Rattle.execution.specs.declared.shapes.Shape as code
 use Rattle.execution.specs.declared.shapes.Shape.the-variants.{Cells, Branch, Goto, Call, Return, Host}
-use Rattle.execution.specs.Shapes.{shapeAs, effectAs}
+use Rattle.execution.specs.Shapes.{isFloats, shapeAs, effectAs}
 use Rattle.execution.specs.Execution.{statement, executeWith, doesWith, doesOf, executed, execution}
-use Rattle.execution.proofs.Transfers.{does-is, effect-does}
+use Rattle.execution.proofs.Transfers.{does-is, effect-does, floats-does}
 
 module _ (statements : List Statement) (functions : List FunctionDef) (g : Typing) (p : ℤ) (cells : List ℕ) where
   refused-as : (n m : ℕ) (d : Does) → n ≡ m → 0 < n → executed (does.Refused n) cells ≡ execution (orRefused m d) cells
@@ -82,6 +82,10 @@ module _ (fs : List FunctionDef) (g : Typing) (p : ℤ) (op x y z : ℕ) (cells 
 
   pub call-handed : shape ≡ Call → (a : ℕ) → a ≡ cellOf x → (b : Bool) (r : Executed) → b ≡ isHandedOver (doesOf r cells) → doesOf r cells ≡ callDoes fs g a cells → goal b
   call-handed t a e b r h k = h ∙ ap isHandedOver (k ∙ (rw e) ∙ does-is fs g p op x y z cells shape Call t is)
+
+pub floats-not-handed : (fs : List FunctionDef) (g : Typing) (p : ℤ) (op x y z : ℕ) (cells : List ℕ) → isFloats (shapeOf op) ≡ true
+    → false ≡ isHandedOver (executeWith fs g p (statement op x y z) cells)
+floats-not-handed fs g p op x y z cells is = sym (not-handed _ _ refl) ∙ ap isHandedOver (floats-does fs g p op x y z cells is)
 
 pub handed-known : (done known : Executed) (b : Bool) → done ≡ known → ((cells : List ℕ) → b ≡ isHandedOver (doesOf known cells)) → (cells : List ℕ) → b ≡ isHandedOver (doesOf done cells)
 handed-known done known b e h cells = h cells ∙ ap (λ (d : Executed). isHandedOver (doesOf d cells)) (sym e)

@@ -16,18 +16,20 @@ use Rattle.definition.specs.Checks.{judge}
 use Rattle.definition.specs.File.{noFunction, isBuiltin, builtinOf, builtinKnown}
 use Rattle.definition.specs.Floats.{isZero}
 use Rattle.definition.specs.Cells.{cellOf, Typing, cellAccess, access}
-use Rattle.definition.specs.Statements.{Effect, Does, next, calls, refuses, handsOver, orRefused, effectDoes, Shape, shapeOf, branchesDo, callOf, callDoes, executeAs}
+use Rattle.definition.specs.Statements.{Effect, Does, next, calls, refuses, handsOver, orRefused, effectDoes, floatsEffect, Shape, floats, shapeOf, branchesDo, callOf, callDoes, executeAs}
 use Rattle.functions.specs.declared.FunctionId.the-variants.{Id, NoFunction}
 use Rattle.functions.specs.Answers.{functionId}
 use Rattle.functions.specs.Laws.{function-found, function-missing}
 use Rattle.execution.specs.declared.Executed.{Executed}
 use Rattle.execution.specs.declared.Executed.the-variants.{Next, Calls, Returns, Refused, HandedOver}
 use Rattle.execution.specs.declared.shapes.CellOp.{CellOp}
-use Rattle.execution.specs.declared.shapes.CellOp.the-variants.{Floats, Values, Vectors, Dots, Strings, Nots, NotV, NotS, Stores, StoreV}
+use Rattle.execution.specs.declared.shapes.CellOp.the-variants.{Values, Vectors, Dots, Strings, Nots, NotV, NotS, Stores, StoreV}
 use Rattle.execution.specs.declared.shapes.Shape as code
 use Rattle.execution.specs.declared.shapes.Shape.the-variants.{Cells}
+use Rattle.floats.specs.Opcodes.{floatOp}
 use Rattle.globals.specs.Effects.{After, after, answered, effectOn}
-use Rattle.execution.specs.Shapes.{cellShape, shapeAs, effectAs}
+use Rattle.execution.specs.Shapes.{isFloats, cellShape, shapeAs, effectAs}
+use Rattle.execution.proofs.Opcodes.{floats-are}
 use Rattle.execution.specs.Execution.{onlyFunctions, statement, executeWith, doesOf, executed, execution, completedAs}
 
 -- ---- a refusal
@@ -150,7 +152,6 @@ pub effect-does : (what : CellOp) (fs : List FunctionDef) (g : Typing) (p : ℤ)
     → executeAs (cellShape what op) (onlyFunctions fs) g p (statement op x y z) (cellOf x) (cellOf y) (cellOf z) cells
     ≡ effectDoes p (effectAs what op g (cellOf x) (cellOf y) (cellOf z) cells)
 unfolding effectAs
-effect-does Floats fs g p op x y z cells = refl
 effect-does (Values t) fs g p op x y z cells = refl
 effect-does (Vectors ta tb) fs g p op x y z cells = refl
 effect-does Dots fs g p op x y z cells = refl
@@ -169,3 +170,16 @@ module _ (fs : List FunctionDef) (g : Typing) (p : ℤ) (op x y z : ℕ) (cells 
   written i j k ei ej ek a cells′ r e h =
       let e′ = rw (ei, ej, ek) at e in
       rw (h, ← does-is fs g p op x y z cells shape (Cells what) told is, effect-does what fs g p op x y z cells) (completed-is p _ cells cells′ a e′)
+
+-- ---- two floats to a float
+
+module _ (fs : List FunctionDef) (g : Typing) (p : ℤ) (op x y z : ℕ) (cells : List ℕ) (is : isFloats (shapeOf op) ≡ true) where
+  pub floats-does : effectDoes p (floatsEffect (floatOp op) g (cellOf x) (cellOf y) (cellOf z) cells) ≡ executeWith fs g p (statement op x y z) cells
+  unfolding executeWith
+  floats-does = ap (λ (t : Shape). executeAs t (onlyFunctions fs) g p (statement op x y z) (cellOf x) (cellOf y) (cellOf z) cells) (floats-are op is)
+
+  pub floats-written : (a : Answer) (cells′ : List ℕ) (r : Executed)
+      → after a cells′ ≡ effectOn (floatsEffect (floatOp op) g (cellOf x) (cellOf y) (cellOf z) cells) cells
+      → r ≡ completedAs p a
+      → executed r cells′ ≡ execution (executeWith fs g p (statement op x y z) cells) cells
+  floats-written a cells′ r e h = rw (h, ← floats-does) (completed-is p _ cells cells′ a e)

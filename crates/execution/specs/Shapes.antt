@@ -3,11 +3,11 @@ use Prim.Native.Nat.{ℕ}
 use mathlib.Core.List.{List}
 use mathlib.Core.Bool.{Bool, true, false}
 use Rattle.definition.specs.Cells.{Typing}
-use Rattle.definition.specs.Statements.{Shape, floats, values, vectors, dots, strings, negates, negatesV, negatesS, stores, storesV, branches, jumps, call, return, host}
-use Rattle.definition.specs.Statements.{Effect, floatsEffect, valuesEffect, vectorsEffect, dotsEffect, stringsEffect, negatesEffect, negatesVEffect, negatesSEffect, storesEffect, storesVEffect}
-use Rattle.floats.specs.Opcodes.{byShape, floatOp, valueOp, componentOp, dotOp, notOp}
+use Rattle.definition.specs.Statements.{Shape, values, vectors, dots, strings, negates, negatesV, negatesS, stores, storesV, branches, jumps, call, return, host}
+use Rattle.definition.specs.Statements.{Effect, valuesEffect, vectorsEffect, dotsEffect, stringsEffect, negatesEffect, negatesVEffect, negatesSEffect, storesEffect, storesVEffect}
+use Rattle.floats.specs.Opcodes.{byShape, valueOp, componentOp, dotOp, notOp}
 use Rattle.execution.specs.declared.shapes.CellOp.{CellOp}
-use Rattle.execution.specs.declared.shapes.CellOp.the-variants.{Floats, Values, Vectors, Dots, Strings, Nots, NotV, NotS, Stores, StoreV}
+use Rattle.execution.specs.declared.shapes.CellOp.the-variants.{Values, Vectors, Dots, Strings, Nots, NotV, NotS, Stores, StoreV}
 use Rattle.execution.specs.declared.shapes.Shape as code
 use Rattle.execution.specs.declared.shapes.Shape.the-variants.{Cells, Branch, Goto, Call, Return, Host}
 
@@ -15,7 +15,6 @@ abbrev pub isFloats : Shape → Bool
 isFloats = byShape (λ g. true) (λ g. false) (λ g. false) (λ g. false) (λ g. false) false
 
 abbrev pub cellShape : CellOp → ℕ → Shape
-cellShape Floats op = floats (floatOp op)
 cellShape (Values t) op = values t (valueOp op)
 cellShape (Vectors ta tb) op = vectors ta tb (componentOp op)
 cellShape Dots op = dots (dotOp op)
@@ -36,7 +35,6 @@ shapeAs Host op = host
 
 -- the effect of a statement that writes cells
 unfoldable pub effectAs : CellOp → ℕ → Typing → ℕ → ℕ → ℕ → List ℕ → Effect
-effectAs Floats op = floatsEffect (floatOp op)
 effectAs (Values t) op = valuesEffect t (valueOp op)
 effectAs (Vectors ta tb) op = vectorsEffect ta tb (componentOp op)
 effectAs Dots op = dotsEffect (dotOp op)

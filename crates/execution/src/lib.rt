@@ -49,17 +49,6 @@ fn write(
     ensures { λ r. ⌜ after r (now (cells .exit)) ≡ effectOn (effectAs what op (typing (now (file .entry)) defs ndefs count) a b c (now (cells .entry))) (now (cells .entry)) ⌝ }
 {
     match what {
-        CellOp::Floats => return arithmetic::op_floats(
-            file,
-            defs,
-            ndefs,
-            count,
-            cells,
-            op,
-            a,
-            b,
-            c,
-        ),
         CellOp::Values(t) => return comparisons::op_values(
             file,
             defs,
@@ -207,9 +196,13 @@ pub fn execute(
     y: u16,
     z: u16,
 ) -> Executed
-    requires { ⌜ (8 * ndefs ≤ length (now file) - defs) × (lumpFits 36 (length (now file)) (lump functions nfunctions) ≡ true) × (count ≤ length (now cells)) × (k < 2147483648) × (op < 66) ⌝ }
+    requires { ⌜ (8 * ndefs ≤ length (now file) - defs) × (lumpFits 36 (length (now file)) (lump functions nfunctions) ≡ true) × (count ≤ length (now cells)) × (count ≤ 32768) × (k < 2147483648) × (op < 66) ⌝ }
     ensures { λ r. ⌜ executed r (now (cells .exit)) ≡ execution (executeWith (functionsIn (now (file .entry)) functions nfunctions) (typing (now (file .entry)) defs ndefs count) (pos k) (statement op x y z) (now (cells .entry))) (now (cells .entry)) ⌝ }
 {
+    if shapes::is_floats(op) {
+        let answer = arithmetic::op_floats(file, defs, ndefs, count, cells, op, x, y, z);
+        return completed(k, answer);
+    }
     let a = fetch::cell_of(x);
     let shape = shapes::shape_of(op);
     match shape {
@@ -263,6 +256,9 @@ pub fn hands_over(
     requires { ⌜ (8 * ndefs ≤ length (now file) - defs) × (lumpFits 36 (length (now file)) (lump functions nfunctions) ≡ true) × (count ≤ length (now cells)) × (op < 66) ⌝ }
     ensures { λ r. ⌜ ((p : ℤ) (y z : ℕ) → r ≡ isHandedOver (executeWith (functionsIn (now (file .entry)) functions nfunctions) (typing (now (file .entry)) defs ndefs count) p (statement op x y z) (now (cells .entry)))) ⌝ }
 {
+    if shapes::is_floats(op) {
+        return false;
+    }
     let shape = shapes::shape_of(op);
     match shape {
         Shape::Cells(_what) => return false,
@@ -291,7 +287,7 @@ pub fn does(
     cells: &mut [u32],
     pc: i64,
 ) -> Executed
-    requires { ⌜ (lumpFits 8 (length (now file)) (lump statements nstatements) ≡ true) × (8 * ndefs ≤ length (now file) - defs) × (lumpFits 36 (length (now file)) (lump functions nfunctions) ≡ true) × (count ≤ length (now cells)) ⌝ }
+    requires { ⌜ (lumpFits 8 (length (now file)) (lump statements nstatements) ≡ true) × (8 * ndefs ≤ length (now file) - defs) × (lumpFits 36 (length (now file)) (lump functions nfunctions) ≡ true) × (count ≤ length (now cells)) × (count ≤ 32768) ⌝ }
     ensures { λ r. ⌜ executed r (now (cells .exit)) ≡ execution (doesWith (statementsIn (now (file .entry)) statements nstatements) (functionsIn (now (file .entry)) functions nfunctions) (typing (now (file .entry)) defs ndefs count) pc (now (cells .entry))) (now (cells .entry)) ⌝ }
 {
     let fetched = fetch::fetch(file, statements, nstatements, pc);

@@ -7,13 +7,13 @@ use typed::FUNCTION;
 use typed::STRING;
 use typed::VECTOR;
 ghost use mathlib.Core.Path.{_≡_};
+ghost use mathlib.Core.Bool.{false};
 ghost use Prim.Native.Nat.{_<_};
 ghost use Rattle.definition.specs.Statements.{shapeOf};
 ghost use Rattle.execution.specs.Shapes.{isFloats, shapeAs};
 
-// The shapes that write cells, with the types of their operands where these differ.
+// The shapes that write cells, with the types of their operands where these differ. That of two floats to a float isn't here: it is told by one bit.
 pub enum CellOp {
-    Floats,
     Values(u16),
     Vectors(u16, u16),
     Dots,
@@ -39,7 +39,7 @@ pub enum Shape {
 const FLOATS: u64 = 0xc000_0000_00f0_8562;
 
 // The commonest shape, by a test of one bit: a jump by opcode costs twice as much, and the operation needs one of its own.
-fn is_floats(op: u16) -> bool
+pub fn is_floats(op: u16) -> bool
     requires { ⌜ op < 66 ⌝ }
     ensures { λ r. ⌜ r ≡ isFloats (shapeOf op) ⌝ }
 {
@@ -49,14 +49,11 @@ fn is_floats(op: u16) -> bool
     (FLOATS >> (op % 64)) % 2 == 1
 }
 
-// One number to an arm and a `return` in each: the prover reads consecutive numbers in one arm as ranges.
+// The shape of any other opcode. One number to an arm and a `return` in each: the prover reads consecutive numbers in one arm as ranges.
 pub fn shape_of(op: u16) -> Shape
-    requires { ⌜ op < 66 ⌝ }
+    requires { ⌜ (op < 66) × (isFloats (shapeOf op) ≡ false) ⌝ }
     ensures { λ r. ⌜ shapeAs r op ≡ shapeOf op ⌝ }
 {
-    if is_floats(op) {
-        return Shape::Cells(CellOp::Floats);
-    }
     match op {
         ops::DONE => return Shape::Return,
         ops::MUL_V => return Shape::Cells(CellOp::Dots),

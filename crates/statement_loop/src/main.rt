@@ -43,7 +43,7 @@ fn run(
     all: &[u16; 64],
     turns: u32,
 ) -> u32
-    requires { ⌜ (8 * ndefs ≤ length (now file)) × (count ≤ length (now cells)) ⌝ }
+    requires { ⌜ (8 * ndefs ≤ length (now file)) × (count ≤ length (now cells)) × (count ≤ 64) ⌝ }
 {
     let mut left = turns;
     let mut at: usize = 0;

@@ -22,7 +22,7 @@ enum Step {
     End,
 }
 
-// What the statement at position 0 does: refused 13 where the lumps don't lie in the file, or the cells are too few.
+// What the statement at position 0 does: refused 13 where the lumps don't lie in the file, or the cells are too few or the file's too many.
 fn executed(file: &[u8], cells: &mut [u32]) -> Executed {
     if file.len() < 60 {
         return Executed::Refused(13);
@@ -36,6 +36,9 @@ fn executed(file: &[u8], cells: &mut [u32]) -> Executed {
         return Executed::Refused(13);
     }
     if cells.len() < globals.count {
+        return Executed::Refused(13);
+    }
+    if 32768 < globals.count {
         return Executed::Refused(13);
     }
     let fetched = fetch::fetch(file, statements.offset, statements.count, 0);

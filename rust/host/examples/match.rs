@@ -55,7 +55,7 @@ fn rules() -> Vec<u8> {
         ..Function::default()
     };
     rules.functions = vec![
-        plain.clone(),
+        plain,
         builtin(7, random),
         builtin(23, bprint),
         Function {
@@ -63,7 +63,7 @@ fn rules() -> Vec<u8> {
             local: 50,
             locals: 1,
             name: start_frame,
-            ..plain.clone()
+            ..plain
         },
         Function {
             first: 10,

@@ -16,11 +16,21 @@ const SAVED: u32 = 2048;
 const FIRST_CELL: u32 = 3_221_225_472;
 const FIRST_SAVED: u32 = 2_684_354_560;
 
-/// A call of the machine, or a change of what is lent.
-enum Call {
+/// A line of the input.
+enum Line {
+    Change(Change),
+    Call(Call),
+}
+
+/// A change of what is lent.
+enum Change {
     Lend(u32, u32, u32),
     Poke(usize, u8),
     File(usize),
+}
+
+/// A call of the machine.
+enum Call {
     Load(i64),
     Enter(i64),
     Statement,
@@ -61,36 +71,35 @@ impl Replay {
         }
     }
 
-    /// Does a call. The answer is its words, or nothing where the call is only a change of what is lent.
-    fn perform(&mut self, call: Call) -> Option<String> {
-        match call {
-            Call::Lend(cells, saved, entity_cells) => {
+    fn change(&mut self, change: Change) {
+        match change {
+            Change::Lend(cells, saved, entity_cells) => {
                 *self.machine.cells_mut() = fresh_cells(cells);
                 *self.machine.saved_mut() = fresh_saved(saved);
                 self.entity_cells = fresh(entity_cells, |i| i.wrapping_mul(7));
-                return None;
             }
-            Call::Poke(offset, byte) => {
+            Change::Poke(offset, byte) => {
                 if let Some(place) = self.machine.program_mut().get_mut(offset) {
                     *place = byte;
                     self.program[offset] = byte;
                 }
-                return None;
             }
-            Call::File(length) => {
+            Change::File(length) => {
                 if self.program.len() < length {
                     self.program.resize(length, 0);
                 }
                 *self.machine.program_mut() = self.program[..length].to_vec();
-                return None;
             }
-            _ => {}
         }
+    }
+
+    /// What a call answers and leaves, in words.
+    fn call(&mut self, call: Call) -> String {
         if !self.machine.loaded() && !matches!(call, Call::Load(_)) {
-            return Some("no state".to_string());
+            return "no state".to_string();
         }
         let answer = operate(&mut self.machine, call);
-        Some(format!("{answer} | {}", self.state()))
+        format!("{answer} | {}", self.state())
     }
 
     /// Position, function, depth, saved and the four digests.
@@ -156,7 +165,6 @@ fn operate(machine: &mut Machine, call: Call) -> String {
             };
             format!("{word} {}", run.count)
         }
-        Call::Lend(..) | Call::Poke(..) | Call::File(..) => String::new(),
     }
 }
 
@@ -183,17 +191,24 @@ fn digest_of(numbers: &[u32]) -> String {
     digest(numbers.iter().flat_map(|number| number.to_le_bytes()))
 }
 
-/// A call from its line, or nothing where the line is none.
-fn parse(line: &str) -> Option<Call> {
+/// What a line says, or nothing where it is no call.
+fn parse(line: &str) -> Option<Line> {
     let words: Vec<&str> = line.split_whitespace().collect();
-    Some(match words[..] {
-        ["lend", cells, saved, entity_cells] => Call::Lend(
+    let change = match words[..] {
+        ["lend", cells, saved, entity_cells] => Change::Lend(
             cells.parse().ok()?,
             saved.parse().ok()?,
             entity_cells.parse().ok()?,
         ),
-        ["poke", offset, byte] => Call::Poke(offset.parse().ok()?, byte.parse().ok()?),
-        ["file", length] => Call::File(length.parse().ok()?),
+        ["poke", offset, byte] => Change::Poke(offset.parse().ok()?, byte.parse().ok()?),
+        ["file", length] => Change::File(length.parse().ok()?),
+        _ => return parse_call(&words).map(Line::Call),
+    };
+    Some(Line::Change(change))
+}
+
+fn parse_call(words: &[&str]) -> Option<Call> {
+    Some(match *words {
         ["load", entities] => Call::Load(entities.parse().ok()?),
         ["enter", function] => Call::Enter(function.parse().ok()?),
         ["statement"] => Call::Statement,
@@ -216,12 +231,13 @@ pub fn replay(program: Vec<u8>, input: impl BufRead, mut output: impl Write) -> 
         if line.is_empty() || line.starts_with('#') {
             continue;
         }
-        let Some(call) = parse(line) else {
-            let message = format!("line {} is no call: {line}", number + 1);
-            return Err(io::Error::new(io::ErrorKind::InvalidData, message));
-        };
-        if let Some(answer) = replay.perform(call) {
-            writeln!(output, "{line} => {answer}")?;
+        match parse(line) {
+            Some(Line::Change(change)) => replay.change(change),
+            Some(Line::Call(call)) => writeln!(output, "{line} => {}", replay.call(call))?,
+            None => {
+                let message = format!("line {} is no call: {line}", number + 1);
+                return Err(io::Error::new(io::ErrorKind::InvalidData, message));
+            }
         }
     }
     output.flush()

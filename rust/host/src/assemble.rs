@@ -1,5 +1,7 @@
 //! Program files made in Rust, for tests and examples.
 
+pub use crate::program::Function;
+
 /// The opcodes' names, by number.
 #[rustfmt::skip]
 pub const OPCODES: [&str; 66] = [
@@ -25,25 +27,6 @@ pub fn statement(name: &str, a: i16, b: i16, c: i16) -> [i16; 4] {
     let number = OPCODES.iter().position(|known| *known == name);
     let number = number.unwrap_or_else(|| panic!("there is no opcode {name}"));
     [number as i16, a, b, c]
-}
-
-/// A function record.
-#[derive(Clone, Debug, Default, PartialEq, Eq)]
-pub struct Function {
-    /// The first statement; a builtin's number with a minus.
-    pub first: i32,
-    /// The first local cell.
-    pub local: i32,
-    /// The number of local cells.
-    pub locals: i32,
-    /// The name's place in the strings.
-    pub name: i32,
-    /// The source file's place in the strings.
-    pub source: i32,
-    /// The number of arguments. Compilers write -1 for builtins.
-    pub arguments: i32,
-    /// The number of cells of each argument.
-    pub sizes: [u8; 8],
 }
 
 /// A file in the making.

@@ -9,7 +9,7 @@ const FUNCTIONS: usize = 32;
 const STRINGS: usize = 40;
 
 /// A function record.
-#[derive(Clone, Copy, Debug, PartialEq, Eq, Hash)]
+#[derive(Clone, Copy, Debug, Default, PartialEq, Eq, Hash)]
 pub struct Function {
     /// The first statement; a builtin's number with a minus.
     pub first: i32,
@@ -60,6 +60,7 @@ pub struct Definition {
 /// assert_eq!(program.function(1).map(|function| function.first), Some(3));
 /// assert_eq!(program.find_definition_by_name("worldspawn").map(|def| (def.kind, def.cell)), Some((2, 40)));
 /// assert_eq!(program.text(i64::from(text)), Some(&b"caf\xe9"[..]));
+/// assert_eq!(program.find_text(b"caf\xe9"), Some(i64::from(text)));
 /// assert_eq!(program.text(-1), None);
 /// ```
 #[derive(Clone, Copy, Debug)]
@@ -145,15 +146,33 @@ impl<'a> Program<'a> {
 
     /// The text of a string number: the bytes from there to a zero byte or to the end of the strings.
     pub fn text(&self, number: i64) -> Option<&'a [u8]> {
-        let offset = usize::try_from(self.header(STRINGS)?).ok()?;
-        let strings = self
-            .bytes
-            .get(offset..offset.checked_add(self.count(STRINGS))?)?;
-        let rest = strings.get(usize::try_from(number).ok()?..)?;
+        let rest = self.strings()?.get(usize::try_from(number).ok()?..)?;
         if rest.is_empty() {
             return None;
         }
         rest.split(|byte| *byte == 0).next()
+    }
+
+    /// The first string number with a text, the end of a longer text included, as `StringTable::find` of the Rust means
+    /// it.
+    ///
+    /// One that isn't there can't be added: a file of another length is refused 13.
+    pub fn find_text(&self, text: impl AsRef<[u8]>) -> Option<i64> {
+        let (strings, text) = (self.strings()?, text.as_ref());
+        let ends = |end: usize| strings.get(end).is_none_or(|byte| *byte == 0);
+        if text.contains(&0) {
+            return None;
+        }
+        let mut places = 0..strings.len();
+        let found = places.find(|at| strings[*at..].starts_with(text) && ends(at + text.len()));
+        found.map(|at| at as i64)
+    }
+
+    /// All strings, one after the other.
+    fn strings(&self) -> Option<&'a [u8]> {
+        let offset = usize::try_from(self.header(STRINGS)?).ok()?;
+        self.bytes
+            .get(offset..offset.checked_add(self.count(STRINGS))?)
     }
 
     fn definitions_in(self, part: usize) -> impl Iterator<Item = Definition> + 'a {
@@ -221,6 +240,11 @@ impl Machine {
     /// The first definition of a cell with a name.
     pub fn find_definition_by_name(&self, name: impl AsRef<[u8]>) -> Option<Definition> {
         self.records().find_definition_by_name(name)
+    }
+
+    /// The first string number with a text.
+    pub fn find_text(&self, text: impl AsRef<[u8]>) -> Option<i64> {
+        self.records().find_text(text)
     }
 
     /// The text of a string number, as bytes.

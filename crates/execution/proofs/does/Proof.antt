@@ -36,7 +36,7 @@ execute-requires c κs =
     let a = fetch-accepts _ (s .args .pc) _ _ (sym (c .before .before .fetched2 .given .1) ∙ (rw (toZ-ofZ g) at (f .fetch .ensures))) in
     let n = length-records (readStatement (s .args .file .now)) 8 (s .args .nstatements) (s .args .statements) in
     let l = lump-fitting 8 _ (lump (s .args .statements) (s .args .nstatements)) (s .pre .0) in
-    (s .pre .1, s .pre .2, s .pre .3, omega (arith, a .there, n, l .count), a .opcode)
+    (s .pre .1, s .pre .2, s .pre .3, s .pre .4, omega (arith, a .there, n, l .count), a .opcode)
 
 same-length : tie.Need-same-length
 same-length c = search needs

@@ -89,7 +89,7 @@ add-completed c = omega (arith, c .loop-test .taken, c .before .before .before .
 does-requires : tie.Need-does-requires Inv-loop μ-loop
 does-requires c κs =
     let w = c .before .before .before .before .before .before .before .before .before .before .before .before .pre .0 in
-    (w .loaded .lumps .statements, defs-fit _ _ (w .loaded), w .loaded .lumps .functions, omega (arith, w .lent, c .before .before .before .loop .inv .0 .0 .0 .0))
+    (w .loaded .lumps .statements, defs-fit _ _ (w .loaded), w .loaded .lumps .functions, omega (arith, w .lent, c .before .before .before .loop .inv .0 .0 .0 .0), w .most)
 
 enum-known-done : tie.Need-enum-known-done Inv-loop μ-loop
 enum-known-done c = search needs

@@ -16,7 +16,7 @@ use Rattle.server.proofs.step.Tie as tie
 does-requires : tie.Need-does-requires
 does-requires c κs =
     let w = c .before .before .before .before .before .before .before .before .before .before .pre in
-    (w .loaded .lumps .statements, defs-fit _ _ (w .loaded), w .loaded .lumps .functions, w .lent)
+    (w .loaded .lumps .statements, defs-fit _ _ (w .loaded), w .loaded .lumps .functions, w .lent, w .most)
 
 perform-requires : tie.Need-perform-requires
 perform-requires c κs =

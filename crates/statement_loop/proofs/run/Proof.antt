@@ -42,7 +42,7 @@ run-spec =
     (λ c. search needs)
     (λ c. search needs)
     (λ c. search needs)
-    (λ c κs. (omega arith, refl, search needs, omega arith, ltb-true _ _ (sym (c .before .before .before .before .before .is-opcode .ensures) ∙ unnot _ (c .before .before .before .before .if1 .left))))
+    (λ c κs. (omega arith, refl, search needs, omega arith, omega arith, ltb-true _ _ (sym (c .before .before .before .before .before .is-opcode .ensures) ∙ unnot _ (c .before .before .before .before .if1 .left))))
     (λ c. search needs)
     (λ c κs. search needs)
     (λ c. search needs)

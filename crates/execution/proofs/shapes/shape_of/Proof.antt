@@ -1,22 +1,19 @@
-use mathlib.Core.Path.{refl, sym, _∙_}
+use mathlib.Core.Path.{refl}
 use mathlib.Core.Bool.{true, false}
 use mathlib.Core.List.{[], _∷_}
-use borrow.Author.Needs.{needs}
 use Rattle.definition.specs.Statements.{opcodes, shapeOf}
-use Rattle.floats.specs.Opcodes.{floatOp, valueOp, componentOp, dotOp, notOp}
+use Rattle.floats.specs.Opcodes.{valueOp, componentOp, dotOp, notOp}
 use Rattle.execution.specs.declared.shapes.CellOp.the-variants.{Values, Vectors, Dots, Strings, Nots, NotV, NotS, Stores, StoreV}
 use Rattle.execution.specs.declared.shapes.Shape.the-variants.{Cells, Branch, Goto, Call, Return, Host}
-use Rattle.execution.proofs.Opcodes.{floats-are, at, rest}
+use Rattle.execution.proofs.Opcodes.{at, rest}
 use Rattle.execution.proofs.shapes.shape_of.Statement.{statement}
 use Rattle.execution.proofs.shapes.shape_of.Tie as tie
 
 pub shape-of-spec : {M : Type 1} → statement M
-unfolding floatOp valueOp componentOp dotOp notOp opcodes shapeOf
+unfolding valueOp componentOp dotOp notOp opcodes shapeOf
 shape-of-spec =
     tie.close
     (tie.spec
-    (λ c κs. search needs)
-    (λ c. floats-are (c .before .before .args .op) (sym (c .before .is-floats .ensures) ∙ c .if1 .taken))
     (λ c. at Return 0 _ (c .match .keys1) refl)
     (λ c. at (Cells Dots) 2 _ (c .match .keys2) refl)
     (λ c. at (Cells (Vectors 2 3)) 3 _ (c .match .keys3) refl)
@@ -55,4 +52,4 @@ shape-of-spec =
     (λ c. at Call 58 _ (c .match .keys36) refl)
     (λ c. at Call 59 _ (c .match .keys37) refl)
     (λ c. at Goto 61 _ (c .match .keys38) refl)
-    (λ c. rest (0 ∷ 2 ∷ 3 ∷ 4 ∷ 7 ∷ 9 ∷ 11 ∷ 12 ∷ 13 ∷ 14 ∷ 16 ∷ 17 ∷ 18 ∷ 19 ∷ 31 ∷ 32 ∷ 33 ∷ 34 ∷ 35 ∷ 36 ∷ 43 ∷ 44 ∷ 45 ∷ 46 ∷ 47 ∷ 48 ∷ 49 ∷ 50 ∷ 51 ∷ 52 ∷ 53 ∷ 54 ∷ 55 ∷ 56 ∷ 57 ∷ 58 ∷ 59 ∷ 61 ∷ []) (c .before .before .before .args .op) (c .before .before .before .pre) (sym (c .before .before .is-floats .ensures) ∙ c .before .if1 .left) refl (c .match .rest)))
+    (λ c. rest (0 ∷ 2 ∷ 3 ∷ 4 ∷ 7 ∷ 9 ∷ 11 ∷ 12 ∷ 13 ∷ 14 ∷ 16 ∷ 17 ∷ 18 ∷ 19 ∷ 31 ∷ 32 ∷ 33 ∷ 34 ∷ 35 ∷ 36 ∷ 43 ∷ 44 ∷ 45 ∷ 46 ∷ 47 ∷ 48 ∷ 49 ∷ 50 ∷ 51 ∷ 52 ∷ 53 ∷ 54 ∷ 55 ∷ 56 ∷ 57 ∷ 58 ∷ 59 ∷ 61 ∷ []) (c .before .args .op) (c .before .pre .0) (c .before .pre .1) refl (c .match .rest)))

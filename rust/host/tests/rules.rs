@@ -1,0 +1,112 @@
+//! The rule files of tests/rules, compiled by fteqcc: each function of expected.txt, whose answers are the model's, and two stories of a
+//! host. tests/rules/README.md has the format.
+
+use std::fs;
+use std::path::{Path, PathBuf};
+
+use host::{Cause, Handover, Machine, Refusal, RunOutcome, CELLS, SAVED_STORE};
+
+fn rules() -> PathBuf {
+    Path::new(env!("CARGO_MANIFEST_DIR")).join("../../tests/rules")
+}
+
+fn loaded(name: &str) -> Machine {
+    let program = fs::read(rules().join(name)).unwrap();
+    let mut machine = Machine::new(program, vec![0; CELLS], vec![0; SAVED_STORE]);
+    machine.load().unwrap();
+    machine
+}
+
+fn function(machine: &Machine, name: &str) -> i64 {
+    machine.find_function_by_name(name).unwrap()
+}
+
+/// `CELL=VALUE`, if a word is that.
+fn cell(word: &str) -> Option<(i64, u32)> {
+    let (cell, value) = word.split_once('=')?;
+    Some((
+        cell.parse().unwrap(),
+        u32::from_str_radix(value, 16).unwrap(),
+    ))
+}
+
+fn outcome(run: RunOutcome) -> String {
+    match run {
+        RunOutcome::Ended => "ended".to_string(),
+        RunOutcome::Spent => "spent".to_string(),
+        RunOutcome::Refused(refusal) => format!("refused:{}", refusal.number()),
+        RunOutcome::HandedOver(Handover::Builtin(number)) => format!("builtin:{number}"),
+        RunOutcome::HandedOver(Handover::Opcode(number)) => format!("opcode:{number}"),
+    }
+}
+
+#[test]
+fn functions_answer_as_the_model_does() {
+    let expected = fs::read_to_string(rules().join("expected.txt")).unwrap();
+    for row in expected.lines() {
+        let words: Vec<&str> = row.split(' ').collect();
+        let arguments: Vec<_> = words[2..].iter().map_while(|word| cell(word)).collect();
+        let rest = &words[2 + arguments.len()..];
+        let mut machine = loaded(words[0]);
+        for (address, value) in arguments {
+            machine.write(address, value).unwrap();
+        }
+        let number = function(&machine, words[1]);
+        machine.enter(number).unwrap();
+        let run = machine.run(0, 99_999);
+        assert_eq!(outcome(run.outcome), rest[0], "{row}");
+        assert_eq!(run.count.to_string(), rest[1], "{row}");
+        for (address, value) in rest[2..].iter().filter_map(|word| cell(word)) {
+            assert_eq!(machine.read(address), Ok(value), "cell {address}: {row}");
+        }
+    }
+    assert!(expected.lines().count() >= 20);
+}
+
+/// Tosses with a host whose coin gives `coin`: the side that kicks off, and what was printed.
+fn toss(coin: f32) -> (f32, String) {
+    let mut machine = loaded("toss.dat");
+    let number = function(&machine, "toss");
+    let mut printed = Vec::new();
+    let count = machine.call(number, 99_999, |handover, machine| match handover {
+        Handover::Builtin(7) => machine.write_float(1, coin),
+        Handover::Builtin(23) => {
+            let text = i64::from(machine.read(4)?);
+            printed.extend_from_slice(machine.text(text).unwrap());
+            Ok(())
+        }
+        other => panic!("{other:?}"),
+    });
+    // AddF, StoreF, StoreF; Ge, IfNot, EqF, IfNot, StoreV, Return; and a Goto where the home side kicks off, a StoreF where the guests do
+    assert_eq!(count, Ok(10));
+    let side = machine.read_float(1).unwrap();
+    (side, String::from_utf8(printed).unwrap())
+}
+
+#[test]
+fn the_host_tosses() {
+    assert_eq!(toss(0.25), (1.0, "The home side kicks off.\n".to_string()));
+    assert_eq!(toss(0.75), (2.0, "The guests kick off.\n".to_string()));
+}
+
+#[test]
+fn a_match_ends_after_refused_calls() {
+    let mut machine = loaded("referee.dat");
+    let goal = function(&machine, "goal");
+    let appeal = function(&machine, "appeal");
+    let end_of_match = function(&machine, "end_of_match");
+    let no_host = |handover: Handover, _: &mut Machine| Err::<(), Handover>(handover);
+    for _ in 0..100 {
+        let error = machine.call(goal, 99_999, no_host).unwrap_err();
+        assert_eq!(error.cause, Cause::Refused(Refusal::new(16)));
+        assert_eq!((error.count, machine.depth()), (2, 0));
+    }
+    let error = machine.call(appeal, 99_999, no_host).unwrap_err();
+    assert_eq!(error.cause, Cause::Refused(Refusal::new(22)));
+    assert_eq!((error.count, machine.depth()), (92, 0));
+    assert_eq!(machine.call(end_of_match, 99_999, no_host), Ok(4));
+    let result: Vec<f32> = (1..4)
+        .map(|cell| machine.read_float(cell).unwrap())
+        .collect();
+    assert_eq!(result, [100.0, 0.0, 31.0]);
+}
