@@ -53,9 +53,21 @@ for build in release debug; do
         "$run" $what || bad=1
     done
 done
+
+echo
+echo "== release build: sample =="
+sample=$(mktemp)
+trap 'rm -f "$sample"' EXIT
+"${CARGO_TARGET_DIR:-target}/release/differential" sample "$sample"
+if cmp "$sample" ../../tests/oracle/sample.txt; then
+    echo "tests/oracle/sample.txt is this sample"
+else
+    bad=1
+fi
+
 echo
 if [ $bad = 0 ]; then
-    echo "unexplained 0 in both builds; facts and story as expected"
+    echo "unexplained 0 in both builds; facts, story and sample as expected"
 else
     echo "NOT AS EXPECTED: see above"
 fi
