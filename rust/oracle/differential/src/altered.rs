@@ -1,0 +1,60 @@
+//! Whether the comparison would find a wrong machine: one thing in this machine's results is altered, and the verdict must be a
+//! difference. Runs that the changed Rust ends and that compare equal are altered.
+
+use crate::compare::Verdict;
+use crate::generate;
+use crate::ours::{Answer, Left};
+use crate::program::View;
+use crate::random::Random;
+use crate::report::{grouped, Counts};
+use crate::runs;
+
+/// What is altered, by name.
+const ALTERATIONS: [&str; 7] = ["answer", "count of statements", "position", "function", "depth", "a cell", "a cell past the file's count"];
+
+fn alter(r: &mut Random, which: usize, left: &mut Left) {
+    match which {
+        0 => left.answer = Answer::Refused(14),
+        1 => left.count += 1,
+        2 => left.position += 1,
+        3 => left.function += 1,
+        4 => {
+            left.depth += 1;
+            left.frames.push((0, 0));
+        }
+        5 => {
+            let cell = r.below(left.cells.len());
+            left.cells[cell] ^= 1 << r.below(32);
+        }
+        _ => left.rest_untouched = false,
+    }
+}
+
+/// Whether all were found.
+pub fn run(seed: u64, count: u64) -> bool {
+    let (mut found, mut missed) = (Counts::default(), Counts::default());
+    for number in 0..count {
+        let case = generate::case(seed, number);
+        // Without texts for names the count can be unknown.
+        if runs::reserves_too_much(&case.bytes) || !runs::names_are_texts(&View(&case.bytes)) {
+            continue;
+        }
+        let mut performed = runs::perform(&case);
+        let ended = matches!(performed.calls.last(), Some(left) if left.answer == Answer::Ended);
+        if !ended || runs::changed(&case, &performed).last() != Some(&Verdict::Same { traces: false }) {
+            continue;
+        }
+        let mut r = Random::new(seed ^ 0xa17e, number);
+        let which = r.below(ALTERATIONS.len());
+        let last = performed.calls.len() - 1;
+        alter(&mut r, which, &mut performed.calls[last]);
+        match runs::changed(&case, &performed).last() {
+            Some(Verdict::Differs(_)) => found.add(ALTERATIONS[which]),
+            _ => missed.add(ALTERATIONS[which]),
+        }
+    }
+    println!("{} programs, results of this machine altered in one thing", grouped(count));
+    found.print("found:");
+    missed.print("missed:");
+    found.total() > 0 && missed.total() == 0
+}

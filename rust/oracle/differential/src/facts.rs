@@ -1,0 +1,415 @@
+//! The smallest input of each class of difference, run by the unchanged Rust and here. Each line of docs/DIFFERENCES.md that says what the
+//! Rust does is one of these; a line that comes out otherwise fails.
+
+use crate::classes::Class;
+use crate::oracle::{self, End, Variant};
+use crate::ours::{Answer, Ours};
+use crate::program::{Function, Program, View};
+
+/// What both must give: the end, and one cell after it.
+struct Fact {
+    name: &'static str,
+    bytes: Vec<u8>,
+    calls: Vec<usize>,
+    /// The start of the text that the Rust's end is printed as.
+    rust: &'static str,
+    here: &'static str,
+    /// A cell that is printed, with what it must be in the Rust and here.
+    cell: Option<(usize, u32, u32)>,
+}
+
+pub fn run() -> bool {
+    let lists = [named(), rust_decides(), overflows(), at_once(), by_design(), panics(), floats(), texts(), loads()];
+    let mut good = true;
+    for fact in lists.iter().flatten() {
+        good &= check(fact);
+    }
+    good & positions() & reserved()
+}
+
+/// Function 1 at statement 1, without locals.
+fn program(statements: &[[i16; 4]], cells: &[(usize, u32)]) -> Program {
+    let mut program = Program::new(64);
+    program.statements.extend(statements);
+    program.functions.push(Function { first: 1, ..Function::default() });
+    for &(cell, value) in cells {
+        program.cells[cell] = value;
+    }
+    program
+}
+
+fn fact(name: &'static str, program: &Program, rust: &'static str, here: &'static str, cell: Option<(usize, u32, u32)>) -> Fact {
+    Fact { name, bytes: program.bytes(), calls: vec![1], rust, here, cell }
+}
+
+const DONE: [i16; 4] = [0; 4];
+const ONE: u32 = 0x3f80_0000;
+
+fn named() -> Vec<Fact> {
+    let mut arguments = program(&[DONE], &[(4, 10), (7, 20)]);
+    arguments.functions[1] = Function { first: 1, local: 40, argc: 2, sizes: [1, 1, 0, 0, 0, 0, 0, 0], ..Function::default() };
+    let mut missing = arguments.clone();
+    missing.functions[1].local = 63;
+    let cells = [(30, 1), (31, 2), (32, 3)];
+    vec![
+        fact("argument copying: two arguments of one cell", &arguments, "ends", "ended", Some((40, 20, 10))),
+        fact("argument copying: the second cell is missing", &missing, "ends", "refused 15", None),
+        fact("Return: Return 30 0 0", &program(&[[43, 30, 0, 0]], &cells), "ends", "ended", Some((2, 0, 2))),
+        fact("Return: Return 62 0 0 of 64 cells", &program(&[[43, 62, 0, 0]], &[]), "ends", "refused 15", None),
+        fact("Return: Return 30 -1 0", &program(&[[43, 30, -1, 0]], &cells), "error Globals error: Invalid address (-1)", "ended", None),
+        fact("NotV: NotV 28 0 31", &program(&[[45, 28, 0, 31], DONE], &[]), "ends", "ended", Some((33, ONE, 0))),
+        fact(
+            "NotV: NotV 28 0 63 of 64 cells",
+            &program(&[[45, 28, 0, 63], DONE], &[]),
+            "panics: a cell number equal to the count",
+            "ended",
+            Some((63, ONE, ONE)),
+        ),
+    ]
+}
+
+/// The same in both.
+fn rust_decides() -> Vec<Fact> {
+    const MINUS_0: u32 = 0x8000_0000;
+    let mut typed = program(&[[6, 28, 29, 30], DONE], &[]);
+    typed.globaldefs.push((1, 28, 0));
+    let minus_0 = [(28, MINUS_0), (29, MINUS_0), (30, MINUS_0), (31, ONE), (32, ONE), (33, ONE)];
+    let overlap = [(40, ONE), (41, ONE), (42, ONE), (28, ONE), (29, ONE), (30, ONE)];
+    let two = 2.0_f32.to_bits();
+    vec![
+        fact("types: AddF 28 29 30, cell 28 a string", &typed, "error Globals error: type check failed", "refused 16", None),
+        fact(
+            "unused operands: StoreF 28 29 1",
+            &program(&[[31, 28, 29, 1], DONE], &[]),
+            "error Globals error: Nonzero arg3",
+            "refused 18",
+            None,
+        ),
+        fact("branch tests: If 28 5 0 on -0 goes on", &program(&[[49, 28, 5, 0], DONE], &[(28, MINUS_0)]), "ends", "ended", None),
+        fact(
+            "strings by number: EqS 28 29 30 of 1 and 3, same text",
+            &{
+                let mut equal = program(&[[12, 28, 29, 30], DONE], &[(28, 1), (29, 3)]);
+                equal.strings = b"\0a\0a\0".to_vec();
+                equal
+            },
+            "ends",
+            "ended",
+            Some((30, 0, 0)),
+        ),
+        fact("NotS: NotS 0 0 30 with 5 in cell 0", &program(&[[46, 0, 0, 30], DONE], &[(0, 5)]), "ends", "ended", Some((30, ONE, ONE))),
+        fact(
+            "dot product: MulV of three -0 and three 1.0",
+            &program(&[[2, 28, 31, 34], DONE], &minus_0),
+            "ends",
+            "ended",
+            Some((34, 0, 0)),
+        ),
+        fact("overlap: AddV 40 28 41", &program(&[[7, 40, 28, 41], DONE], &overlap), "ends", "ended", Some((42, two, two))),
+        fact("overlap: StoreV 40 41 0", &program(&[[32, 40, 41, 0], DONE], &[(40, 7)]), "ends", "ended", Some((43, 7, 7))),
+        fact(
+            "saturation: BitAnd of 2147483648.0 and 1.0",
+            &program(&[[64, 28, 29, 30], DONE], &[(28, 0x4f00_0000), (29, ONE)]),
+            "ends",
+            "ended",
+            Some((30, ONE, ONE)),
+        ),
+    ]
+}
+
+/// Where the debug build checks sums, and the release build wraps.
+fn overflows() -> Vec<Fact> {
+    let debug = cfg!(debug_assertions);
+    let either = |in_debug, in_release| if debug { in_debug } else { in_release };
+    const SUM: &str = "panics: a sum over the type's range (debug build)";
+    let mut vector = program(&[[7, 32_766, 28, 31], DONE], &[]);
+    vector.cells.resize(32_768, 0);
+    let mut locals = program(&[[51, 28, 0, 0], DONE], &[(28, 2)]);
+    locals.functions[1].locals = 1;
+    locals.functions.push(Function { locals: -1, ..Function::default() });
+    let mut first = program(&[DONE], &[]);
+    first.functions[1].first = i32::MIN;
+    vec![
+        fact("32,768 cells, AddV 32766 28 31", &vector, either(SUM, "error Globals error: Invalid address (-32768)"), "refused 15", None),
+        fact(
+            "one cell saved, then a Call of a function with -1 locals",
+            &locals,
+            either(SUM, "panics: a cell number equal to the count"),
+            "refused 23",
+            None,
+        ),
+        fact(
+            "first statement -2147483648",
+            &first,
+            either("load panics: a sum over", "load error Invalid built-in function ID"),
+            "load refused 5",
+            None,
+        ),
+    ]
+}
+
+/// Two things wrong at once: both refuse, by another number.
+fn at_once() -> Vec<Fact> {
+    const MISSING: &str = "error Globals error: Invalid address (65)";
+    let mut order = program(&[DONE], &[]);
+    order.functions[1] = Function { first: 1, local: 65, argc: 9, sizes: [1, 0, 0, 0, 0, 0, 0, 0], ..Function::default() };
+    let mut negative = program(&[[51, 28, 0, 0], DONE], &[(28, 2)]);
+    negative.functions[1].locals = 1;
+    negative.functions.push(Function { local: 65, locals: -1, ..Function::default() });
+    let in_either_build = if cfg!(debug_assertions) { "panics: a sum over" } else { MISSING };
+    let string = program(&[[33, 28, 65, 0], DONE], &[(28, u32::MAX)]);
+    vec![
+        fact("-1 locals while a cell is saved, first local cell missing", &negative, in_either_build, "refused 23", None),
+        fact("StoreS 28 65 0 of ffffffff", &string, MISSING, "refused 17", None),
+        fact("argument count 9 and a missing argument cell", &order, MISSING, "refused 24", None),
+    ]
+}
+
+fn by_design() -> Vec<Fact> {
+    let mut traces = program(&[[7, 28, 31, 34], DONE], &[(28, ONE)]);
+    traces.globaldefs.push((1, 36, 0));
+    let mut wrapped = program(&[DONE], &[]);
+    wrapped.functions[1].local = 65_536 + 30;
+    wrapped.functions[1].locals = 1;
+    let mut function_0 = fact("host entry of function 0", &program(&[], &[]), "ends", "ended", None);
+    function_0.calls = vec![0];
+    let mut locals = program(&[DONE], &[]);
+    locals.functions[1].locals = 2_049;
+    let type_failed = "error Globals error: type check failed";
+    let undoes = "a refusal undoes: AddV 28 31 34, cell 36 a string";
+    let past = program(&[[6, 65, 28, 30]], &[]);
+    vec![
+        fact(undoes, &traces, type_failed, "refused 16", Some((34, ONE, 0))),
+        fact("a first local cell of 65,566, one local", &wrapped, "ends", "refused 15", None),
+        function_0,
+        fact("2,049 locals", &locals, "error Local stack overflow", "refused 23", None),
+        fact("a cell past the count: AddF 65 28 30", &past, "error Globals error: Invalid address (65)", "refused 15", None),
+    ]
+}
+
+fn panics() -> Vec<Fact> {
+    let mut builtin = program(&[], &[]);
+    builtin.functions[1].first = -1;
+    let mut arguments = program(&[DONE], &[]);
+    arguments.functions[1].argc = 9;
+    let equal = program(&[[6, 64, 28, 30]], &[]);
+    vec![
+        fact("Call of function 0", &program(&[[51, 28, 0, 0]], &[]), "panics: Call of function 0", "refused 19", None),
+        fact("host entry of a builtin", &builtin, "panics: host entry of a builtin", "refused 21", None),
+        fact("argument count 9", &arguments, "panics: argument count outside 0 to 8", "refused 24", None),
+        fact("a cell equal to the count: AddF 64 28 30", &equal, "panics: a cell number equal to the count", "refused 15", None),
+        fact("no statement: Goto 5", &program(&[[61, 5, 0, 0]], &[]), "panics: no statement at the position", "refused 14", None),
+        fact("Goto 0, for ever", &program(&[[61, 0, 0, 0]], &[]), "panics: the 100,000th statement", "spent", None),
+    ]
+}
+
+fn floats() -> Vec<Fact> {
+    let quotient = |more: &[[i16; 4]]| {
+        let mut statements = vec![[5, 28, 28, 30]];
+        statements.extend(more);
+        statements.push(DONE);
+        program(&statements, &[])
+    };
+    let payload = program(&[[6, 28, 29, 30], DONE], &[(28, 0x7fa0_0001), (29, ONE)]);
+    let stored = program(&[[31, 28, 30, 0], DONE], &[(28, 0x7fa0_0001)]);
+    vec![
+        fact("NaN: 0.0/0.0", &quotient(&[]), "ends", "ended", Some((30, 0xffc0_0000, 0x7fc0_0000))),
+        fact("NaN: 7fa00001 + 1.0", &payload, "ends", "ended", Some((30, 0x7fe0_0001, 0x7fc0_0000))),
+        fact("NaN: StoreF moves bits in both", &stored, "ends", "ended", Some((30, 0x7fa0_0001, 0x7fa0_0001))),
+        fact(
+            "NaN read as an entity: 0.0/0.0, then NotEnt",
+            &quotient(&[[47, 30, 0, 31]]),
+            "error Globals error: Negative entity ID (-4194304)",
+            "ended",
+            None,
+        ),
+        fact(
+            "NaN read as a function: 0.0/0.0, then StoreFnc",
+            &quotient(&[[36, 30, 31, 0]]),
+            "panics: StoreFnc of a negative number",
+            "ended",
+            None,
+        ),
+        fact(
+            "StoreFnc of ffffffff",
+            &program(&[[36, 28, 29, 0], DONE], &[(28, u32::MAX)]),
+            "panics: StoreFnc of a negative number",
+            "ended",
+            Some((29, 0, u32::MAX)),
+        ),
+        fact(
+            "StoreS of ffffffff",
+            &program(&[[33, 28, 29, 0], DONE], &[(28, u32::MAX)]),
+            "panics: StoreS of a negative number",
+            "refused 17",
+            None,
+        ),
+        fact(
+            "StoreEnt of ffffffff",
+            &program(&[[34, 28, 29, 0], DONE], &[(28, u32::MAX)]),
+            "error Globals error: Negative entity ID (-1)",
+            "refused 17",
+            None,
+        ),
+    ]
+}
+
+fn texts() -> Vec<Fact> {
+    let called = |strings: &[u8], name: i32| {
+        let mut called = program(&[[51, 28, 0, 0], DONE, DONE], &[(28, 2)]);
+        called.strings = strings.to_vec();
+        called.functions.push(Function { first: 2, name, ..Function::default() });
+        called
+    };
+    vec![
+        fact(
+            "a called function's name without a zero byte",
+            &called(b"\0f", 1),
+            "panics: a name without a zero byte after it is converted",
+            "ended",
+            None,
+        ),
+        fact(
+            "a host-entered function's name without a zero byte, no log",
+            &{
+                let mut entered = program(&[DONE], &[]);
+                entered.strings = b"\0f".to_vec();
+                entered.functions[1].name = 1;
+                entered
+            },
+            "ends",
+            "ended",
+            None,
+        ),
+        fact(
+            "a called function's name within a character",
+            &called("\0é\0".as_bytes(), 2),
+            "panics: a name that begins or ends within a character is converted",
+            "ended",
+            None,
+        ),
+        fact(
+            "a called function's name with a character of two bytes",
+            &called("\0é\0".as_bytes(), 1),
+            "panics: a name that begins or ends within a character is converted",
+            "ended",
+            None,
+        ),
+        fact("a called function's name with two characters of two bytes", &called("\0éé\0".as_bytes(), 1), "ends", "ended", None),
+        fact("strings that aren't UTF-8", &called(b"\0\xff\0", 0), "load panics: load: the strings aren't UTF-8", "ended", None),
+    ]
+}
+
+fn loads() -> Vec<Fact> {
+    let whole = program(&[DONE], &[]);
+    let with = |at: usize, number: i32| {
+        let mut bytes = whole.bytes();
+        bytes[at..at + 4].copy_from_slice(&number.to_le_bytes());
+        bytes
+    };
+    let file = |name, bytes, rust, here| Fact { name, bytes, calls: vec![1], rust, here, cell: None };
+    let mut cells = whole.clone();
+    cells.cells.resize(32_769, 0);
+    let mut long = whole.bytes();
+    long.resize(1_048_577, 0);
+    let mut type_8 = whole.clone();
+    type_8.globaldefs.push((8, 28, 0));
+    vec![
+        file("version 7", with(0, 7), "load panics: load: the version isn't 6", "load refused 2"),
+        file("check number 5928", with(4, 5928), "load panics: load: the check number isn't 5927", "load refused 3"),
+        file(
+            "cells past the end of the file",
+            with(48, 9_999),
+            "load panics: load: a lump ends past the end of the file",
+            "load refused 4",
+        ),
+        file("functions past the end of the file", with(32, 9_999), "load error I/O error: failed to fill whole buffer", "load refused 4"),
+        file("-1 statements", with(12, -1), "load panics: load: a negative count, memory for it is asked", "load refused 4"),
+        file("an empty lump (fields) at offset -1", with(24, -1), "ends", "load refused 4"),
+        file("-1 cells per entity", with(56, -1), "ends", "load refused 11"),
+        file("104 cells per entity", with(56, 104), "load error Entity error: addr_count (104)", "load refused 11"),
+        file("32,769 cells", cells.bytes(), "ends", "load refused 10"),
+        file("1,048,577 bytes", long, "ends", "load refused 1"),
+        file("a definition of type 8", type_8.bytes(), "load panics: load: a definition's type is over 7", "load refused 8"),
+    ]
+}
+
+fn end_text(end: &End) -> String {
+    match end {
+        End::Done => "ends".into(),
+        End::Error(text) => format!("error {}", text),
+        End::Panic(panic) => format!("panics: {}", Class::of(panic).name()),
+    }
+}
+
+fn check(fact: &Fact) -> bool {
+    let count = View(&fact.bytes).cells();
+    let (rust, rusts_cells) = match oracle::load(Variant::Unchanged, &fact.bytes) {
+        Err(end) => (format!("load {}", end_text(&end)), Vec::new()),
+        Ok(mut level) => {
+            let seen = oracle::call(&mut *level, count, false, |l| l.execute_program(fact.calls[0]));
+            (end_text(&seen.end), seen.cells)
+        }
+    };
+    let (here, cells) = match Ours::load(&fact.bytes) {
+        Err(number) => (format!("load {}", Answer::Refused(number)), Vec::new()),
+        Ok(mut ours) => {
+            let left = ours.execute(fact.calls[0]);
+            (left.answer.to_string(), left.cells)
+        }
+    };
+    let values = fact.cell.map(|(cell, ..)| (rusts_cells.get(cell).copied(), cells.get(cell).copied()));
+    let expected = fact.cell.map(|(_, rust, here)| (Some(rust), Some(here)));
+    let good = rust.starts_with(fact.rust) && here == fact.here && values == expected;
+    let shown = match (fact.cell, values) {
+        (Some((cell, ..)), Some((Some(rust), Some(here)))) => {
+            format!("; cell {}: Rust {:08x}, here {:08x}", cell, rust, here)
+        }
+        _ => String::new(),
+    };
+    let mark = if good { "" } else { "NOT AS EXPECTED " };
+    println!("{}{}: Rust {}; here {}{}", mark, fact.name, rust, here, shown);
+    good
+}
+
+/// A host entry's position, and what an entry at depth 31 leaves.
+fn positions() -> bool {
+    let bytes = program(&[DONE], &[]).bytes();
+    let mut level = oracle::load_whole(Variant::Unchanged, &bytes);
+    let mut ours = Ours::load(&bytes).expect("a whole file");
+    let seen = oracle::call(&mut *level, 64, false, |l| l.execute_program(1));
+    let left = ours.execute(1);
+    println!("position after a host entry that ended: Rust {}, here {}", seen.observed.pc, left.position);
+    let good = seen.observed.pc == 1 && left.position == 0;
+    let mut deep = oracle::load_whole(Variant::Unchanged, &bytes);
+    let mut depths = Vec::new();
+    for _ in 0..32 {
+        let seen = oracle::call(&mut *deep, 64, false, |l| l.enter_function(1));
+        depths.push((seen.end, seen.observed.frames.len(), ours.enter(1)));
+    }
+    let (end, depth, left) = &depths[31];
+    println!("entry at depth 31: Rust {}, depth {}; here {}, depth {}", end_text(end), depth, left.answer, left.depth);
+    good && *depth == 32 && left.answer == Answer::Refused(22) && left.depth == 31
+}
+
+/// The Rust reserves memory by a count; the process ends. In a process of its own.
+fn reserved() -> bool {
+    let mut bytes = program(&[DONE], &[]).bytes();
+    bytes[36..40].copy_from_slice(&i32::MAX.to_le_bytes());
+    let path = std::env::temp_dir().join(format!("differential-{}.dat", std::process::id()));
+    std::fs::write(&path, &bytes).expect("a temporary file");
+    let this = std::env::current_exe().expect("this program");
+    let output = (std::process::Command::new(this).arg("load").arg(&path)).output().expect("a process");
+    let _ = std::fs::remove_file(&path);
+    let here = Ours::load(&bytes).err();
+    let text = String::from_utf8_lossy(&output.stderr);
+    let line = text.lines().next().unwrap_or("").trim_end();
+    println!("2,147,483,647 functions: Rust {} (\"{}\"); here load refused {:?}", output.status, line, here);
+    !output.status.success() && here == Some(4)
+}
+
+/// For `reserved`: a load by the unchanged Rust, in this process.
+pub fn load(path: &str) -> bool {
+    let bytes = std::fs::read(path).expect("a file");
+    oracle::load(Variant::Unchanged, &bytes).is_ok()
+}

@@ -1,0 +1,697 @@
+//! Random program files. A program's number decides everything about it.
+
+use crate::program::{Function, Program};
+use crate::random::Random;
+
+/// How a file is made.
+#[derive(Clone, Copy, Debug, PartialEq, Eq, PartialOrd, Ord)]
+pub enum Kind {
+    /// Whole programs: functions that calculate, branch and call, with definitions that mostly fit.
+    Random,
+    /// Operands, local ranges, argument counts, depths and sizes at their limits.
+    Boundary,
+    /// One of the others with bytes changed, cut off or added.
+    Damaged,
+}
+
+pub const KINDS: [Kind; 3] = [Kind::Random, Kind::Boundary, Kind::Damaged];
+
+/// A file, and the functions that the host enters one after the other.
+pub struct Case {
+    pub kind: Kind,
+    pub bytes: Vec<u8>,
+    pub calls: Vec<usize>,
+}
+
+pub fn case(seed: u64, number: u64) -> Case {
+    let mut random = Random::new(seed, number);
+    let r = &mut random;
+    let kind = match r.below(10) {
+        0..=5 => Kind::Random,
+        6 | 7 => Kind::Boundary,
+        _ => Kind::Damaged,
+    };
+    let bytes = match kind {
+        Kind::Random => whole(r).bytes(),
+        Kind::Boundary => boundary(r).bytes(),
+        Kind::Damaged => damaged(r),
+    };
+    let calls = if r.percent(70) { vec![1] } else { (0..r.between(1, 3)).map(|_| r.pick(&[1, 1, 2, 0, 3, 9])).collect() };
+    Case { kind, bytes, calls }
+}
+
+// ---- values
+
+/// Float bits that arithmetic treats in different ways.
+const FLOATS: [u32; 20] = [
+    0x0000_0000, // 0
+    0x8000_0000, // -0
+    0x3f80_0000, // 1
+    0xbf80_0000, // -1
+    0x3fc0_0000, // 1.5
+    0x4010_0000, // 2.25
+    0x4040_0000, // 3
+    0xc0a0_0000, // -5
+    0x4b80_0000, // 16777216
+    0x4b80_0001, // 16777218
+    0x4f00_0000, // 2147483648
+    0xcf00_0000, // -2147483648
+    0x4eff_ffff, // 2147483520
+    0x7f7f_ffff, // the greatest
+    0x0080_0000, // the least normal
+    0x0000_0001, // the least
+    0x807f_ffff,
+    0x3eaa_aaab, // 1/3
+    0x501502f9,  // 1e10
+    0x42c80000,  // 100
+];
+const NOT_FINITE: [u32; 6] = [0x7f80_0000, 0xff80_0000, 0x7fc0_0000, 0xffc0_0000, 0x7fa0_0001, 0xffff_ffff];
+
+/// What a program is like.
+struct Style {
+    infinities: bool,
+    returns: Returns,
+    arguments: Arguments,
+    not_v: bool,
+    /// Percent of operands that are chosen without a look at the types.
+    careless: u32,
+    handed_over: bool,
+}
+
+#[derive(Clone, Copy, PartialEq)]
+enum Returns {
+    /// Three operands in a row: the Rust and pr_exec.c agree.
+    InARow,
+    /// As compilers write them.
+    FirstAlone,
+    Any,
+}
+
+#[derive(Clone, Copy, PartialEq)]
+enum Arguments {
+    None,
+    /// One cell: the Rust and pr_exec.c agree.
+    One,
+    Many,
+}
+
+fn style(r: &mut Random) -> Style {
+    Style {
+        infinities: r.percent(30),
+        returns: r.pick(&[Returns::InARow, Returns::InARow, Returns::FirstAlone, Returns::FirstAlone, Returns::Any]),
+        arguments: r.pick(&[Arguments::None, Arguments::None, Arguments::One, Arguments::Many]),
+        not_v: r.percent(40),
+        careless: r.pick(&[0, 0, 1, 3, 15]),
+        handed_over: r.percent(10),
+    }
+}
+
+fn float(r: &mut Random, style: &Style) -> u32 {
+    match r.below(10) {
+        0..=5 => r.pick(&FLOATS),
+        6 | 7 => (r.between(-8, 8) as f32).to_bits(),
+        8 if style.infinities => r.pick(&NOT_FINITE),
+        9 if style.infinities => r.next() as u32,
+        _ => ((r.between(-4000, 4000) as f32) / 16.0).to_bits(),
+    }
+}
+
+// ---- types of cells
+
+/// Types as in definitions; `UNTYPED` for a cell without one.
+const UNTYPED: u16 = 99;
+const STRING: u16 = 1;
+const FLOAT: u16 = 2;
+const VECTOR: u16 = 3;
+const ENTITY: u16 = 4;
+const FIELD: u16 = 5;
+const FUNCTION: u16 = 6;
+
+/// The types that the definitions give, and one that each cell is used as.
+struct Cells {
+    types: Vec<u16>,
+    uses: Vec<u16>,
+}
+
+impl Cells {
+    fn new(r: &mut Random, program: &mut Program, functions: usize, style: &Style) -> Cells {
+        let count = program.cells.len();
+        let share = r.pick(&[0, 0, 20, 60, 95]);
+        let mut cells = Cells { types: vec![UNTYPED; count], uses: vec![FLOAT; count] };
+        let mut cell = 28;
+        while cell < count {
+            let type_ = r.pick(&[FLOAT, FLOAT, FLOAT, FLOAT, VECTOR, VECTOR, STRING, ENTITY, FIELD, FUNCTION, FUNCTION]);
+            let width = if type_ == VECTOR { 3 } else { 1 };
+            cells.uses[cell] = type_;
+            if r.percent(share) {
+                cells.define(r, program, cell, type_);
+            }
+            for c in cell..(cell + width).min(count) {
+                program.cells[c] = cells.value(r, type_, functions, style);
+            }
+            cell += width;
+        }
+        if r.percent(5) {
+            let name = 0;
+            program.globaldefs.push((r.below(8) as u16, r.below(count + 4) as u16, name));
+        }
+        cells
+    }
+
+    fn define(&mut self, r: &mut Random, program: &mut Program, cell: usize, type_: u16) {
+        let flag = if r.percent(20) { 0x8000 } else { 0 };
+        program.globaldefs.push((type_ | flag, cell as u16, 0));
+        self.types[cell] = type_;
+        // Compilers define the first component of a vector once more, as a float.
+        if type_ == VECTOR && r.percent(50) {
+            program.globaldefs.push((FLOAT, cell as u16, 0));
+        } else if r.percent(3) {
+            program.globaldefs.push((r.below(8) as u16, cell as u16, 0));
+        }
+    }
+
+    fn value(&self, r: &mut Random, type_: u16, functions: usize, style: &Style) -> u32 {
+        match type_ {
+            STRING => r.pick(&[0, 1, 2, 3]) as u32,
+            ENTITY | FIELD if r.percent(3) => u32::MAX - r.below(3) as u32,
+            ENTITY | FIELD => r.below(5) as u32,
+            FUNCTION if r.percent(3) => r.pick(&[0, 77, u32::MAX, functions as u32]),
+            FUNCTION if r.percent(5) => 1,
+            // Mostly one of the later functions, so that calls don't go round for ever.
+            FUNCTION => (1 + r.below(functions - 1)).max(1 + r.below(functions - 1)) as u32,
+            _ => float(r, style),
+        }
+    }
+
+    /// A cell that may be read or written as the type.
+    fn operand(&self, r: &mut Random, want: u16, style: &Style) -> i16 {
+        let count = self.types.len();
+        if r.percent(style.careless) {
+            return if r.percent(50) { r.below(count) as i16 } else { edge(r, count) };
+        }
+        let width = if want == VECTOR { 3 } else { 1 };
+        for _ in 0..if want == FUNCTION { 60 } else { 12 } {
+            let cell = r.below(count - width + 1);
+            let fits = (0..width).all(|i| self.fits(cell + i, if want == VECTOR { FLOAT } else { want }));
+            if fits && (want == FLOAT || want == VECTOR || self.uses[cell] == want) {
+                return cell as i16;
+            }
+        }
+        r.below(28 - 2) as i16
+    }
+
+    fn fits(&self, cell: usize, want: u16) -> bool {
+        let type_ = self.types[cell];
+        type_ == UNTYPED || type_ == want || (type_ == VECTOR && want == FLOAT)
+    }
+}
+
+/// A cell number at a limit.
+fn edge(r: &mut Random, count: usize) -> i16 {
+    let count = count.min(32_768) as i64;
+    let cell = r.pick(&[
+        0,
+        1,
+        2,
+        3,
+        4,
+        26,
+        27,
+        28,
+        29,
+        count - 4,
+        count - 3,
+        count - 2,
+        count - 1,
+        count,
+        count + 1,
+        count + 2,
+        -1,
+        -2,
+        -3,
+        32_765,
+        32_766,
+        32_767,
+        -32_768,
+    ]);
+    cell as i16
+}
+
+// ---- whole programs
+
+/// The opcodes of statements that neither branch nor call, with the types of their operands.
+const SHAPES: [(i16, [u16; 3]); 37] = [
+    (1, [FLOAT, FLOAT, FLOAT]),
+    (2, [VECTOR, VECTOR, FLOAT]),
+    (3, [FLOAT, VECTOR, VECTOR]),
+    (4, [VECTOR, FLOAT, VECTOR]),
+    (5, [FLOAT, FLOAT, FLOAT]),
+    (6, [FLOAT, FLOAT, FLOAT]),
+    (7, [VECTOR, VECTOR, VECTOR]),
+    (8, [FLOAT, FLOAT, FLOAT]),
+    (9, [VECTOR, VECTOR, VECTOR]),
+    (10, [FLOAT, FLOAT, FLOAT]),
+    (11, [VECTOR, VECTOR, FLOAT]),
+    (12, [STRING, STRING, FLOAT]),
+    (13, [ENTITY, ENTITY, FLOAT]),
+    (14, [FUNCTION, FUNCTION, FLOAT]),
+    (15, [FLOAT, FLOAT, FLOAT]),
+    (16, [VECTOR, VECTOR, FLOAT]),
+    (17, [STRING, STRING, FLOAT]),
+    (18, [ENTITY, ENTITY, FLOAT]),
+    (19, [FUNCTION, FUNCTION, FLOAT]),
+    (20, [FLOAT, FLOAT, FLOAT]),
+    (21, [FLOAT, FLOAT, FLOAT]),
+    (22, [FLOAT, FLOAT, FLOAT]),
+    (23, [FLOAT, FLOAT, FLOAT]),
+    (31, [FLOAT, FLOAT, NONE]),
+    (32, [VECTOR, VECTOR, NONE]),
+    (33, [STRING, STRING, NONE]),
+    (34, [ENTITY, ENTITY, NONE]),
+    (35, [FIELD, FIELD, NONE]),
+    (36, [FUNCTION, FUNCTION, NONE]),
+    (44, [FLOAT, NONE, FLOAT]),
+    (46, [STRING, NONE, FLOAT]),
+    (47, [ENTITY, NONE, FLOAT]),
+    (48, [FUNCTION, NONE, FLOAT]),
+    (62, [FLOAT, FLOAT, FLOAT]),
+    (63, [FLOAT, FLOAT, FLOAT]),
+    (64, [FLOAT, FLOAT, FLOAT]),
+    (65, [FLOAT, FLOAT, FLOAT]),
+];
+const NOT_V: (i16, [u16; 3]) = (45, [VECTOR, NONE, FLOAT]);
+/// The operand isn't used and should be 0.
+const NONE: u16 = 98;
+
+struct Maker<'a> {
+    r: &'a mut Random,
+    style: Style,
+    cells: Cells,
+    functions: usize,
+}
+
+impl Maker<'_> {
+    fn operand(&mut self, want: u16) -> i16 {
+        if want == NONE {
+            return self.r.percent(self.style.careless / 3) as i16;
+        }
+        self.cells.operand(self.r, want, &self.style)
+    }
+
+    fn calculation(&mut self) -> [i16; 4] {
+        let shape = if self.style.not_v && self.r.percent(8) { NOT_V } else { self.r.pick(&SHAPES) };
+        let (opcode, [a, b, c]) = shape;
+        [opcode, self.operand(a), self.operand(b), self.operand(c)]
+    }
+
+    /// A branch, mostly forward.
+    fn branch(&mut self) -> [i16; 4] {
+        let by = match self.r.below(200) {
+            0 => self.r.between(-3, 0),
+            1..=3 => self.r.between(-40, 40),
+            _ => self.r.between(1, 3),
+        } as i16;
+        match self.r.below(3) {
+            0 => [61, by, 0, 0],
+            1 => [49, self.operand(FLOAT), by, 0],
+            _ => [50, self.operand(FLOAT), by, 0],
+        }
+    }
+
+    fn call(&mut self) -> [i16; 4] {
+        if self.cells.uses.contains(&FUNCTION) {
+            [51 + self.r.below(9) as i16, self.operand(FUNCTION), 0, 0]
+        } else {
+            self.calculation()
+        }
+    }
+
+    fn give_back(&mut self) -> [i16; 4] {
+        if self.r.percent(25) {
+            return [0, 0, 0, 0];
+        }
+        let a = self.operand(VECTOR);
+        match self.style.returns {
+            Returns::InARow => [43, a, a.wrapping_add(1), a.wrapping_add(2)],
+            Returns::FirstAlone => [43, a, 0, 0],
+            Returns::Any => [43, a, self.operand(FLOAT), self.operand(FLOAT)],
+        }
+    }
+
+    fn handed_over(&mut self) -> [i16; 4] {
+        let opcode = self.r.pick(&[24, 25, 26, 27, 28, 29, 30, 37, 38, 39, 40, 41, 42, 60]);
+        [opcode, self.operand(ENTITY), self.operand(FIELD), self.operand(FLOAT)]
+    }
+
+    fn statement(&mut self) -> [i16; 4] {
+        match self.r.below(20) {
+            0 | 1 => self.branch(),
+            2 | 3 => self.call(),
+            4 if self.style.handed_over && self.r.percent(30) => self.handed_over(),
+            5 if self.r.percent(20) => self.give_back(),
+            _ => self.calculation(),
+        }
+    }
+
+    /// Counts a cell down to 0: some statements, several times.
+    fn counted_loop(&mut self, program: &mut Program) {
+        let (counter, one) = (self.operand(FLOAT), self.operand(FLOAT));
+        for (cell, value) in [(counter, self.r.between(1, 60) as f32), (one, 1.0)] {
+            if let Some(cell) = program.cells.get_mut(cell as usize) {
+                *cell = value.to_bits();
+            }
+        }
+        let inner = self.r.between(0, 4);
+        for _ in 0..inner {
+            let statement = self.calculation();
+            program.statements.push(statement);
+        }
+        program.statements.push([8, counter, one, counter]);
+        program.statements.push([49, counter, -(inner as i16) - 1, 0]);
+    }
+
+    fn body(&mut self, program: &mut Program) {
+        let length = self.r.pick(&[1, 2, 3, 4, 6, 9, 14]);
+        for _ in 0..length {
+            if self.r.percent(2) {
+                self.counted_loop(program);
+            } else {
+                let statement = self.statement();
+                program.statements.push(statement);
+            }
+        }
+        let statement = self.give_back();
+        program.statements.push(statement);
+    }
+
+    fn function(&mut self, program: &mut Program) {
+        let count = program.cells.len() as i64;
+        let locals = self.r.pick(&[0, 0, 1, 2, 3, 5]);
+        let mut function = Function {
+            first: program.statements.len() as i32,
+            local: self.r.between(28, count - 6) as i32,
+            locals,
+            name: self.r.pick(&[0, 1, 3]),
+            source: 0,
+            ..Function::default()
+        };
+        arguments(self.r, self.style.arguments, &mut function);
+        program.functions.push(function);
+        self.body(program);
+    }
+}
+
+fn arguments(r: &mut Random, arguments: Arguments, function: &mut Function) {
+    match arguments {
+        Arguments::None => {}
+        Arguments::One => {
+            function.argc = 1;
+            function.sizes[0] = 1;
+        }
+        Arguments::Many => {
+            function.argc = r.between(0, 3) as i32;
+            for size in &mut function.sizes[..function.argc as usize] {
+                *size = r.pick(&[1, 1, 3, 0, 2]);
+            }
+        }
+    }
+}
+
+fn whole(r: &mut Random) -> Program {
+    let mut program = Program::new(r.pick(&[36, 40, 64, 64, 64, 100, 180]));
+    program.strings = b"\0main\0".to_vec();
+    if r.percent(3) {
+        program.strings = r.pick(&[&b"\0main"[..], &b"\0m\xc3\xa9in\0"[..], &b"\0m\xffin\0"[..]]).to_vec();
+    }
+    let functions = r.between(2, 6) as usize;
+    let style = style(r);
+    let cells = Cells::new(r, &mut program, functions, &style);
+    let mut maker = Maker { r, style, cells, functions };
+    for _ in 1..maker.functions {
+        maker.function(&mut program);
+    }
+    if maker.style.handed_over && maker.r.percent(50) {
+        let last = program.functions.len() - 1;
+        program.functions[last].first = -(maker.r.between(1, 78) as i32);
+    }
+    if maker.r.percent(10) {
+        let flag = if maker.r.percent(10) { 0x8000 } else { 0 };
+        program.fielddefs.push((maker.r.below(8) as u16 | flag, 0, 0));
+    }
+    program
+}
+
+// ---- at the limits
+
+fn boundary(r: &mut Random) -> Program {
+    match r.below(20) {
+        0..=9 => statements_at_edges(r),
+        10..=13 => entry_at_edges(r),
+        14 | 15 => recursion(r),
+        16 | 17 => endless(r),
+        18 => branches_out(r),
+        _ => sizes_at_edges(r),
+    }
+}
+
+fn few_cells(r: &mut Random) -> Program {
+    let mut program = Program::new(r.pick(&[36, 37, 64]));
+    let plain = Style { infinities: true, ..style(r) };
+    for cell in 0..program.cells.len() {
+        program.cells[cell] = float(r, &plain);
+        if r.percent(30) {
+            program.cells[cell] = r.below(4) as u32;
+        }
+    }
+    for _ in 0..r.below(5) {
+        let cell = r.below(program.cells.len() + 3) as u16;
+        program.globaldefs.push((r.below(8) as u16, cell, 0));
+    }
+    program.functions.push(Function { first: 1, local: 30, ..Function::default() });
+    program
+}
+
+/// Statements whose operands are at the limits of the cells.
+fn statements_at_edges(r: &mut Random) -> Program {
+    let mut program = few_cells(r);
+    if r.percent(1) {
+        program.cells.resize(32_768, 0);
+    }
+    let count = program.cells.len();
+    for _ in 0..r.between(1, 4) {
+        let opcode = r.below(66) as i16;
+        let mut operand = || {
+            if r.percent(70) {
+                r.below(count) as i16
+            } else {
+                edge(r, count)
+            }
+        };
+        let (a, mut b, mut c) = (operand(), operand(), operand());
+        if (31..=36).contains(&opcode) && r.percent(90) {
+            c = 0;
+        }
+        if (44..=48).contains(&opcode) && r.percent(90) {
+            b = 0;
+        }
+        program.statements.push([opcode, a, b, c]);
+    }
+    program.statements.push([0, 0, 0, 0]);
+    program
+}
+
+/// An entry whose local range or arguments are at the limits.
+fn entry_at_edges(r: &mut Random) -> Program {
+    let mut program = few_cells(r);
+    let count = program.cells.len() as i64;
+    let local = r.pick(&[0, 1, 4, 5, 28, 30, count - 3, count - 1, count, count + 1, -1, -4, 32_767, 65_536 + 30, 1 << 30]);
+    let locals = r.pick(&[0, 0, 1, 2, 3, 5, 30, 36, 37, 2_048, 2_049, -1, 1 << 30]);
+    program.functions[1].local = local as i32;
+    program.functions[1].locals = locals;
+    program.functions[1].argc = r.pick(&[0, 0, 0, 1, 1, 2, 3, 7, 8, 9, -1]);
+    for size in &mut program.functions[1].sizes {
+        *size = r.pick(&[0, 1, 1, 2, 3, 3, 3, 200]);
+    }
+    program.functions.push(Function { first: 2, ..Function::default() });
+    program.cells[29] = 1;
+    // Function 2 calls function 1.
+    program.statements.extend([[0, 0, 0, 0], [51, 29, 0, 0], [6, 28, 31, 32], [0, 0, 0, 0]]);
+    program
+}
+
+/// A function that calls itself until the depth or the saved cells run out, or a counter does.
+fn recursion(r: &mut Random) -> Program {
+    let mut program = Program::new(200);
+    let locals = r.pick(&[0, 1, 3, 64, 66, 67, 68, 69, 70, 100]);
+    program.cells[30] = (r.pick(&[3, 29, 30, 31, 32, 100]) as f32).to_bits();
+    program.cells[31] = 1.0_f32.to_bits();
+    program.cells[32] = 1;
+    program.functions.push(Function { first: 1, local: 40, locals, ..Function::default() });
+    program.statements.extend([[6, 40, 31, 40], [8, 30, 31, 30], [50, 30, 2, 0], [51, 32, 0, 0], [43, 40, 41, 42]]);
+    program
+}
+
+/// Loops without an end, or with one near the limit of 99,999 statements.
+fn endless(r: &mut Random) -> Program {
+    let mut program = Program::new(64);
+    program.cells[28] = 1.0_f32.to_bits();
+    program.functions.push(Function { first: 1, ..Function::default() });
+    if r.percent(90) {
+        // Ends: two statements for each count, and the Done.
+        program.cells[29] = (r.between(1, 400) as f32).to_bits();
+        program.statements.extend([[8, 29, 28, 29], [49, 29, -1, 0], [0, 0, 0, 0]]);
+    } else {
+        program.cells[29] = (r.between(49_997, 50_001) as f32).to_bits();
+        program.statements.extend([[8, 29, 28, 29], [49, 29, -1, 0], [0, 0, 0, 0]]);
+    }
+    program
+}
+
+/// Branches to and past both ends of the statements, and functions that begin there.
+fn branches_out(r: &mut Random) -> Program {
+    let mut program = few_cells(r);
+    let by = r.pick(&[-3, -2, -1, 0, 1, 2, 3, 4, 32_767, -32_768]);
+    program.functions[1].first = r.pick(&[0, 1, 2, 3, 4, 100, i32::MAX]);
+    program.statements.extend([[61, by, 0, 0], [49, 28, by, 0], [50, 28, by, 0]]);
+    program
+}
+
+/// Counts of cells, of statements and of bytes at the limits.
+fn sizes_at_edges(r: &mut Random) -> Program {
+    let mut program = few_cells(r);
+    program.statements.push([0, 0, 0, 0]);
+    match r.below(40) {
+        0 => program.cells.resize(r.pick(&[32_767, 32_768, 32_769, 40_000]), 0),
+        1 => program.strings.resize(1_048_576 - r.pick(&[500, 501, 600, 700]), 0),
+        2 => {
+            let more = 1_048_576 - program.bytes().len() + r.pick(&[0, 1, 2]);
+            program.strings.resize(1 + more - r.pick(&[0, 1]), 0);
+        }
+        3..=20 => program.cells.truncate(r.pick(&[0, 28, 35, 36])),
+        21..=30 => program.entity_cells = r.pick(&[0, 104, 105, 106, -1, i32::MIN, i32::MAX]),
+        _ => program.functions.clear(),
+    }
+    program
+}
+
+// ---- damaged
+
+pub fn damaged(r: &mut Random) -> Vec<u8> {
+    let mut bytes = if r.percent(60) { whole(r).bytes() } else { boundary(r).bytes() };
+    for _ in 0..r.between(1, 3) {
+        damage(r, &mut bytes);
+    }
+    bytes
+}
+
+fn damage(r: &mut Random, bytes: &mut Vec<u8>) {
+    let length = bytes.len();
+    if length < 61 {
+        return;
+    }
+    match r.below(12) {
+        0..=3 => {
+            let at = 60 + r.below(length - 60);
+            bytes[at] = r.next() as u8;
+        }
+        4 | 5 => {
+            let at = r.below(60);
+            bytes[at] = r.next() as u8;
+        }
+        6 | 7 => header_number(r, bytes),
+        8 => bytes.truncate(r.pick(&[0, 1, 4, 8, 59, 60, 61, length - 1, length - 4, length / 2])),
+        9 => bytes.extend(vec![0; r.below(9)]),
+        10 => {
+            // Two parts of the file overlap.
+            let (from, to) = (8 + 8 * r.below(6), 8 + 8 * r.below(6));
+            bytes.copy_within(from..from + 4, to);
+        }
+        _ => {
+            let at = 60 + r.below(length - 60);
+            let end = (at + r.below(9)).min(length);
+            bytes[at..end].fill(r.pick(&[0, 0xff, 0x80, 1]));
+        }
+    }
+}
+
+/// A number of the header becomes another, mostly one at a limit.
+fn header_number(r: &mut Random, bytes: &mut [u8]) {
+    let at = 4 * r.below(15);
+    let old = i32::from_le_bytes(bytes[at..at + 4].try_into().unwrap());
+    let length = bytes.len() as i32;
+    let new = match r.below(12) {
+        0 => 0,
+        1 => -1,
+        2 => old.wrapping_add(1),
+        3 => old.wrapping_sub(1),
+        4 => length,
+        5 => length + 1,
+        6 => i32::MAX,
+        7 => i32::MIN,
+        8 => -(r.below(100) as i32),
+        9 => r.below(200) as i32,
+        10 => 60,
+        _ => old.wrapping_add(r.between(-9, 9) as i32),
+    };
+    bytes[at..at + 4].copy_from_slice(&new.to_le_bytes());
+}
+
+// ---- for the functions alone
+
+/// A file whose statement 0 is a call-free statement or a Return, and whose function 1 begins there.
+pub fn one_statement(r: &mut Random) -> Program {
+    let style = style(r);
+    let mut program = Program::new(r.pick(&[36, 40, 64]));
+    let cells = Cells::new(r, &mut program, 3, &style);
+    for cell in 1..28 {
+        program.cells[cell] = float(r, &style);
+    }
+    let (opcode, types) = match r.below(20) {
+        0 => (43, [UNTYPED; 3]),
+        1 => NOT_V,
+        _ => r.pick(&SHAPES),
+    };
+    let count = program.cells.len();
+    let careless = r.pick(&[0, 10, 40]);
+    let mut operands = types.map(|want| match want {
+        NONE => r.percent(5) as i16,
+        _ if r.percent(careless) => edge(r, count),
+        UNTYPED => r.below(count) as i16,
+        want => cells.operand(r, want, &style),
+    });
+    if r.percent(10) {
+        // Overlapping operands.
+        operands[2] = operands[0].wrapping_add(r.between(-2, 2) as i16);
+    }
+    if r.percent(5) && types[1] != NONE {
+        operands[1] = operands[0];
+    }
+    program.statements[0] = [opcode, operands[0], operands[1], operands[2]];
+    // A Return at depth 0 leaves function 0.
+    program.functions[0].locals = r.percent(20) as i32;
+    program.functions.push(Function { local: 30, locals: r.pick(&[0, 1, 4]), ..Function::default() });
+    program
+}
+
+/// A file of functions with local ranges and arguments, for lists of entries and leavings.
+pub fn functions_alone(r: &mut Random) -> Program {
+    let mut program = Program::new(r.pick(&[64, 300]));
+    let count = program.cells.len() as i64;
+    for cell in &mut program.cells {
+        *cell = r.next() as u32;
+    }
+    let kind = r.pick(&[Arguments::None, Arguments::One, Arguments::Many]);
+    for _ in 0..r.between(1, 5) {
+        let locals = r.pick(&[0, 1, 2, 5, 20, 66, 67, 250]).min(count as i32 - 30);
+        let mut function =
+            Function { first: r.below(4) as i32, local: r.between(0, count - 1 - locals as i64) as i32, locals, ..Function::default() };
+        arguments(r, kind, &mut function);
+        if r.percent(5) {
+            function.locals = r.pick(&[-1, 2_048, 2_049, 300]);
+        } else if r.percent(5) {
+            function.local = r.pick(&[-3, 301, 305, 32_767, 65_536 + 30]);
+        }
+        program.functions.push(function);
+    }
+    program
+}

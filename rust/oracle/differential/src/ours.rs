@@ -1,0 +1,137 @@
+//! Runs this machine, through the host's crate, and keeps what it answered and left.
+
+use crate::program::View;
+use host::{Handover, Machine, Outcome, RunOutcome};
+
+#[derive(Clone, Copy, Debug, PartialEq, Eq, PartialOrd, Ord)]
+pub enum Answer {
+    /// A statement or an entry, or an abandonment.
+    Completed,
+    Ended,
+    Spent,
+    Refused(u32),
+    Builtin(u32),
+    Opcode(u32),
+}
+
+impl std::fmt::Display for Answer {
+    fn fmt(&self, f: &mut std::fmt::Formatter) -> std::fmt::Result {
+        match self {
+            Answer::Completed => write!(f, "completed"),
+            Answer::Ended => write!(f, "ended"),
+            Answer::Spent => write!(f, "spent"),
+            Answer::Refused(n) => write!(f, "refused {}", n),
+            Answer::Builtin(n) => write!(f, "builtin {}", n),
+            Answer::Opcode(n) => write!(f, "opcode {}", n),
+        }
+    }
+}
+
+/// An answer and what it left.
+pub struct Left {
+    pub answer: Answer,
+    pub count: u64,
+    pub position: i64,
+    pub function: usize,
+    pub depth: usize,
+    /// The frames in use.
+    pub frames: Vec<(i64, usize)>,
+    /// The saved cells in use.
+    pub saved: Vec<u32>,
+    pub cells: Vec<u32>,
+    /// Whether the lent cells past the file's count, the saved store past its 2,048, and frames not in use are as they must be.
+    pub rest_untouched: bool,
+}
+
+/// What the lent cells and the saved store hold before a load, and past what may be written.
+const FILL: u32 = 0xdead_beef;
+/// How many cells more than the file has are lent.
+const MORE: usize = 5;
+
+pub struct Ours {
+    machine: Machine,
+    count: usize,
+}
+
+impl Ours {
+    /// The loaded machine, or the refusal's number.
+    pub fn load(bytes: &[u8]) -> Result<Ours, u32> {
+        let count = View(bytes).cells().min(40_000);
+        let mut machine = Machine::new(bytes.to_vec(), vec![FILL; count + MORE], vec![FILL; 2_048 + MORE]);
+        match machine.load() {
+            Ok(()) => Ok(Ours { machine, count }),
+            Err(refusal) => Err(refusal.number()),
+        }
+    }
+
+    /// Enters the function and runs it to the depth it was entered from, as `execute_program` does.
+    pub fn execute(&mut self, function: usize) -> Left {
+        let depth = self.machine.depth() as i64;
+        if let Err(refusal) = self.machine.enter(function as i64) {
+            return self.left(Answer::Refused(refusal.number()), 0);
+        }
+        let run = self.machine.run(depth, 99_999);
+        let answer = match run.outcome {
+            RunOutcome::Ended => Answer::Ended,
+            RunOutcome::Spent => Answer::Spent,
+            RunOutcome::Refused(refusal) => Answer::Refused(refusal.number()),
+            RunOutcome::HandedOver(Handover::Builtin(n)) => Answer::Builtin(n),
+            RunOutcome::HandedOver(Handover::Opcode(n)) => Answer::Opcode(n),
+        };
+        self.left(answer, run.count as u64)
+    }
+
+    pub fn enter(&mut self, function: usize) -> Left {
+        let answer = self.machine.enter(function as i64);
+        self.left(accepted(answer), 0)
+    }
+
+    /// Leaves the innermost function without a return value.
+    pub fn leave(&mut self) -> Left {
+        let depth = self.machine.depth() as i64;
+        let answer = self.machine.abandon(depth - 1);
+        self.left(accepted(answer), 0)
+    }
+
+    pub fn abandon(&mut self, depth: i64) -> Left {
+        let answer = self.machine.abandon(depth);
+        self.left(accepted(answer), 0)
+    }
+
+    pub fn statement(&mut self) -> Left {
+        let answer = match self.machine.statement() {
+            Outcome::Completed => Answer::Completed,
+            Outcome::Refused(refusal) => Answer::Refused(refusal.number()),
+            Outcome::HandedOver(Handover::Builtin(n)) => Answer::Builtin(n),
+            Outcome::HandedOver(Handover::Opcode(n)) => Answer::Opcode(n),
+        };
+        self.left(answer, 0)
+    }
+
+    pub fn left(&self, answer: Answer, count: u64) -> Left {
+        let m = &self.machine;
+        let (depth, saved) = (m.depth(), m.saved_count());
+        let frames = m.frames();
+        let zeros = |f: &host::StackFrame| f.instr_id == 0 && f.func_id == 0;
+        Left {
+            answer,
+            count,
+            position: m.position(),
+            function: m.function(),
+            depth,
+            frames: (frames[..depth].iter()).map(|f| (f.instr_id, f.func_id)).collect(),
+            saved: m.saved()[..saved].to_vec(),
+            cells: m.cells()[..self.count].to_vec(),
+            rest_untouched: m.cells()[self.count..].iter().all(|&c| c == FILL)
+                && m.saved()[2_048..].iter().all(|&c| c == FILL)
+                && frames[depth..].iter().all(zeros),
+        }
+    }
+}
+
+fn accepted(answer: Result<(), host::Refusal>) -> Answer {
+    match answer {
+        Ok(()) => Answer::Completed,
+        Err(refusal) => Answer::Refused(refusal.number()),
+    }
+}

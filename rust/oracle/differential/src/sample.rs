@@ -1,0 +1,177 @@
+//! A sample of the Rust's answers, as lines that the show program must print. Nothing in it comes from this machine.
+
+use crate::classes::{number_of, Class};
+use crate::generate::{self, Case};
+use crate::oracle::{self, End, Seen, Variant};
+use crate::program::View;
+use crate::runs::{names_are_texts, reserves_too_much};
+use changed::switches;
+use std::collections::BTreeMap;
+use std::fmt::Write;
+
+/// Files are small, so that the sample is.
+const BYTES: usize = 640;
+const TRIED: u64 = 40_000;
+
+/// How many cases of one answer and one variant are kept. A spent run takes long, and loads are alike.
+fn most(line: &str) -> usize {
+    match line.split(',').next() {
+        Some("ended") => 120,
+        Some("spent") => 6,
+        _ if line.split(',').count() == 2 => 12,
+        _ => 25,
+    }
+}
+
+/// Writes `NAME LENGTH HEX LINE` for each, in the format of tests/model's files.txt.
+pub fn write(seed: u64, path: &str) -> bool {
+    let mut kept: BTreeMap<String, usize> = BTreeMap::new();
+    let mut text = String::from(HOW);
+    for number in 0..TRIED {
+        let mut case = generate::case(seed ^ 0x5a, number);
+        case.calls = vec![1];
+        if case.bytes.len() > BYTES || reserves_too_much(&case.bytes) || !names_are_texts(&View(&case.bytes)) {
+            continue;
+        }
+        let unchanged = line(&case, Variant::Unchanged).map(|line| ("unchanged", line));
+        let either = unchanged.or_else(|| line(&case, Variant::Changed).map(|line| ("changed", line)));
+        let Some((name, line)) = either else {
+            continue;
+        };
+        let count = kept.entry(format!("{} {}", name, answer(&line))).or_default();
+        if *count < most(&line) {
+            *count += 1;
+            writeln!(text, "{}-{} {} {}", name, number, file(&case.bytes), line).unwrap();
+        }
+    }
+    let lines = text.lines().filter(|l| !l.starts_with('#')).count();
+    println!("{} answers of the Rust", lines);
+    for (answer, count) in kept {
+        println!("  {:>4} {}", count, answer);
+    }
+    std::fs::write(path, text).is_ok()
+}
+
+const HOW: &str = "\
+# Answers of richter's program machine, as the show program's lines: NAME LENGTH HEX LINE, bytes not given are zeros.
+# Made by `rust/oracle/differential.sh sample`, from the Rust alone: load, then execute_program of function 1. unchanged: richter as it
+# is, where no named difference of document 01 plays a part. changed: the others, with the named differences changed to pr_exec.c's
+# way and NaN made canonical. An error is written as the refusal it stands for, the panic at the 100,000th statement as spent.
+";
+
+/// Outcome and detail.
+fn answer(line: &str) -> String {
+    line.split(',').take(2).collect::<Vec<_>>().join(",")
+}
+
+fn file(bytes: &[u8]) -> String {
+    let given = bytes.iter().rposition(|&b| b != 0).map_or(0, |last| last + 1);
+    let hex: String = bytes[..given].iter().map(|b| format!("{:02x}", b)).collect();
+    format!("{} {}", bytes.len(), if hex.is_empty() { "-" } else { &hex })
+}
+
+fn line(case: &Case, variant: Variant) -> Option<String> {
+    let view = View(&case.bytes);
+    switches::set(&switches::ALL);
+    if variant == Variant::Unchanged && !agrees_with_pr_exec(case) {
+        return None;
+    }
+    let mut level = match oracle::load(variant, &case.bytes) {
+        Ok(level) => level,
+        Err(End::Error(text)) => return refused_load(&view, &text),
+        Err(_) => return None,
+    };
+    // What 01's sizes refuse and the Rust takes.
+    if view.cells() > 32_768 || view.entity_cells() < 0 || negative_offset(&view) || wraps(&view) {
+        return None;
+    }
+    let seen = oracle::call(&mut *level, view.cells(), true, |l| l.execute_program(1));
+    ended(&view, variant, &seen)
+}
+
+fn negative_offset(view: &View) -> bool {
+    use crate::program::Lump::*;
+    [Statements, GlobalDefs, FieldDefs, Functions, Strings, Cells].iter().any(|&l| view.offset(l) < 0)
+}
+
+/// Whether the cells of an entry could be wrapped to 16 bits.
+fn wraps(view: &View) -> bool {
+    let functions = (0..).map_while(|i| view.function(i));
+    functions.into_iter().any(|f| {
+        let cells = f.components() as i64 + f.locals.max(0) as i64;
+        f.local < 0 || f.local as i64 + cells > 32_768
+    })
+}
+
+/// Only what can't be the header's: a lump past the end is another number there, found earlier.
+fn refused_load(view: &View, text: &str) -> Option<String> {
+    use crate::program::Lump::*;
+    let inside = [(Statements, 8), (GlobalDefs, 8), (FieldDefs, 8), (Functions, 36), (Strings, 1), (Cells, 4)].iter().all(|&(l, size)| {
+        let (at, count) = (view.offset(l) as i64, view.count(l) as i64);
+        at >= 0 && count >= 0 && (count == 0 || at + count * size <= view.0.len() as i64)
+    });
+    let number = number_of(text)?;
+    (inside && number != 4).then(|| format!("refused,{}", number))
+}
+
+/// Whether the unchanged and the changed Rust do the same, so that no named difference plays a part. The position is one further.
+fn agrees_with_pr_exec(case: &Case) -> bool {
+    let cells = View(&case.bytes).cells();
+    let seen = [Variant::Unchanged, Variant::Changed].map(|variant| {
+        let mut level = oracle::load(variant, &case.bytes).ok()?;
+        Some(oracle::call(&mut *level, cells, true, |l| l.execute_program(1)))
+    });
+    match seen {
+        [Some(a), Some(b)] => a.end == b.end && a.fetched == b.fetched && a.cells == b.cells,
+        [None, None] => true,
+        _ => false,
+    }
+}
+
+fn ended(view: &View, variant: Variant, seen: &Seen) -> Option<String> {
+    if seen.builtin_at.is_some() {
+        return None;
+    }
+    let state = &seen.observed;
+    let (word, count) = match &seen.end {
+        End::Done => ("ended,0".to_string(), seen.fetched),
+        End::Error(text) => {
+            let number = number_of(text)?;
+            if leaves_traces(view, seen, number) {
+                return None;
+            }
+            (format!("refused,{}", number), seen.fetched.saturating_sub(1))
+        }
+        End::Panic(panic) if Class::of(panic) == Class::Runaway => ("spent,0".to_string(), seen.fetched),
+        End::Panic(_) => return None,
+    };
+    let further = (variant == Variant::Unchanged && seen.end == End::Done) as usize;
+    // An entry that fails for depth or saved cells has pushed its frame, and nothing else.
+    let pushed = (word == "refused,22" || word == "refused,23") as usize;
+    Some(format!(
+        "{},{},{},{},{},{},{:08x},{:08x},{:08x}",
+        word,
+        count,
+        state.pc - further,
+        state.function,
+        state.frames.len() - pushed,
+        state.local_stack.len(),
+        seen.cells[1],
+        seen.cells[2],
+        seen.cells[3]
+    ))
+}
+
+/// Whether the error came in an entry after its frame was pushed, or in a statement that may have written part of cells 1 to 3.
+fn leaves_traces(view: &View, seen: &Seen, number: u32) -> bool {
+    let first = |cell: i16| (-2..=3).contains(&cell);
+    let in_entry = !matches!(number, 16 | 20 | 22 | 23);
+    match view.statement(seen.observed.pc as i64) {
+        _ if seen.fetched == 0 => in_entry,
+        None | Some([0 | 43, ..]) => true,
+        Some([51..=59, ..]) => in_entry,
+        Some([3 | 4 | 7 | 9 | 45, _, _, c]) => first(c),
+        Some([32, _, b, _]) => first(b),
+        Some(_) => false,
+    }
+}

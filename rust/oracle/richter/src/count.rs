@@ -1,0 +1,87 @@
+//! Counts the statements that `execute_program` fetches, without a change to it: it logs each one right after the fetch, and this is
+//! the logger. With the level off, which is how the benchmark runs, nothing is logged.
+
+use log::{LevelFilter, Log, Metadata, Record};
+use std::cell::Cell;
+use std::sync::OnceLock;
+
+/// Where the two messages stand in a `server/mod.rs`.
+struct Lines {
+    module: &'static str,
+    statement: u32,
+    builtin: u32,
+}
+
+static LINES: OnceLock<Vec<Lines>> = OnceLock::new();
+
+thread_local! {
+    static FETCHED: Cell<u64> = const { Cell::new(0) };
+    static BUILTIN_AT: Cell<Option<u64>> = const { Cell::new(None) };
+}
+
+fn line_of(source: &str, text: &str) -> u32 {
+    let found: Vec<usize> = (source.lines().enumerate())
+        .filter(|(_, line)| line.contains(text))
+        .map(|(i, _)| i + 1)
+        .collect();
+    assert!(found.len() == 1, "{} lines with {}", found.len(), text);
+    found[0] as u32
+}
+
+struct Counter;
+
+impl Log for Counter {
+    fn enabled(&self, _: &Metadata) -> bool {
+        true
+    }
+
+    fn log(&self, record: &Record) {
+        let module = record.module_path();
+        let lines = (LINES.get().unwrap().iter()).find(|l| Some(l.module) == module);
+        if let Some(lines) = lines {
+            if record.line() == Some(lines.statement) {
+                FETCHED.with(|n| n.set(n.get() + 1));
+            }
+            if record.line() == Some(lines.builtin) {
+                BUILTIN_AT.with(|at| at.set(Some(at.get().unwrap_or(fetched()))));
+            }
+        }
+    }
+
+    fn flush(&self) {}
+}
+
+/// Takes the process's logger, for these modules and their sources. Once.
+pub fn install(modules: &[(&'static str, &str)]) {
+    let lines = modules
+        .iter()
+        .map(|&(module, source)| Lines {
+            module,
+            // The message is the macro's second line.
+            statement: line_of(source, "\"              {:<9} {:>5} {:>5} {:>5}\"") - 1,
+            builtin: line_of(source, "debug!(\"Calling built-in function {}\", name)"),
+        })
+        .collect();
+    assert!(LINES.set(lines).is_ok());
+    log::set_logger(&Counter).unwrap();
+}
+
+/// Counts from 0, or not at all.
+pub fn start(on: bool) {
+    FETCHED.with(|n| n.set(0));
+    BUILTIN_AT.with(|at| at.set(None));
+    log::set_max_level(if on {
+        LevelFilter::Debug
+    } else {
+        LevelFilter::Off
+    });
+}
+
+pub fn fetched() -> u64 {
+    FETCHED.with(|n| n.get())
+}
+
+/// The count when the first builtin was called.
+pub fn builtin_at() -> Option<u64> {
+    BUILTIN_AT.with(|at| at.get())
+}

@@ -1,0 +1,318 @@
+//! `execute_program` and `op_return` are richter's (`server/mod.rs`), byte for byte. Everything else here is a STUB: a level without a
+//! world, whose builtins and entity opcodes panic with the text `handed over`, so that the runner can leave such a run out.
+
+// Carried-over text is neither laid out anew nor linted.
+#[rustfmt::skip]
+#[allow(clippy::all)]
+pub mod progs;
+pub mod world;
+
+use std::{cell::RefCell, rc::Rc};
+
+use self::progs::{
+    functions::FunctionKind, globals::GLOBAL_ADDR_RETURN, ExecutionContext, FunctionId, Globals,
+    LoadProgs, Opcode, ProgsError, StringTable,
+};
+
+/// STUB: richter's has the world, precaches, cvars and time beside these.
+#[derive(Debug)]
+pub struct LevelState {
+    pub string_table: Rc<RefCell<StringTable>>,
+    pub cx: ExecutionContext,
+    pub globals: Globals,
+}
+
+impl LevelState {
+    /// STUB: richter's makes the world, and spawns the entities of a map.
+    pub fn new(progs: LoadProgs) -> LevelState {
+        LevelState {
+            string_table: progs.string_table,
+            cx: progs.cx,
+            globals: progs.globals,
+        }
+    }
+
+    pub fn execute_program(&mut self, f: FunctionId) -> Result<(), ProgsError> {
+        let mut runaway = 100000;
+
+        let exit_depth = self.cx.call_stack_depth();
+
+        self.cx.enter_function(&mut self.globals, f)?;
+
+        while self.cx.call_stack_depth() != exit_depth {
+            runaway -= 1;
+
+            if runaway == 0 {
+                panic!("runaway program");
+            }
+
+            let statement = self.cx.load_statement();
+            let op = statement.opcode;
+            let a = statement.arg1;
+            let b = statement.arg2;
+            let c = statement.arg3;
+
+            debug!(
+                "              {:<9} {:>5} {:>5} {:>5}",
+                format!("{:?}", op),
+                a,
+                b,
+                c
+            );
+
+            use Opcode::*;
+
+            // Y'all like jump tables?
+            match op {
+                // Control flow ================================================
+                If => {
+                    let cond = self.globals.get_float(a)? != 0.0;
+                    log::debug!("If: cond == {}", cond);
+
+                    if cond {
+                        self.cx.jump_relative(b);
+                        continue;
+                    }
+                }
+
+                IfNot => {
+                    let cond = self.globals.get_float(a)? != 0.0;
+                    log::debug!("IfNot: cond == {}", cond);
+
+                    if !cond {
+                        self.cx.jump_relative(b);
+                        continue;
+                    }
+                }
+
+                Goto => {
+                    self.cx.jump_relative(a);
+                    continue;
+                }
+
+                Call0 | Call1 | Call2 | Call3 | Call4 | Call5 | Call6 | Call7 | Call8 => {
+                    // TODO: pass to equivalent of PF_VarString
+                    let _arg_count = op as usize - Opcode::Call0 as usize;
+
+                    let f_to_call = self.globals.function_id(a)?;
+                    if f_to_call.0 == 0 {
+                        panic!("NULL function");
+                    }
+
+                    let name_id = self.cx.function_def(f_to_call)?.name_id;
+                    let name = self.string_table.borrow().get(name_id).unwrap().to_owned();
+
+                    if let FunctionKind::BuiltIn(b) = self.cx.function_def(f_to_call)?.kind {
+                        debug!("Calling built-in function {}", name);
+                        use progs::functions::BuiltinFunctionId::*;
+                        match b {
+                            MakeVectors => self.globals.make_vectors()?,
+                            SetOrigin => self.builtin_set_origin()?,
+                            SetModel => self.builtin_set_model()?,
+                            SetSize => self.builtin_set_size()?,
+                            Break => unimplemented!(),
+                            Random => self.globals.builtin_random()?,
+                            Sound => unimplemented!(),
+                            Normalize => unimplemented!(),
+                            Error => unimplemented!(),
+                            ObjError => unimplemented!(),
+                            VLen => self.globals.builtin_v_len()?,
+                            VecToYaw => self.globals.builtin_vec_to_yaw()?,
+                            Spawn => self.builtin_spawn()?,
+                            Remove => self.builtin_remove()?,
+                            TraceLine => unimplemented!(),
+                            CheckClient => unimplemented!(),
+                            Find => unimplemented!(),
+                            PrecacheSound => self.builtin_precache_sound()?,
+                            PrecacheModel => self.builtin_precache_model()?,
+                            StuffCmd => unimplemented!(),
+                            FindRadius => unimplemented!(),
+                            BPrint => unimplemented!(),
+                            SPrint => unimplemented!(),
+                            DPrint => self.builtin_dprint()?,
+                            FToS => unimplemented!(),
+                            VToS => unimplemented!(),
+                            CoreDump => unimplemented!(),
+                            TraceOn => unimplemented!(),
+                            TraceOff => unimplemented!(),
+                            EPrint => unimplemented!(),
+                            WalkMove => unimplemented!(),
+
+                            DropToFloor => self.builtin_drop_to_floor()?,
+                            LightStyle => self.builtin_light_style()?,
+                            RInt => self.globals.builtin_r_int()?,
+                            Floor => self.globals.builtin_floor()?,
+                            Ceil => self.globals.builtin_ceil()?,
+                            CheckBottom => unimplemented!(),
+                            PointContents => unimplemented!(),
+                            FAbs => self.globals.builtin_f_abs()?,
+                            Aim => unimplemented!(),
+                            Cvar => self.builtin_cvar()?,
+                            LocalCmd => unimplemented!(),
+                            NextEnt => unimplemented!(),
+                            Particle => unimplemented!(),
+                            ChangeYaw => unimplemented!(),
+                            VecToAngles => unimplemented!(),
+                            WriteByte => unimplemented!(),
+                            WriteChar => unimplemented!(),
+                            WriteShort => unimplemented!(),
+                            WriteLong => unimplemented!(),
+                            WriteCoord => unimplemented!(),
+                            WriteAngle => unimplemented!(),
+                            WriteString => unimplemented!(),
+                            WriteEntity => unimplemented!(),
+                            MoveToGoal => unimplemented!(),
+                            PrecacheFile => unimplemented!(),
+                            MakeStatic => unimplemented!(),
+                            ChangeLevel => unimplemented!(),
+                            CvarSet => self.builtin_cvar_set()?,
+                            CenterPrint => unimplemented!(),
+                            AmbientSound => self.builtin_ambient_sound()?,
+                            PrecacheModel2 => unimplemented!(),
+                            PrecacheSound2 => unimplemented!(),
+                            PrecacheFile2 => unimplemented!(),
+                            SetSpawnArgs => unimplemented!(),
+                        }
+                        debug!("Returning from built-in function {}", name);
+                    } else {
+                        self.cx.enter_function(&mut self.globals, f_to_call)?;
+                        continue;
+                    }
+                }
+
+                Done | Return => self.op_return(a, b, c)?,
+
+                MulF => self.globals.op_mul_f(a, b, c)?,
+                MulV => self.globals.op_mul_v(a, b, c)?,
+                MulFV => self.globals.op_mul_fv(a, b, c)?,
+                MulVF => self.globals.op_mul_vf(a, b, c)?,
+                Div => self.globals.op_div(a, b, c)?,
+                AddF => self.globals.op_add_f(a, b, c)?,
+                AddV => self.globals.op_add_v(a, b, c)?,
+                SubF => self.globals.op_sub_f(a, b, c)?,
+                SubV => self.globals.op_sub_v(a, b, c)?,
+                EqF => self.globals.op_eq_f(a, b, c)?,
+                EqV => self.globals.op_eq_v(a, b, c)?,
+                EqS => self.globals.op_eq_s(a, b, c)?,
+                EqEnt => self.globals.op_eq_ent(a, b, c)?,
+                EqFnc => self.globals.op_eq_fnc(a, b, c)?,
+                NeF => self.globals.op_ne_f(a, b, c)?,
+                NeV => self.globals.op_ne_v(a, b, c)?,
+                NeS => self.globals.op_ne_s(a, b, c)?,
+                NeEnt => self.globals.op_ne_ent(a, b, c)?,
+                NeFnc => self.globals.op_ne_fnc(a, b, c)?,
+                Le => self.globals.op_le(a, b, c)?,
+                Ge => self.globals.op_ge(a, b, c)?,
+                Lt => self.globals.op_lt(a, b, c)?,
+                Gt => self.globals.op_gt(a, b, c)?,
+                LoadF => self.op_load_f(a, b, c)?,
+                LoadV => self.op_load_v(a, b, c)?,
+                LoadS => self.op_load_s(a, b, c)?,
+                LoadEnt => self.op_load_ent(a, b, c)?,
+                LoadFld => panic!("load_fld not implemented"),
+                LoadFnc => self.op_load_fnc(a, b, c)?,
+                Address => self.op_address(a, b, c)?,
+                StoreF => self.globals.op_store_f(a, b, c)?,
+                StoreV => self.globals.op_store_v(a, b, c)?,
+                StoreS => self.globals.op_store_s(a, b, c)?,
+                StoreEnt => self.globals.op_store_ent(a, b, c)?,
+                StoreFld => self.globals.op_store_fld(a, b, c)?,
+                StoreFnc => self.globals.op_store_fnc(a, b, c)?,
+                StorePF => self.op_storep_f(a, b, c)?,
+                StorePV => self.op_storep_v(a, b, c)?,
+                StorePS => self.op_storep_s(a, b, c)?,
+                StorePEnt => self.op_storep_ent(a, b, c)?,
+                StorePFld => panic!("storep_fld not implemented"),
+                StorePFnc => self.op_storep_fnc(a, b, c)?,
+                NotF => self.globals.op_not_f(a, b, c)?,
+                NotV => self.globals.op_not_v(a, b, c)?,
+                NotS => self.globals.op_not_s(a, b, c)?,
+                NotEnt => self.globals.op_not_ent(a, b, c)?,
+                NotFnc => self.globals.op_not_fnc(a, b, c)?,
+                And => self.globals.op_and(a, b, c)?,
+                Or => self.globals.op_or(a, b, c)?,
+                BitAnd => self.globals.op_bit_and(a, b, c)?,
+                BitOr => self.globals.op_bit_or(a, b, c)?,
+
+                State => self.op_state(a, b, c)?,
+            }
+
+            // Increment program counter.
+            self.cx.jump_relative(1);
+        }
+
+        Ok(())
+    }
+
+    pub fn op_return(&mut self, a: i16, b: i16, c: i16) -> Result<(), ProgsError> {
+        let val1 = self.globals.get_bytes(a)?;
+        let val2 = self.globals.get_bytes(b)?;
+        let val3 = self.globals.get_bytes(c)?;
+
+        self.globals.put_bytes(val1, GLOBAL_ADDR_RETURN as i16)?;
+        self.globals
+            .put_bytes(val2, GLOBAL_ADDR_RETURN as i16 + 1)?;
+        self.globals
+            .put_bytes(val3, GLOBAL_ADDR_RETURN as i16 + 2)?;
+
+        self.cx.leave_function(&mut self.globals)?;
+
+        Ok(())
+    }
+}
+
+/// STUB: what reaches the world in richter, and goes to the host in the machine that is compared.
+fn handed_over(name: &str) -> Result<(), ProgsError> {
+    panic!("handed over: {}", name)
+}
+
+macro_rules! handed_over_opcodes {
+    ($($name:ident),*) => {
+        impl LevelState {
+            $(pub fn $name(&mut self, _a: i16, _b: i16, _c: i16) -> Result<(), ProgsError> {
+                handed_over(stringify!($name))
+            })*
+        }
+    };
+}
+
+macro_rules! handed_over_builtins {
+    ($($name:ident),*) => {
+        impl LevelState {
+            $(pub fn $name(&mut self) -> Result<(), ProgsError> {
+                handed_over(stringify!($name))
+            })*
+        }
+    };
+}
+
+handed_over_opcodes!(
+    op_load_f,
+    op_load_v,
+    op_load_s,
+    op_load_ent,
+    op_load_fnc,
+    op_address,
+    op_storep_f,
+    op_storep_v,
+    op_storep_s,
+    op_storep_ent,
+    op_storep_fnc,
+    op_state
+);
+
+handed_over_builtins!(
+    builtin_set_origin,
+    builtin_set_model,
+    builtin_set_size,
+    builtin_spawn,
+    builtin_remove,
+    builtin_precache_sound,
+    builtin_precache_model,
+    builtin_dprint,
+    builtin_drop_to_floor,
+    builtin_light_style,
+    builtin_cvar,
+    builtin_cvar_set,
+    builtin_ambient_sound
+);
