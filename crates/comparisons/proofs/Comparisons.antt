@@ -8,7 +8,7 @@ use lib.ListN.{getD, set}
 use lib.Dec.{eqb}
 use Rattle.definition.specs.Checks.{judge}
 use Rattle.definition.specs.Floats.{flag, notV}
-use Rattle.definition.specs.Cells.{Typing, access, mustBePositive, readAccess}
+use Rattle.definition.specs.Cells.{Typing, access, mustBeNatural, readAccess}
 use Rattle.definition.specs.Statements.{valuesEffect, stringsEffect, negatesEffect, negatesVEffect, negatesSEffect, operandGiven, stringAccess, stringResult, unused}
 use Rattle.typed.specs.Checking.{first, moveRefusal, Reaches}
 use Rattle.typed.specs.Laws.{neither, nothing, judge-both, judge-three, judge-four, reach, read-reach, read-plain}
@@ -18,12 +18,12 @@ use Rattle.comparisons.specs.Refusals.{pairRefusal, stringsRefusal}
 module _ (g : Typing) (a b c : ℕ) (cells : List ℕ) where
   pub values-is : (t : ℕ) (f : ℕ → ℕ → ℕ)
       → Is (valuesEffect t f g a b c cells)
-      (first (judge (readAccess g (mustBePositive t) t a cells)) (moveRefusal g (mustBePositive t) t b 2 c cells))
+      (first (judge (readAccess g (mustBeNatural t) t a cells)) (moveRefusal g (mustBeNatural t) t b 2 c cells))
       (set cells c (f (getD cells a 0) (getD cells b 0)))
   unfolding valuesEffect
   values-is t f =
       record {
-        refusal-is = judge-three (readAccess g (mustBePositive t) t a cells) (readAccess g (mustBePositive t) t b cells) (access g 2 c);
+        refusal-is = judge-three (readAccess g (mustBeNatural t) t a cells) (readAccess g (mustBeNatural t) t b cells) (access g 2 c);
         cells-are = refl;
       }
 
@@ -42,9 +42,9 @@ module _ (g : Typing) (a b c : ℕ) (cells : List ℕ) where
       pair false = judge-both (access g 1 a) (access g 1 b)
 
   pub negates-is : (t : ℕ) (f : ℕ → ℕ)
-      → Is (negatesEffect t f g a b c cells) (first (judge (unused b)) (moveRefusal g (mustBePositive t) t a 2 c cells)) (set cells c (f (getD cells a 0)))
+      → Is (negatesEffect t f g a b c cells) (first (judge (unused b)) (moveRefusal g (mustBeNatural t) t a 2 c cells)) (set cells c (f (getD cells a 0)))
   unfolding negatesEffect
-  negates-is t f = record { refusal-is = judge-three (unused b) (readAccess g (mustBePositive t) t a cells) (access g 2 c); cells-are = refl }
+  negates-is t f = record { refusal-is = judge-three (unused b) (readAccess g (mustBeNatural t) t a cells) (access g 2 c); cells-are = refl }
 
   pub negatesV-is :
       Is (negatesVEffect g a b c cells) (first (judge (unused b)) (moveRefusal g false 3 a 2 c cells))
@@ -92,13 +92,13 @@ module _ (g : Typing) (a b : ℕ) where
 -- ---- how far the accesses of accepted statements reach
 
 module _ (g : Typing) where
-  pub reach-values : (positive : Bool) (t a b tc c : ℕ) (cells : List ℕ)
-      → first (judge (readAccess g positive t a cells)) (moveRefusal g positive t b tc c cells) ≡ 0
+  pub reach-values : (natural : Bool) (t a b tc c : ℕ) (cells : List ℕ)
+      → first (judge (readAccess g natural t a cells)) (moveRefusal g natural t b tc c cells) ≡ 0
       → Reaches t a (g .count) × Reaches t b (g .count) × Reaches tc c (g .count)
-  reach-values positive t a b tc c cells e =
+  reach-values natural t a b tc c cells e =
       let h = neither _ _ e in
-      let k = reach-move g positive t b tc c cells (h .1) in
-      (read-reach g positive t a cells (h .0), k .0, k .1)
+      let k = reach-move g natural t b tc c cells (h .1) in
+      (read-reach g natural t a cells (h .0), k .0, k .1)
 
   -- where the operands are equal, they aren't read
   pub reach-strings : (a b c : ℕ) → stringsRefusal g a b c ≡ 0 → ((a ≡ b → ⊥) → Reaches 1 a (g .count) × Reaches 1 b (g .count)) × Reaches 2 c (g .count)

@@ -7,7 +7,7 @@ ghost use Prim.Native.Nat.{_+_, _-_, _*_, _≤_, _<_};
 ghost use lib.ListN.{length, getD, set};
 ghost use Rattle.definition.specs.Checks.{judge};
 ghost use Rattle.definition.specs.Floats.{flag, notV};
-ghost use Rattle.definition.specs.Cells.{string, float, mustBePositive, readAccess};
+ghost use Rattle.definition.specs.Cells.{string, float, mustBeNatural, readAccess};
 ghost use Rattle.definition.specs.Statements.{valuesEffect, stringsEffect, negatesEffect, negatesVEffect, negatesSEffect, operandGiven, stringResult, unused};
 ghost use Rattle.floats.specs.Opcodes.{valueOp, notOp};
 ghost use Rattle.typed.specs.Typing.{typing};
@@ -27,10 +27,10 @@ fn check_values(
     c: usize,
 ) -> u8
     requires { ⌜ (8 * ndefs ≤ length (now file) - defs) × (count ≤ length (now cells)) ⌝ }
-    ensures { λ r. ⌜ r ≡ first (judge (readAccess (typing (now (file .entry)) defs ndefs count) (mustBePositive t) t a (now (cells .entry)))) (moveRefusal (typing (now (file .entry)) defs ndefs count) (mustBePositive t) t b float c (now (cells .entry))) ⌝ }
+    ensures { λ r. ⌜ r ≡ first (judge (readAccess (typing (now (file .entry)) defs ndefs count) (mustBeNatural t) t a (now (cells .entry)))) (moveRefusal (typing (now (file .entry)) defs ndefs count) (mustBeNatural t) t b float c (now (cells .entry))) ⌝ }
 {
-    let positive = typed::must_be_positive(t);
-    let r = typed::check_read(file, defs, ndefs, count, cells, positive, t, a);
+    let natural = typed::must_be_natural(t);
+    let r = typed::check_read(file, defs, ndefs, count, cells, natural, t, a);
     if r != 0 {
         return r;
     }
@@ -40,7 +40,7 @@ fn check_values(
         ndefs,
         count,
         cells,
-        positive,
+        natural,
         t,
         b,
         typed::FLOAT,
@@ -185,7 +185,7 @@ pub fn op_nots(
     requires { ⌜ (8 * ndefs ≤ length (now file) - defs) × (count ≤ length (now cells)) ⌝ }
     ensures { λ r. ⌜ after r (now (cells .exit)) ≡ effectOn (negatesEffect t (notOp op) (typing (now (file .entry)) defs ndefs count) a b c (now (cells .entry))) (now (cells .entry)) ⌝ }
 {
-    let positive = typed::must_be_positive(t);
+    let natural = typed::must_be_natural(t);
     let refusal = globals::check_unary(
         file,
         defs,
@@ -193,7 +193,7 @@ pub fn op_nots(
         count,
         cells,
         b,
-        positive,
+        natural,
         t,
         a,
         typed::FLOAT,

@@ -90,8 +90,8 @@ unfoldable pub access : Typing → ℕ → ℕ → Conditions
 access g want cell = cond (eqb want vector) (vectorAccess g cell) (cellAccess g want cell)
 
 -- "17: negative entity or field read"
-abbrev pub mustBePositive : ℕ → Bool
-mustBePositive t = eqb t entity || eqb t field
+abbrev pub mustBeNatural : ℕ → Bool
+mustBeNatural t = eqb t entity || eqb t field
 
 -- a read of a value: the access, then 17
 unfoldable pub readAccess : Typing → Bool → ℕ → ℕ → List ℕ → Conditions

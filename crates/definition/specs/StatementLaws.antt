@@ -17,11 +17,11 @@ use Rattle.definition.specs.declared.Handover.the-variants.{Builtin, Opc
 use Rattle.definition.specs.Checks.{Condition, Conditions, judge}
 use Rattle.definition.specs.File.{Contents, contentsOf, fileOf, noFunction, negative, between, isBuiltin, builtinOf, builtinKnown}
 use Rattle.definition.specs.Floats.{flag, notV, isZero}
-use Rattle.definition.specs.Cells.{float, vector, string, function, cellOf, signed, Typing, typingOf, typeIs, addressed, cellAccess, vectorAccess, access, mustBePositive, readAccess}
+use Rattle.definition.specs.Cells.{float, vector, string, function, cellOf, signed, Typing, typingOf, typeIs, addressed, cellAccess, vectorAccess, access, mustBeNatural, readAccess}
 use Rattle.definition.specs.Statements.{Does, next, calls, returns, refuses, handsOver, orRefused, provided, moved}
 use Rattle.definition.specs.Statements.{Shape, floats, values, vectors, dots, strings, negates, negatesV, negatesS, stores, storesV, branches, jumps, call, return, host, opcodes, shapeOf}
 use Rattle.definition.specs.Statements.{floatsEffect, valuesEffect, vectorResult, vectorsEffect, dotsEffect, operandGiven, stringAccess, stringResult, stringsEffect, unused, negatesEffect, negatesVEffect, negatesSEffect}
-use Rattle.definition.specs.Statements.{storedPositive, storesEffect, argumentCell, moveAccess, storesVEffect, branchesDo, callOf, callDoes, statementAt, fetchConditions, executeAs, execute, doesAt}
+use Rattle.definition.specs.Statements.{storedNatural, storesEffect, reservedCell, moveAccess, storesVEffect, branchesDo, callOf, callDoes, statementAt, fetchConditions, executeAs, execute, doesAt}
 use Rattle.definition.specs.Machine.{Program}
 use Rattle.definition.specs.Load.{programAt, programOf}
 use Rattle.definition.specs.Log.{functionIn, Kind, entry, leaving, other, statementKind}
@@ -199,7 +199,7 @@ module _ (k : Contents) (p : ℤ) (st : Statement) (cells : List ℕ) (κ : Kind
   )
   executed (values t f) e = provided-is count p cells κ _ _ λ h. (
     e .as-other refl refl,
-    keeps-one count cells c _ (access-below (typingOf k) float c (all-back (readAccess (typingOf k) (mustBePositive t) t a cells ++ readAccess (typingOf k) (mustBePositive t) t b cells) _ h)),
+    keeps-one count cells c _ (access-below (typingOf k) float c (all-back (readAccess (typingOf k) (mustBeNatural t) t a cells ++ readAccess (typingOf k) (mustBeNatural t) t b cells) _ h)),
   )
   executed (vectors ta tb f) e = provided-is count p cells κ _ _ λ h.
       let below : c + 2 < count = vector-last (typingOf k) c (all-back (access (typingOf k) ta a ++ access (typingOf k) tb b) _ h) in (
@@ -216,7 +216,7 @@ module _ (k : Contents) (p : ℤ) (st : Statement) (cells : List ℕ) (κ : Kind
   )
   executed (negates t f) e = provided-is count p cells κ _ _ λ h. (
     e .as-other refl refl,
-    keeps-one count cells c _ (access-below (typingOf k) float c (all-back (unused b ++ readAccess (typingOf k) (mustBePositive t) t a cells) _ h)),
+    keeps-one count cells c _ (access-below (typingOf k) float c (all-back (unused b ++ readAccess (typingOf k) (mustBeNatural t) t a cells) _ h)),
   )
   executed negatesV e = provided-is count p cells κ _ _ λ h. (
     e .as-other refl refl,
@@ -228,10 +228,10 @@ module _ (k : Contents) (p : ℤ) (st : Statement) (cells : List ℕ) (κ : Kind
   )
   executed (stores t) e = provided-is count p cells κ _ _ λ h. (
     e .as-other refl refl,
-    keeps-one count cells b _ (access-below (typingOf k) t b (all-back (unused c ++ readAccess (typingOf k) (storedPositive t) t a cells) _ h)),
+    keeps-one count cells b _ (access-below (typingOf k) t b (all-back (unused c ++ readAccess (typingOf k) (storedNatural t) t a cells) _ h)),
   )
   executed storesV e = provided-is count p cells κ _ _ λ h.
-      let raw = argumentCell b in
+      let raw = reservedCell b in
       let third : b + 2 < count = move-below (typingOf k) raw (a + 2) (b + 2)
       (all-back (unused c ++ moveAccess (typingOf k) raw a b ++ moveAccess (typingOf k) raw (a + 1) (b + 1)) (moveAccess (typingOf k) raw (a + 2) (b + 2)) h)
       in (

@@ -14,7 +14,7 @@ use Rattle.definition.specs.File.{Contents, noFunction, isBuiltin, built
 use Rattle.definition.specs.Floats.{addF, subF, mulF, divF, eqF, neF, leF, geF, ltF, gtF, andF, orF, notF, bitAndF, bitOrF, isZero, flag}
 use Rattle.definition.specs.Floats.{mulV, eqV, neV, notV, eqN, neN, notN}
 use Rattle.definition.specs.Cells.{string, float, vector, entity, field, function, cellOf, signed, Typing, typingOf}
-use Rattle.definition.specs.Cells.{addressed, cellAccess, access, mustBePositive, readAccess}
+use Rattle.definition.specs.Cells.{addressed, cellAccess, access, mustBeNatural, readAccess}
 
 -- what the statement at a position does, with the cells as they are
 pub data Does : Type 0 where
@@ -113,7 +113,7 @@ floatsEffect f g a b c cells =
 unfoldable pub valuesEffect : ℕ → (ℕ → ℕ → ℕ) → Typing → ℕ → ℕ → ℕ → List ℕ → Effect
 valuesEffect t f g a b c cells =
     record {
-      conditions = readAccess g (mustBePositive t) t a cells ++ readAccess g (mustBePositive t) t b cells ++ access g float c;
+      conditions = readAccess g (mustBeNatural t) t a cells ++ readAccess g (mustBeNatural t) t b cells ++ access g float c;
       cells = set cells c (f (getD cells a 0) (getD cells b 0));
     }
 
@@ -169,7 +169,7 @@ unused cell = (eqb cell 0 otherwise 18) ∷ []
 unfoldable pub negatesEffect : ℕ → (ℕ → ℕ) → Typing → ℕ → ℕ → ℕ → List ℕ → Effect
 negatesEffect t f g a b c cells =
     record {
-      conditions = unused b ++ readAccess g (mustBePositive t) t a cells ++ access g float c;
+      conditions = unused b ++ readAccess g (mustBeNatural t) t a cells ++ access g float c;
       cells = set cells c (f (getD cells a 0));
     }
 
@@ -193,19 +193,20 @@ abbrev pub moved : ℕ → ℕ → List ℕ → List ℕ
 moved a b cells = set cells b (getD cells a 0)
 
 -- "negative entity or field read, or negative string in StoreS"
-abbrev pub storedPositive : ℕ → Bool
-storedPositive t = mustBePositive t || eqb t string
+abbrev pub storedNatural : ℕ → Bool
+storedNatural t = mustBeNatural t || eqb t string
 
 unfoldable pub storesEffect : ℕ → Typing → ℕ → ℕ → ℕ → List ℕ → Effect
 storesEffect t g a b c cells =
     record {
-      conditions = unused c ++ readAccess g (storedPositive t) t a cells ++ access g t b;
+      conditions = unused c ++ readAccess g (storedNatural t) t a cells ++ access g t b;
       cells = moved a b cells;
     }
 
--- "where the destination is 1 to 27 all three, source and destination, are checked by address alone"
-abbrev pub argumentCell : ℕ → Bool
-argumentCell cell = leb 1 cell && leb cell 27
+-- "where the destination is 1 to 27 all three, source and destination, are checked by address alone": the cells of the return value and the arguments,
+-- which come before RESERVED_OFS in pr_comp.h
+abbrev pub reservedCell : ℕ → Bool
+reservedCell cell = leb 1 cell && leb cell 27
 
 abbrev pub moveAccess : Typing → Bool → ℕ → ℕ → Conditions
 moveAccess g raw a b = cond raw (addressed g a ++ addressed g b) (cellAccess g float a ++ cellAccess g float b)
@@ -213,7 +214,7 @@ moveAccess g raw a b = cond raw (addressed g a ++ addressed g b) (cellAccess g f
 -- "StoreV goes cell by cell, source before destination, each typed as float"
 unfoldable pub storesVEffect : Typing → ℕ → ℕ → ℕ → List ℕ → Effect
 storesVEffect g a b c cells =
-    let raw = argumentCell b in
+    let raw = reservedCell b in
     record {
       conditions = unused c ++ moveAccess g raw a b ++ moveAccess g raw (a + 1) (b + 1) ++ moveAccess g raw (a + 2) (b + 2);
       cells = moved (a + 2) (b + 2) (moved (a + 1) (b + 1) (moved a b cells));

@@ -13,7 +13,7 @@ use Rattle.definition.specs.File.{records, readStatement}
 use Rattle.definition.specs.Statements.{fetchConditions, noStatement, placeOf}
 use Rattle.functions.specs.declared.fetch.Fetched.the-variants.{At, Refused}
 use Rattle.functions.specs.Answers.{fetched}
-use Rattle.functions.specs.Laws.{length-records, getD-records}
+use Rattle.definition.specs.RecordLaws.{length-records, getD-records}
 
 abbrev statementsOf : List ℕ → ℕ → ℕ → List Statement
 statementsOf file offset count = records (readStatement file) 8 count offset

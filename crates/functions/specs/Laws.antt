@@ -3,7 +3,7 @@ use Prim.Native.Nat.{ℕ, zero, suc, _+_, _*_, _≤_, _<_}
 use mathlib.Core.Path.{_≡_, refl, sym, ap, _∙_}
 use mathlib.Core.List.{List, [], _∷_}
 use mathlib.Core.Bool.{Bool, true, false, true≢false, not, _&&_, _||_, cond}
-use native.Mathlib.Nat.{not-suc-le-zero, le-of-suc-le-suc, mul-le-mul-left}
+use native.Mathlib.Nat.{mul-le-mul-left}
 use native.Mathlib.Omega.{arith}
 use lib.ListN.{length, getD}
 use lib.Dec.{leb, ltb, eqb}
@@ -15,6 +15,7 @@ use Rattle.definition.specs.declared.Statement.{Statement}
 use Rattle.definition.specs.Checks.{Conditions, _otherwise_, judge}
 use Rattle.definition.specs.File.{records, recordsIn, readStatement, readFunction, noFunction, negative, Contents, contentsAt, contentsOf}
 use Rattle.definition.specs.File.{fileOf, lengthFits, lumpFits, lumpsFit, leastCells, cellsFit, entityFits}
+use Rattle.definition.specs.RecordLaws.{length-records}
 use Rattle.definition.specs.Load.{sameLump, sameFile, recordedIn, programAt, programOf}
 use Rattle.definition.specs.Machine.{Program, functionOf}
 use Rattle.definition.specs.Statements.{Does, refuses, orRefused, placeOf, statementAt, fetchConditions, execute, doesAt}
@@ -32,20 +33,6 @@ both false b e = absurd (true≢false (sym e))
 pub either : (a b : Bool) → (a || b) ≡ true → a ≡ false → b ≡ true
 either true b e f = absurd (true≢false f)
 either false b e f = e
-
--- ---- records
-
-module _ {A : Type 0} (read : ℕ → A) (size : ℕ) where
-  pub length-records : (n at : ℕ) → length (records read size n at) ≡ n
-  unfolding records
-  length-records zero at = refl
-  length-records (suc n) at = ap suc (length-records n (at + size))
-
-  pub getD-records : (n at i : ℕ) (d : A) → i < n → getD (records read size n at) i d ≡ read (at + size * i)
-  unfolding records
-  getD-records zero at i d h = absurd (not-suc-le-zero h)
-  getD-records (suc n) at zero d h = ap read (omega arith)
-  getD-records (suc n) at (suc i) d h = getD-records n (at + size) i d (le-of-suc-le-suc h) ∙ ap read (omega arith)
 
 -- ---- lumps
 

@@ -45,7 +45,7 @@ unused-given cell h = rw (ne-eqb cell 0 h)
 
 -- ---- how far an accepted move reaches
 
-pub reach-move : (g : Typing) (positive : Bool) (ta a tb b : ℕ) (cells : List ℕ) → moveRefusal g positive ta a tb b cells ≡ 0 → Reaches ta a (g .count) × Reaches tb b (g .count)
-reach-move g positive ta a tb b cells e =
+pub reach-move : (g : Typing) (natural : Bool) (ta a tb b : ℕ) (cells : List ℕ) → moveRefusal g natural ta a tb b cells ≡ 0 → Reaches ta a (g .count) × Reaches tb b (g .count)
+reach-move g natural ta a tb b cells e =
     let h = neither _ _ e in
-    (read-reach g positive ta a cells (h .0), reach g tb b (h .1))
+    (read-reach g natural ta a cells (h .0), reach g tb b (h .1))

@@ -22,18 +22,18 @@ pub fn check_unary(
     count: usize,
     cells: &[u32],
     idle: usize,
-    positive: bool,
+    natural: bool,
     ta: u16,
     a: usize,
     tb: u16,
     b: usize,
 ) -> u8
     requires { ⌜ (8 * ndefs ≤ length (now file) - defs) × (count ≤ length (now cells)) ⌝ }
-    ensures { λ r. ⌜ r ≡ first (judge (unused idle)) (moveRefusal (typing (now (file .entry)) defs ndefs count) positive ta a tb b (now (cells .entry))) ⌝ }
+    ensures { λ r. ⌜ r ≡ first (judge (unused idle)) (moveRefusal (typing (now (file .entry)) defs ndefs count) natural ta a tb b (now (cells .entry))) ⌝ }
 {
     let r = check_unused(idle);
     if r != 0 {
         return r;
     }
-    typed::check_move(file, defs, ndefs, count, cells, positive, ta, a, tb, b)
+    typed::check_move(file, defs, ndefs, count, cells, natural, ta, a, tb, b)
 }

@@ -12,7 +12,8 @@ use Rattle.definition.specs.declared.Statement.{Statement}
 use Rattle.definition.specs.File.{lumpFits, lumpsFit, fileOf, readStatement, recordsIn}
 use Rattle.functions.specs.declared.fetch.Fetched.the-variants.{At}
 use Rattle.functions.specs.Answers.{fetched}
-use Rattle.functions.specs.Laws.{AllFit, all-fit, lump-fitting, length-records, fetch-accepts}
+use Rattle.definition.specs.RecordLaws.{length-records}
+use Rattle.functions.specs.Laws.{AllFit, all-fit, lump-fitting, fetch-accepts}
 
 pub fits : (file : List ℕ) (r : FileRecord) (b : Bool) → r ≡ fileOf file → b ≡ lumpsFit r → not b ≡ false → AllFit (length file) r
 unfolding fileOf

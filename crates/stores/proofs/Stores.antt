@@ -8,16 +8,16 @@ use borrow.Author.Tests.{lt-ltb, le-ltb, ltb-true}
 use lib.Dec.{ltb}
 use Rattle.definition.specs.Checks.{judge}
 use Rattle.definition.specs.Cells.{Typing, addressed, cellAccess, access, readAccess}
-use Rattle.definition.specs.Statements.{storesEffect, storesVEffect, unused, moved, storedPositive, argumentCell, moveAccess}
+use Rattle.definition.specs.Statements.{storesEffect, storesVEffect, unused, moved, storedNatural, reservedCell, moveAccess}
 use Rattle.typed.specs.Checking.{first, moveRefusal}
 use Rattle.typed.specs.Laws.{neither, judge-both, judge-three, judge-four, cell-reach}
 use Rattle.globals.proofs.Statements.{Is}
 use Rattle.stores.specs.Refusals.{rawRefusal, copyRefusal, storeVRefusal}
 
 module _ (g : Typing) (a b c : ℕ) (cells : List ℕ) where
-  pub stores-is : (t : ℕ) → Is (storesEffect t g a b c cells) (first (judge (unused c)) (moveRefusal g (storedPositive t) t a t b cells)) (moved a b cells)
+  pub stores-is : (t : ℕ) → Is (storesEffect t g a b c cells) (first (judge (unused c)) (moveRefusal g (storedNatural t) t a t b cells)) (moved a b cells)
   unfolding storesEffect
-  stores-is t = record { refusal-is = judge-three (unused c) (readAccess g (storedPositive t) t a cells) (access g t b); cells-are = refl }
+  stores-is t = record { refusal-is = judge-three (unused c) (readAccess g (storedNatural t) t a cells) (access g t b); cells-are = refl }
 
   copy-judged : (raw : Bool) (i j : ℕ) → judge (moveAccess g raw i j) ≡ copyRefusal g raw i j
   unfolding rawRefusal judge
@@ -27,7 +27,7 @@ module _ (g : Typing) (a b c : ℕ) (cells : List ℕ) where
   pub storesV-is : Is (storesVEffect g a b c cells) (storeVRefusal g a b c) (moved (a + 2) (b + 2) (moved (a + 1) (b + 1) (moved a b cells)))
   unfolding storesVEffect
   storesV-is =
-      let raw = argumentCell b in
+      let raw = reservedCell b in
       let x = copy-judged raw a b in
       let y = copy-judged raw (a + 1) (b + 1) in
       let z = copy-judged raw (a + 2) (b + 2) in
@@ -67,4 +67,4 @@ module _ (g : Typing) where
   reach-copy raw a b e = let h = neither _ _ e in (raw-reach g raw a (h .0), raw-reach g raw b (h .1))
 
   pub reach-store-v : (a b c : ℕ) → storeVRefusal g a b c ≡ 0 → (a + 2 < g .count) × (b + 2 < g .count)
-  reach-store-v a b c e = reach-copy (argumentCell b) (a + 2) (b + 2) (neither _ _ (neither _ _ (neither _ _ e .1) .1) .1)
+  reach-store-v a b c e = reach-copy (reservedCell b) (a + 2) (b + 2) (neither _ _ (neither _ _ (neither _ _ e .1) .1) .1)

@@ -4,7 +4,7 @@ use mathlib.Core.Bool.{Bool, cond}
 use lib.Dec.{ltb}
 use Rattle.definition.specs.Checks.{judge}
 use Rattle.definition.specs.Cells.{float, Typing, cellAccess}
-use Rattle.definition.specs.Statements.{unused, argumentCell}
+use Rattle.definition.specs.Statements.{unused, reservedCell}
 use Rattle.typed.specs.Checking.{first}
 
 unfoldable pub rawRefusal : Typing → Bool → ℕ → ℕ
@@ -15,5 +15,5 @@ copyRefusal g raw a b = first (rawRefusal g raw a) (rawRefusal g raw b)
 
 abbrev pub storeVRefusal : Typing → ℕ → ℕ → ℕ → ℕ
 storeVRefusal g a b c =
-    let raw = argumentCell b in
+    let raw = reservedCell b in
     first (judge (unused c)) (first (copyRefusal g raw a b) (first (copyRefusal g raw (a + 1) (b + 1)) (copyRefusal g raw (a + 2) (b + 2))))

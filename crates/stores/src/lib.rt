@@ -3,7 +3,7 @@ use definition::Answer;
 ghost use mathlib.Core.Path.{_≡_};
 ghost use Prim.Native.Nat.{_+_, _-_, _*_, _≤_, _<_};
 ghost use lib.ListN.{length};
-ghost use Rattle.definition.specs.Statements.{storesEffect, storesVEffect, moved, argumentCell};
+ghost use Rattle.definition.specs.Statements.{storesEffect, storesVEffect, moved, reservedCell};
 ghost use Rattle.typed.specs.Typing.{typing};
 ghost use Rattle.globals.specs.Effects.{after, effectOn};
 ghost use Rattle.stores.specs.Refusals.{rawRefusal, copyRefusal, storeVRefusal};
@@ -30,8 +30,8 @@ pub fn op_stores(
     requires { ⌜ (8 * ndefs ≤ length (now file) - defs) × (count ≤ length (now cells)) ⌝ }
     ensures { λ r. ⌜ after r (now (cells .exit)) ≡ effectOn (storesEffect t (typing (now (file .entry)) defs ndefs count) a b c (now (cells .entry))) (now (cells .entry)) ⌝ }
 {
-    let positive = typed::must_be_positive(t) | (t == typed::STRING);
-    let refusal = globals::check_unary(file, defs, ndefs, count, cells, c, positive, t, a, t, b);
+    let natural = typed::must_be_natural(t) | (t == typed::STRING);
+    let refusal = globals::check_unary(file, defs, ndefs, count, cells, c, natural, t, a, t, b);
     if refusal != 0 {
         return Answer::Refused(refusal);
     }
@@ -73,8 +73,8 @@ fn check_copy(
     check_raw(file, defs, ndefs, count, raw, b)
 }
 
-fn argument_cell(cell: usize) -> bool
-    ensures { λ r. ⌜ r ≡ argumentCell cell ⌝ }
+fn reserved_cell(cell: usize) -> bool
+    ensures { λ r. ⌜ r ≡ reservedCell cell ⌝ }
 {
     (1 <= cell) & (cell <= 27)
 }
@@ -95,7 +95,7 @@ fn check_store_v(
     if w != 0 {
         return w;
     }
-    let raw = argument_cell(b);
+    let raw = reserved_cell(b);
     let x = check_copy(file, defs, ndefs, count, raw, a, b);
     if x != 0 {
         return x;

@@ -16,7 +16,7 @@ threeRefusal g ta a tb b tc c = first (judge (access g ta a)) (first (judge (acc
 
 -- a read of a value, then an access of the cell that is written
 abbrev pub moveRefusal : Typing → Bool → ℕ → ℕ → ℕ → ℕ → List ℕ → ℕ
-moveRefusal g positive ta a tb b cells = first (judge (readAccess g positive ta a cells)) (judge (access g tb b))
+moveRefusal g natural ta a tb b cells = first (judge (readAccess g natural ta a cells)) (judge (access g tb b))
 
 -- the components of an operand of a type stand below n
 pub record Reaches (t cell n : ℕ) : Type 0 where

@@ -4,7 +4,7 @@ ghost use Prim.Native.Nat.{_+_, _-_, _*_, _≤_, _<_};
 ghost use lib.ListN.{length};
 ghost use Rattle.definition.specs.Checks.{judge};
 ghost use Rattle.definition.specs.File.{records, readDefinition};
-ghost use Rattle.definition.specs.Cells.{lookup, scalar, passes, cellAccess, vectorAccess, access, mustBePositive, readAccess};
+ghost use Rattle.definition.specs.Cells.{lookup, scalar, passes, cellAccess, vectorAccess, access, mustBeNatural, readAccess};
 ghost use Rattle.typed.specs.Typing.{typing, definitionsIn, typeCheck};
 ghost use Rattle.typed.specs.Checking.{threeRefusal, moveRefusal};
 use functions::reads;
@@ -160,8 +160,8 @@ pub fn check_three(
 }
 
 // Entity and field numbers must not be negative when they are read.
-pub fn must_be_positive(t: u16) -> bool
-    ensures { λ r. ⌜ r ≡ mustBePositive t ⌝ }
+pub fn must_be_natural(t: u16) -> bool
+    ensures { λ r. ⌜ r ≡ mustBeNatural t ⌝ }
 {
     (t == ENTITY) | (t == FIELD)
 }
@@ -173,18 +173,18 @@ pub fn check_read(
     ndefs: usize,
     count: usize,
     cells: &[u32],
-    positive: bool,
+    natural: bool,
     t: u16,
     cell: usize,
 ) -> u8
     requires { ⌜ (8 * ndefs ≤ length (now file) - defs) × (count ≤ length (now cells)) ⌝ }
-    ensures { λ r. ⌜ r ≡ judge (readAccess (typing (now (file .entry)) defs ndefs count) positive t cell (now (cells .entry))) ⌝ }
+    ensures { λ r. ⌜ r ≡ judge (readAccess (typing (now (file .entry)) defs ndefs count) natural t cell (now (cells .entry))) ⌝ }
 {
     let r = check_access(file, defs, ndefs, count, t, cell);
     if r != 0 {
         return r;
     }
-    if positive & (0x8000_0000 <= cells[cell]) {
+    if natural & (0x8000_0000 <= cells[cell]) {
         return 17;
     }
     0
@@ -197,16 +197,16 @@ pub fn check_move(
     ndefs: usize,
     count: usize,
     cells: &[u32],
-    positive: bool,
+    natural: bool,
     ta: u16,
     a: usize,
     tb: u16,
     b: usize,
 ) -> u8
     requires { ⌜ (8 * ndefs ≤ length (now file) - defs) × (count ≤ length (now cells)) ⌝ }
-    ensures { λ r. ⌜ r ≡ moveRefusal (typing (now (file .entry)) defs ndefs count) positive ta a tb b (now (cells .entry)) ⌝ }
+    ensures { λ r. ⌜ r ≡ moveRefusal (typing (now (file .entry)) defs ndefs count) natural ta a tb b (now (cells .entry)) ⌝ }
 {
-    let r = check_read(file, defs, ndefs, count, cells, positive, ta, a);
+    let r = check_read(file, defs, ndefs, count, cells, natural, ta, a);
     if r != 0 {
         return r;
     }

@@ -15,7 +15,7 @@ use Rattle.definition.specs.Statements.{placeOf}
 use Rattle.functions.specs.declared.fetch.Fetched.{Fetched}
 use Rattle.functions.specs.declared.fetch.Fetched.the-variants as fetch
 use Rattle.functions.specs.Answers.{fetched}
-use Rattle.functions.specs.Laws.{length-records, getD-records}
+use Rattle.definition.specs.RecordLaws.{length-records, getD-records}
 use Rattle.view.specs.declared.FoundDefinition.the-variants as definition
 use Rattle.view.specs.Records.{recordAt, statementIn, functionIn, notFound, isFound, definitionIn, noDefinition}
 

@@ -1,5 +1,6 @@
 use mathlib.Core.Path.{sym, _∙_}
-use Rattle.functions.specs.Laws.{length-records, function-found}
+use Rattle.definition.specs.RecordLaws.{length-records}
+use Rattle.functions.specs.Laws.{function-found}
 use Rattle.execution.proofs.Transfers.{call-none, call-missing, call-unknown, call-builtin, call-enters}
 use borrow.Author.Needs.{needs}
 use Rattle.execution.proofs.callee.Statement.{statement}

@@ -2,7 +2,8 @@ use Prim.Native.Nat.{_+_, _*_, _≤_}
 use mathlib.Core.Path.{sym, _∙_}
 use native.Mathlib.Omega.{arith}
 use lib.ListN.{length}
-use Rattle.functions.specs.Laws.{lump-at, getD-records}
+use Rattle.definition.specs.RecordLaws.{getD-records}
+use Rattle.functions.specs.Laws.{lump-at}
 use Rattle.functions.proofs.get_def.Statement.{statement}
 use Rattle.functions.proofs.get_def.Tie as tie
 

@@ -11,14 +11,14 @@ check-unused-requires c κs = search needs
 returns : tie.Need-returns
 returns c = stop _ _ _ (c .if1 .taken) (c .before .check-unused .ensures)
 
-argument-cell-requires : tie.Need-argument-cell-requires
-argument-cell-requires c κs = search needs
+reserved-cell-requires : tie.Need-reserved-cell-requires
+reserved-cell-requires c κs = search needs
 
 check-copy-requires : tie.Need-check-copy-requires
 check-copy-requires c κs = search needs
 
 returns-2 : tie.Need-returns-2
-returns-2 c = passed (c .before .before .before .before .check-unused .ensures) (c .before .before .before .if1 .left) (stop _ _ _ (c .if2 .taken) (rw (c .before .before .argument-cell .ensures) at (c .before .check-copy .ensures)))
+returns-2 c = passed (c .before .before .before .before .check-unused .ensures) (c .before .before .before .if1 .left) (stop _ _ _ (c .if2 .taken) (rw (c .before .before .reserved-cell .ensures) at (c .before .check-copy .ensures)))
 
 add-check-copy : tie.Need-add-check-copy
 add-check-copy c = let h = reach-copy _ _ _ _ (sym (c .before .check-copy .ensures) ∙ c .if2 .left) in search needs
@@ -30,7 +30,7 @@ check-copy-requires-2 : tie.Need-check-copy-requires-2
 check-copy-requires-2 c κs = search needs
 
 returns-3 : tie.Need-returns-3
-returns-3 c = passed (c .before .before .before .before .before .before .check-unused .ensures) (c .before .before .before .before .before .if1 .left) (passed (rw (c .before .before .before .before .argument-cell .ensures) at (c .before .before .before .check-copy .ensures)) (c .before .before .if2 .left) (stop _ _ _ (c .if3 .taken) (rw (c .before .before .before .before .argument-cell .ensures) at (c .before .check-copy2 .ensures))))
+returns-3 c = passed (c .before .before .before .before .before .before .check-unused .ensures) (c .before .before .before .before .before .if1 .left) (passed (rw (c .before .before .before .before .reserved-cell .ensures) at (c .before .before .before .check-copy .ensures)) (c .before .before .if2 .left) (stop _ _ _ (c .if3 .taken) (rw (c .before .before .before .before .reserved-cell .ensures) at (c .before .check-copy2 .ensures))))
 
 add-check-copy-3 : tie.Need-add-check-copy-3
 add-check-copy-3 c = let h = reach-copy _ _ _ _ (sym (c .before .check-copy2 .ensures) ∙ c .if3 .left) in search needs
@@ -42,7 +42,7 @@ check-copy-requires-3 : tie.Need-check-copy-requires-3
 check-copy-requires-3 c κs = search needs
 
 returns-4 : tie.Need-returns-4
-returns-4 c = passed (c .before .before .before .before .before .before .before .check-unused .ensures) (c .before .before .before .before .before .before .if1 .left) (passed (rw (c .before .before .before .before .before .argument-cell .ensures) at (c .before .before .before .before .check-copy .ensures)) (c .before .before .before .if2 .left) (passed (rw (c .before .before .before .before .before .argument-cell .ensures) at (c .before .before .check-copy2 .ensures)) (c .before .if3 .left) (rw (c .before .before .before .before .before .argument-cell .ensures) at (c .check-copy3 .ensures))))
+returns-4 c = passed (c .before .before .before .before .before .before .before .check-unused .ensures) (c .before .before .before .before .before .before .if1 .left) (passed (rw (c .before .before .before .before .before .reserved-cell .ensures) at (c .before .before .before .before .check-copy .ensures)) (c .before .before .before .if2 .left) (passed (rw (c .before .before .before .before .before .reserved-cell .ensures) at (c .before .before .check-copy2 .ensures)) (c .before .if3 .left) (rw (c .before .before .before .before .before .reserved-cell .ensures) at (c .check-copy3 .ensures))))
 
 pub check-store-v-spec : {M : Type 1} → statement M
 check-store-v-spec =
@@ -50,7 +50,7 @@ check-store-v-spec =
     (tie.spec
     check-unused-requires
     returns
-    argument-cell-requires
+    reserved-cell-requires
     check-copy-requires
     returns-2
     add-check-copy

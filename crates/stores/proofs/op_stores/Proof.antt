@@ -7,8 +7,8 @@ use borrow.Author.Needs.{needs}
 use Rattle.stores.proofs.op_stores.Statement.{statement}
 use Rattle.stores.proofs.op_stores.Tie as tie
 
-must-be-positive-requires : tie.Need-must-be-positive-requires
-must-be-positive-requires c κs = search needs
+must-be-natural-requires : tie.Need-must-be-natural-requires
+must-be-natural-requires c κs = search needs
 
 check-unary-requires : tie.Need-check-unary-requires
 check-unary-requires c κs = search needs
@@ -17,7 +17,7 @@ same-length : tie.Need-same-length
 same-length c = search needs
 
 returns : tie.Need-returns
-returns c = refused _ _ (stores-is _ _ _ _ _ _) _ (c .if1 .taken) (rw (c .before .before .before .must-be-positive .ensures) at (c .before .check-unary .ensures))
+returns c = refused _ _ (stores-is _ _ _ _ _ _) _ (c .if1 .taken) (rw (c .before .before .before .must-be-natural .ensures) at (c .before .check-unary .ensures))
 
 apply-stores-requires : tie.Need-apply-stores-requires
 apply-stores-requires c κs =
@@ -28,13 +28,13 @@ same-length-2 : tie.Need-same-length-2
 same-length-2 c = search needs
 
 returns-2 : tie.Need-returns-2
-returns-2 c = accepted _ _ (stores-is _ _ _ _ _ _) _ (sym (rw (c .before .before .before .before .before .before .before .must-be-positive .ensures) at (c .before .before .before .before .before .check-unary .ensures)) ∙ c .before .before .before .before .if1 .left) (c .before .before .apply-stores .ensures)
+returns-2 c = accepted _ _ (stores-is _ _ _ _ _ _) _ (sym (rw (c .before .before .before .before .before .before .before .must-be-natural .ensures) at (c .before .before .before .before .before .check-unary .ensures)) ∙ c .before .before .before .before .if1 .left) (c .before .before .apply-stores .ensures)
 
 pub op-stores-spec : {M : Type 1} → statement M
 op-stores-spec =
     tie.close
     (tie.spec
-    must-be-positive-requires
+    must-be-natural-requires
     check-unary-requires
     same-length
     returns
