@@ -36,6 +36,12 @@ either false b e f = e
 
 -- ---- lumps
 
+-- the records of a lump that isn't empty end in the file
+pub lump-end : (size end : ℕ) (l : Lump) → lumpFits size end l ≡ true → (l .count ≡ 0 → ⊥) → l .offset + size * l .count ≤ end
+lump-end size end l e some =
+    let signs = both (not (negative (l .offset)) && not (negative (l .count))) _ e in
+    leb-true _ _ (either _ _ (signs .1) (ne-eqb _ _ some))
+
 -- what it is for a lump to fit
 pub record Fitting (size end : ℕ) (l : Lump) : Type 0 where
   pub offset : l .offset < 2147483648
@@ -50,7 +56,7 @@ lump-fitting size end l e =
     record {
       offset = leb-false _ _ (not-true _ (s .0));
       count = leb-false _ _ (not-true _ (s .1));
-      record-at = λ i h. last i h (leb-true _ _ (either _ _ (signs .1) (ne-eqb _ _ (λ (z : l .count ≡ 0). omega arith))));
+      record-at = λ i h. last i h (lump-end size end l e (λ (z : l .count ≡ 0). omega arith));
     }
   where
     last : (i : ℕ) → i < l .count → l .offset + size * l .count ≤ end → l .offset + size * i + size ≤ end
