@@ -34,9 +34,7 @@ pub enum Executed {
 
 // A statement that writes cells.
 fn write(
-    file: &[u8],
-    defs: usize,
-    ndefs: usize,
+    defs: &[u8],
     count: usize,
     cells: &mut [u32],
     what: CellOp,
@@ -45,26 +43,13 @@ fn write(
     b: usize,
     c: usize,
 ) -> Answer
-    requires { ⌜ (8 * ndefs ≤ length (now file) - defs) × (count ≤ length (now cells)) ⌝ }
-    ensures { λ r. ⌜ after r (now (cells .exit)) ≡ effectOn (effectAs what op (typing (now (file .entry)) defs ndefs count) a b c (now (cells .entry))) (now (cells .entry)) ⌝ }
+    requires { ⌜ count ≤ length (now cells) ⌝ }
+    ensures { λ r. ⌜ after r (now (cells .exit)) ≡ effectOn (effectAs what op (typing (now (defs .entry)) count) a b c (now (cells .entry))) (now (cells .entry)) ⌝ }
 {
     match what {
-        CellOp::Values(t) => return comparisons::op_values(
-            file,
-            defs,
-            ndefs,
-            count,
-            cells,
-            op,
-            t,
-            a,
-            b,
-            c,
-        ),
+        CellOp::Values(t) => return comparisons::op_values(defs, count, cells, op, t, a, b, c),
         CellOp::Vectors(ta, tb) => return arithmetic::op_vectors(
-            file,
             defs,
-            ndefs,
             count,
             cells,
             op,
@@ -74,34 +59,13 @@ fn write(
             b,
             c,
         ),
-        CellOp::Dots => return arithmetic::op_dots(file, defs, ndefs, count, cells, op, a, b, c),
-        CellOp::Strings => return comparisons::op_strings(
-            file,
-            defs,
-            ndefs,
-            count,
-            cells,
-            op,
-            a,
-            b,
-            c,
-        ),
-        CellOp::Nots(t) => return comparisons::op_nots(
-            file,
-            defs,
-            ndefs,
-            count,
-            cells,
-            op,
-            t,
-            a,
-            b,
-            c,
-        ),
-        CellOp::NotV => return comparisons::op_not_v(file, defs, ndefs, count, cells, a, b, c),
-        CellOp::NotS => return comparisons::op_not_s(file, defs, ndefs, count, cells, a, b, c),
-        CellOp::Stores(t) => return stores::op_stores(file, defs, ndefs, count, cells, t, a, b, c),
-        CellOp::StoreV => return stores::op_store_v(file, defs, ndefs, count, cells, a, b, c),
+        CellOp::Dots => return arithmetic::op_dots(defs, count, cells, op, a, b, c),
+        CellOp::Strings => return comparisons::op_strings(defs, count, cells, op, a, b, c),
+        CellOp::Nots(t) => return comparisons::op_nots(defs, count, cells, op, t, a, b, c),
+        CellOp::NotV => return comparisons::op_not_v(defs, count, cells, a, b, c),
+        CellOp::NotS => return comparisons::op_not_s(defs, count, cells, a, b, c),
+        CellOp::Stores(t) => return stores::op_stores(defs, count, cells, t, a, b, c),
+        CellOp::StoreV => return stores::op_store_v(defs, count, cells, a, b, c),
     }
 }
 
@@ -117,9 +81,7 @@ fn completed(k: usize, answer: Answer) -> Executed
 
 // If jumps where the float isn't zero, IfNot where it is.
 fn branch(
-    file: &[u8],
-    defs: usize,
-    ndefs: usize,
+    defs: &[u8],
     count: usize,
     cells: &[u32],
     k: usize,
@@ -127,10 +89,10 @@ fn branch(
     a: usize,
     by: u16,
 ) -> Executed
-    requires { ⌜ (8 * ndefs ≤ length (now file) - defs) × (count ≤ length (now cells)) × (k < 2147483648) ⌝ }
-    ensures { λ r. ⌜ doesOf r (now (cells .entry)) ≡ branchesDo when (typing (now (file .entry)) defs ndefs count) (pos k) a (signed by) (now (cells .entry)) ⌝ }
+    requires { ⌜ (count ≤ length (now cells)) × (k < 2147483648) ⌝ }
+    ensures { λ r. ⌜ doesOf r (now (cells .entry)) ≡ branchesDo when (typing (now (defs .entry)) count) (pos k) a (signed by) (now (cells .entry)) ⌝ }
 {
-    let r = typed::check_cell(file, defs, ndefs, count, typed::FLOAT, a);
+    let r = typed::check_cell(defs, count, typed::FLOAT, a);
     if r != 0 {
         return Executed::Refused(r);
     }
@@ -162,19 +124,17 @@ fn callee(file: &[u8], functions: usize, nfunctions: usize, value: u32) -> Execu
 }
 
 fn call(
-    file: &[u8],
-    defs: usize,
-    ndefs: usize,
+    defs: &[u8],
     functions: usize,
     nfunctions: usize,
     count: usize,
     cells: &[u32],
     a: usize,
 ) -> Executed
-    requires { ⌜ (8 * ndefs ≤ length (now file) - defs) × (lumpFits 36 (length (now file)) (lump functions nfunctions) ≡ true) × (count ≤ length (now cells)) ⌝ }
-    ensures { λ r. ⌜ doesOf r (now (cells .entry)) ≡ callDoes (functionsIn (now (file .entry)) functions nfunctions) (typing (now (file .entry)) defs ndefs count) a (now (cells .entry)) ⌝ }
+    requires { ⌜ (lumpFits 36 (length (now file)) (lump functions nfunctions) ≡ true) × (count ≤ length (now cells)) ⌝ }
+    ensures { λ r. ⌜ doesOf r (now (cells .entry)) ≡ callDoes (functionsIn (now (file .entry)) functions nfunctions) (typing (now (defs .entry)) count) a (now (cells .entry)) ⌝ }
 {
-    let r = typed::check_cell(file, defs, ndefs, count, typed::FUNCTION, a);
+    let r = typed::check_cell(defs, count, typed::FUNCTION, a);
     if r != 0 {
         return Executed::Refused(r);
     }
@@ -183,9 +143,7 @@ fn call(
 
 // The statement k, whose opcode is op and whose operands are x, y and z.
 pub fn execute(
-    file: &[u8],
-    defs: usize,
-    ndefs: usize,
+    defs: &[u8],
     functions: usize,
     nfunctions: usize,
     count: usize,
@@ -196,11 +154,11 @@ pub fn execute(
     y: u16,
     z: u16,
 ) -> Executed
-    requires { ⌜ (8 * ndefs ≤ length (now file) - defs) × (lumpFits 36 (length (now file)) (lump functions nfunctions) ≡ true) × (count ≤ length (now cells)) × (count ≤ 32768) × (k < 2147483648) × (op < 66) ⌝ }
-    ensures { λ r. ⌜ executed r (now (cells .exit)) ≡ execution (executeWith (functionsIn (now (file .entry)) functions nfunctions) (typing (now (file .entry)) defs ndefs count) (pos k) (statement op x y z) (now (cells .entry))) (now (cells .entry)) ⌝ }
+    requires { ⌜ (lumpFits 36 (length (now file)) (lump functions nfunctions) ≡ true) × (count ≤ length (now cells)) × (count ≤ 32768) × (k < 2147483648) × (op < 66) ⌝ }
+    ensures { λ r. ⌜ executed r (now (cells .exit)) ≡ execution (executeWith (functionsIn (now (file .entry)) functions nfunctions) (typing (now (defs .entry)) count) (pos k) (statement op x y z) (now (cells .entry))) (now (cells .entry)) ⌝ }
 {
     if shapes::is_floats(op) {
-        let answer = arithmetic::op_floats(file, defs, ndefs, count, cells, op, x, y, z);
+        let answer = arithmetic::op_floats(defs, count, cells, op, x, y, z);
         return completed(k, answer);
     }
     let a = fetch::cell_of(x);
@@ -208,9 +166,7 @@ pub fn execute(
     match shape {
         Shape::Cells(what) => {
             let answer = write(
-                file,
                 defs,
-                ndefs,
                 count,
                 cells,
                 what,
@@ -221,9 +177,9 @@ pub fn execute(
             );
             return completed(k, answer);
         }
-        Shape::Branch(when) => return branch(file, defs, ndefs, count, cells, k, when, a, y),
+        Shape::Branch(when) => return branch(defs, count, cells, k, when, a, y),
         Shape::Goto => return Executed::Next(fetch::jump(k, x)),
-        Shape::Call => return call(file, defs, ndefs, functions, nfunctions, count, cells, a),
+        Shape::Call => return call(defs, functions, nfunctions, count, cells, a),
         Shape::Return => return Executed::Returns(a),
         Shape::Host => return Executed::HandedOver(Handover::Opcode(op as u32)),
     }
@@ -243,9 +199,7 @@ fn is_handed_over(done: Executed) -> bool
 
 // Whether a statement, with the cells as they are, would be handed over.
 pub fn hands_over(
-    file: &[u8],
-    defs: usize,
-    ndefs: usize,
+    defs: &[u8],
     functions: usize,
     nfunctions: usize,
     count: usize,
@@ -253,8 +207,8 @@ pub fn hands_over(
     op: u16,
     x: u16,
 ) -> bool
-    requires { ⌜ (8 * ndefs ≤ length (now file) - defs) × (lumpFits 36 (length (now file)) (lump functions nfunctions) ≡ true) × (count ≤ length (now cells)) × (op < 66) ⌝ }
-    ensures { λ r. ⌜ ((p : ℤ) (y z : ℕ) → r ≡ isHandedOver (executeWith (functionsIn (now (file .entry)) functions nfunctions) (typing (now (file .entry)) defs ndefs count) p (statement op x y z) (now (cells .entry)))) ⌝ }
+    requires { ⌜ (lumpFits 36 (length (now file)) (lump functions nfunctions) ≡ true) × (count ≤ length (now cells)) × (op < 66) ⌝ }
+    ensures { λ r. ⌜ ((p : ℤ) (y z : ℕ) → r ≡ isHandedOver (executeWith (functionsIn (now (file .entry)) functions nfunctions) (typing (now (defs .entry)) count) p (statement op x y z) (now (cells .entry)))) ⌝ }
 {
     if shapes::is_floats(op) {
         return false;
@@ -266,7 +220,7 @@ pub fn hands_over(
         Shape::Goto => return false,
         Shape::Call => {
             let a = fetch::cell_of(x);
-            let done = call(file, defs, ndefs, functions, nfunctions, count, cells, a);
+            let done = call(defs, functions, nfunctions, count, cells, a);
             return is_handed_over(done);
         }
         Shape::Return => return false,
@@ -287,16 +241,14 @@ pub fn does(
     cells: &mut [u32],
     pc: i64,
 ) -> Executed
-    requires { ⌜ (lumpFits 8 (length (now file)) (lump statements nstatements) ≡ true) × (8 * ndefs ≤ length (now file) - defs) × (lumpFits 36 (length (now file)) (lump functions nfunctions) ≡ true) × (count ≤ length (now cells)) × (count ≤ 32768) ⌝ }
-    ensures { λ r. ⌜ executed r (now (cells .exit)) ≡ execution (doesWith (statementsIn (now (file .entry)) statements nstatements) (functionsIn (now (file .entry)) functions nfunctions) (typing (now (file .entry)) defs ndefs count) pc (now (cells .entry))) (now (cells .entry)) ⌝ }
+    requires { ⌜ (lumpFits 8 (length (now file)) (lump statements nstatements) ≡ true) × (lumpFits 36 (length (now file)) (lump functions nfunctions) ≡ true) × (count ≤ length (now cells)) × (count ≤ 32768) ⌝ }
+    ensures { λ r. ⌜ executed r (now (cells .exit)) ≡ execution (doesWith (statementsIn (now (file .entry)) statements nstatements) (functionsIn (now (file .entry)) functions nfunctions) (typing (now (defs .entry)) count) pc (now (cells .entry))) (now (cells .entry)) ⌝ }
 {
     let fetched = fetch::fetch(file, statements, nstatements, pc);
     match fetched {
         Fetched::Refused(n) => return Executed::Refused(n),
         Fetched::At(k, s) => return execute(
-            file,
             defs,
-            ndefs,
             functions,
             nfunctions,
             count,

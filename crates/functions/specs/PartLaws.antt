@@ -3,7 +3,8 @@ use Prim.Native.Nat.{ℕ, zero, suc, _+_, _*_, _/_, _≤_, _<_}
 use mathlib.Core.Path.{_≡_, refl, sym, ap, _∙_}
 use mathlib.Core.List.{List, [], _∷_}
 use mathlib.Core.Bool.{true}
-use native.Mathlib.Nat.{mul-div-cancel-left, add-assoc, add-zero, zero-add, mul-suc, mul-zero, mul-div-le, mul-le-mul-left}
+use native.Mathlib.Nat.{mul-div-cancel-left, add-assoc, add-zero, zero-add, mul-suc, mul-zero, mul-div-le, mul-le-mul-left, div-eq-sub-div}
+use native.Mathlib.Numerals.{add-one}
 use native.Mathlib.Omega.{arith}
 use lib.ListN.{length, getD, take, drop, length-take, length-drop}
 use lib.Seq.{getD-take, getD-drop, length-take-le}
@@ -50,6 +51,13 @@ module _ {A : Type 0} (read : List ℕ → ℕ → A) (size : ℕ) (own : Local 
       let rest = same-records f g n (i + size) (j + size) (inner s size (size * n) (omega (arith, mul-suc size n))) in
       cc
 
+  -- a part that is long enough has a record more than what is behind its first
+  pub records-more : 0 < size → (part : List ℕ) → size ≤ length part → recordsOf read size part ≡ read part 0 ∷ recordsOf read size (drop size part)
+  unfolding records byteAt
+  records-more some part h =
+      let one : length part / size ≡ suc (length (drop size part) / size) = rw (div-eq-sub-div some h, add-one, length-drop size part) in
+      rw one (ap (λ (rest : List A). read part 0 ∷ rest) (same-records part (drop size part) (length (drop size part) / size) (0 + size) 0 (record { byte = λ k l. rw (zero-add size, zero-add k) (sym (getD-drop size part k 0)) })))
+
   module _ (some : 0 < size) (file : List ℕ) (l : Lump) (fits : lumpFits size (length file) l ≡ true) where
     pub length-part : length (partOf size l file) ≡ size * l .count
     length-part = by (l .count) refl
@@ -75,7 +83,7 @@ statement-local f g i j s =
     let d = u16-local _ _ _ _ (inner s 6 2 (omega arith)) in
     cc
 
-definition-local : Local readDefinition 8
+pub definition-local : Local readDefinition 8
 definition-local f g i j s =
     let a = u16-local f g i j (first s 2 (omega arith)) in
     let b = u16-local _ _ _ _ (inner s 2 2 (omega arith)) in
