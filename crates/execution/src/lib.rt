@@ -2,24 +2,26 @@
 use crate::shapes::CellOp;
 use crate::shapes::Shape;
 use definition::Answer;
+use definition::FileRecord;
 use definition::Handover;
+use definition::Statement;
 use functions::fetch;
 use functions::fetch::Fetched;
+use functions::parts;
 ghost use mathlib.Core.Path.{_≡_};
-ghost use mathlib.Core.Bool.{true};
 ghost use mathlib.Core.List.{List};
-ghost use Prim.Native.Nat.{ℕ, _-_, _*_, _≤_, _<_};
+ghost use Prim.Native.Nat.{ℕ, _≤_, _<_};
 ghost use lib.IntN.{ℤ, pos};
-ghost use lib.ListN.{length, getD};
-ghost use Rattle.definition.specs.File.{lumpFits};
+ghost use lib.ListN.{length};
+ghost use Rattle.definition.specs.File.{contentsAt};
 ghost use Rattle.definition.specs.Cells.{signed, cellOf};
-ghost use Rattle.definition.specs.Statements.{branchesDo, callOf, callDoes};
+ghost use Rattle.definition.specs.Statements.{branchesDo, callOf, callDoes, execute, doesAt};
 ghost use Rattle.definition.specs.Operations.{isHandedOver};
-ghost use Rattle.functions.specs.Answers.{lump};
+ghost use Rattle.functions.specs.Parts.{functionsIn};
 ghost use Rattle.typed.specs.Typing.{typing};
 ghost use Rattle.globals.specs.Effects.{after, effectOn};
 ghost use Rattle.execution.specs.Shapes.{effectAs};
-ghost use Rattle.execution.specs.Execution.{functionsIn, statementsIn, statement, executeWith, doesWith, completedAs, doesOf, executed, execution};
+ghost use Rattle.execution.specs.Execution.{completedAs, doesOf, executed, execution, Usable};
 
 pub mod shapes;
 
@@ -103,17 +105,16 @@ fn branch(
 }
 
 // A Call of the function with a number.
-fn callee(file: &[u8], functions: usize, nfunctions: usize, value: u32) -> Executed
-    requires { ⌜ lumpFits 36 (length (now file)) (lump functions nfunctions) ≡ true ⌝ }
-    ensures { λ r. ⌜ ((cells : List ℕ) → doesOf r cells ≡ callOf (functionsIn (now (file .entry)) functions nfunctions) value) ⌝ }
+fn callee(functions: &[u8], value: u32) -> Executed
+    ensures { λ r. ⌜ ((cells : List ℕ) → doesOf r cells ≡ callOf (functionsIn (now (functions .entry))) value) ⌝ }
 {
     if value == 0 {
         return Executed::Refused(19);
     }
-    let functions::FunctionId::Id(f) = functions::id_from_i32(value, nfunctions) else {
+    let functions::FunctionId::Id(f) = functions::id_from_i32(value, functions.len() / 36) else {
         return Executed::Refused(20);
     };
-    let def = functions::get_def(file, functions, nfunctions, f);
+    let def = functions::get_def(functions, f);
     if functions::is_builtin(def) {
         if functions::builtin_known(def) {
             return Executed::HandedOver(Handover::Builtin(functions::builtin_of(def)));
@@ -123,65 +124,52 @@ fn callee(file: &[u8], functions: usize, nfunctions: usize, value: u32) -> Execu
     Executed::Calls(f)
 }
 
-fn call(
-    defs: &[u8],
-    functions: usize,
-    nfunctions: usize,
-    count: usize,
-    cells: &[u32],
-    a: usize,
-) -> Executed
-    requires { ⌜ (lumpFits 36 (length (now file)) (lump functions nfunctions) ≡ true) × (count ≤ length (now cells)) ⌝ }
-    ensures { λ r. ⌜ doesOf r (now (cells .entry)) ≡ callDoes (functionsIn (now (file .entry)) functions nfunctions) (typing (now (defs .entry)) count) a (now (cells .entry)) ⌝ }
+fn call(defs: &[u8], functions: &[u8], count: usize, cells: &[u32], a: usize) -> Executed
+    requires { ⌜ count ≤ length (now cells) ⌝ }
+    ensures { λ r. ⌜ doesOf r (now (cells .entry)) ≡ callDoes (functionsIn (now (functions .entry))) (typing (now (defs .entry)) count) a (now (cells .entry)) ⌝ }
 {
     let r = typed::check_cell(defs, count, typed::FUNCTION, a);
     if r != 0 {
         return Executed::Refused(r);
     }
-    callee(file, functions, nfunctions, cells[a])
+    callee(functions, cells[a])
 }
 
-// The statement k, whose opcode is op and whose operands are x, y and z.
+// The statement k.
 pub fn execute(
-    defs: &[u8],
-    functions: usize,
-    nfunctions: usize,
-    count: usize,
+    file: &[u8],
+    recorded: FileRecord,
     cells: &mut [u32],
     k: usize,
-    op: u16,
-    x: u16,
-    y: u16,
-    z: u16,
+    s: Statement,
 ) -> Executed
-    requires { ⌜ (lumpFits 36 (length (now file)) (lump functions nfunctions) ≡ true) × (count ≤ length (now cells)) × (count ≤ 32768) × (k < 2147483648) × (op < 66) ⌝ }
-    ensures { λ r. ⌜ executed r (now (cells .exit)) ≡ execution (executeWith (functionsIn (now (file .entry)) functions nfunctions) (typing (now (defs .entry)) count) (pos k) (statement op x y z) (now (cells .entry))) (now (cells .entry)) ⌝ }
+    requires { ⌜ Usable (length (now file)) recorded (length (now cells)) ⌝ }
+    requires { ⌜ (k < 2147483648) × (s .opcode < 66) ⌝ }
+    ensures { λ r. ⌜ executed r (now (cells .exit)) ≡ execution (execute (contentsAt recorded (now (file .entry))) (pos k) s (now (cells .entry))) (now (cells .entry)) ⌝ }
 {
-    if shapes::is_floats(op) {
-        let answer = arithmetic::op_floats(defs, count, cells, op, x, y, z);
+    let defs = parts::part(file, 8, recorded.globaldefs);
+    let count = recorded.globals.count;
+    if shapes::is_floats(s.opcode) {
+        let answer = arithmetic::op_floats(defs, count, cells, s.opcode, s.arg1, s.arg2, s.arg3);
         return completed(k, answer);
     }
-    let a = fetch::cell_of(x);
-    let shape = shapes::shape_of(op);
+    let a = fetch::cell_of(s.arg1);
+    let shape = shapes::shape_of(s.opcode);
     match shape {
         Shape::Cells(what) => {
-            let answer = write(
-                defs,
-                count,
-                cells,
-                what,
-                op,
-                a,
-                fetch::cell_of(y),
-                fetch::cell_of(z),
-            );
+            let b = fetch::cell_of(s.arg2);
+            let c = fetch::cell_of(s.arg3);
+            let answer = write(defs, count, cells, what, s.opcode, a, b, c);
             return completed(k, answer);
         }
-        Shape::Branch(when) => return branch(defs, count, cells, k, when, a, y),
-        Shape::Goto => return Executed::Next(fetch::jump(k, x)),
-        Shape::Call => return call(defs, functions, nfunctions, count, cells, a),
+        Shape::Branch(when) => return branch(defs, count, cells, k, when, a, s.arg2),
+        Shape::Goto => return Executed::Next(fetch::jump(k, s.arg1)),
+        Shape::Call => {
+            let functions = parts::part(file, 36, recorded.functions);
+            return call(defs, functions, count, cells, a);
+        }
         Shape::Return => return Executed::Returns(a),
-        Shape::Host => return Executed::HandedOver(Handover::Opcode(op as u32)),
+        Shape::Host => return Executed::HandedOver(Handover::Opcode(s.opcode as u32)),
     }
 }
 
@@ -197,30 +185,25 @@ fn is_handed_over(done: Executed) -> bool
     }
 }
 
-// Whether a statement, with the cells as they are, would be handed over.
-pub fn hands_over(
-    defs: &[u8],
-    functions: usize,
-    nfunctions: usize,
-    count: usize,
-    cells: &[u32],
-    op: u16,
-    x: u16,
-) -> bool
-    requires { ⌜ (lumpFits 36 (length (now file)) (lump functions nfunctions) ≡ true) × (count ≤ length (now cells)) × (op < 66) ⌝ }
-    ensures { λ r. ⌜ ((p : ℤ) (y z : ℕ) → r ≡ isHandedOver (executeWith (functionsIn (now (file .entry)) functions nfunctions) (typing (now (defs .entry)) count) p (statement op x y z) (now (cells .entry)))) ⌝ }
+// Whether a statement, with the cells as they are, would be handed over: only a Call and what is the host's can be.
+pub fn hands_over(file: &[u8], recorded: FileRecord, cells: &[u32], s: Statement) -> bool
+    requires { ⌜ Usable (length (now file)) recorded (length (now cells)) ⌝ }
+    requires { ⌜ s .opcode < 66 ⌝ }
+    ensures { λ r. ⌜ ((p : ℤ) → r ≡ isHandedOver (execute (contentsAt recorded (now (file .entry))) p s (now (cells .entry)))) ⌝ }
 {
-    if shapes::is_floats(op) {
+    if shapes::is_floats(s.opcode) {
         return false;
     }
-    let shape = shapes::shape_of(op);
+    let shape = shapes::shape_of(s.opcode);
     match shape {
         Shape::Cells(_what) => return false,
         Shape::Branch(_when) => return false,
         Shape::Goto => return false,
         Shape::Call => {
-            let a = fetch::cell_of(x);
-            let done = call(defs, functions, nfunctions, count, cells, a);
+            let defs = parts::part(file, 8, recorded.globaldefs);
+            let functions = parts::part(file, 36, recorded.functions);
+            let count = recorded.globals.count;
+            let done = call(defs, functions, count, cells, fetch::cell_of(s.arg1));
             return is_handed_over(done);
         }
         Shape::Return => return false,
@@ -229,35 +212,13 @@ pub fn hands_over(
 }
 
 // What the statement at a position does; one that writes cells has done so.
-pub fn does(
-    file: &[u8],
-    statements: usize,
-    nstatements: usize,
-    defs: usize,
-    ndefs: usize,
-    functions: usize,
-    nfunctions: usize,
-    count: usize,
-    cells: &mut [u32],
-    pc: i64,
-) -> Executed
-    requires { ⌜ (lumpFits 8 (length (now file)) (lump statements nstatements) ≡ true) × (lumpFits 36 (length (now file)) (lump functions nfunctions) ≡ true) × (count ≤ length (now cells)) × (count ≤ 32768) ⌝ }
-    ensures { λ r. ⌜ executed r (now (cells .exit)) ≡ execution (doesWith (statementsIn (now (file .entry)) statements nstatements) (functionsIn (now (file .entry)) functions nfunctions) (typing (now (defs .entry)) count) pc (now (cells .entry))) (now (cells .entry)) ⌝ }
+pub fn does(file: &[u8], recorded: FileRecord, cells: &mut [u32], pc: i64) -> Executed
+    requires { ⌜ Usable (length (now file)) recorded (length (now cells)) ⌝ }
+    ensures { λ r. ⌜ executed r (now (cells .exit)) ≡ execution (doesAt (contentsAt recorded (now (file .entry))) pc (now (cells .entry))) (now (cells .entry)) ⌝ }
 {
-    let fetched = fetch::fetch(file, statements, nstatements, pc);
+    let fetched = fetch::fetch(parts::part(file, 8, recorded.statements), pc);
     match fetched {
         Fetched::Refused(n) => return Executed::Refused(n),
-        Fetched::At(k, s) => return execute(
-            defs,
-            functions,
-            nfunctions,
-            count,
-            cells,
-            k,
-            s.opcode,
-            s.arg1,
-            s.arg2,
-            s.arg3,
-        ),
+        Fetched::At(k, s) => return execute(file, recorded, cells, k, s),
     }
 }

@@ -174,6 +174,10 @@ short-file file r lent h = by (sameFile r (fileOf file)) refl
         rw (lt-leb 60 (r .length) (omega arith))
     by false e = refl
 
+pub count-statements : (r : FileRecord) (file : List ℕ) → length (contentsAt r file .statements) ≡ r .statements .count
+unfolding contentsAt
+count-statements r file = length-records _ _ _ _
+
 -- ---- the functions and statements of a file's program are those of its lumps
 
 module _ (file : List ℕ) where

@@ -26,7 +26,7 @@ impl ExecutionContext {
             if refusal != 0 {
                 return refusal;
             }
-            context = context.left(locals.count);
+            context = context.pop_frame(locals.count);
         }
         0
     }
@@ -46,7 +46,7 @@ impl ExecutionContext {
         let mut context = self;
         while target < context.depth {
             let locals = context.locals(file);
-            context = context.restored(locals, cells, saved);
+            context = context.leave_function(locals, cells, saved);
         }
         context
     }

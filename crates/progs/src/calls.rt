@@ -4,11 +4,9 @@ ghost use mathlib.Core.Bool.{true};
 ghost use Prim.Native.Nat.{ℕ, _+_, _≤_, _<_};
 ghost use lib.ListN.{length};
 ghost use Rattle.definition.specs.Checks.{judge};
-ghost use Rattle.definition.specs.Machine.{Program, functionOf, present, entryConditions, entered, enter, leaveConditions, left, leave};
+ghost use Rattle.definition.specs.Machine.{Program, functionOf, present, entryConditions, entered, enter, leaveConditions, left};
 ghost use Rattle.definition.specs.Load.{programOf};
-ghost use Rattle.definition.specs.File.{lumpFits};
-ghost use Rattle.functions.specs.Answers.{lump};
-ghost use Rattle.execution.specs.Execution.{functionsIn};
+ghost use Rattle.functions.specs.Parts.{partOf, functionsIn};
 ghost use Rattle.progs.specs.Contexts.{stateOf, config, outcomeOf, after, refusing, return, bare, rangeOf, Loaded, Within};
 ghost use Rattle.progs.specs.Numbers.{numbered, numberedIn, enteredContext, leftContext, noEntry, entryOf, entering, noLeaving, leavingOf, returning};
 use crate::Answered;
@@ -17,6 +15,7 @@ use crate::copies;
 use definition::Answer;
 use definition::FunctionDef;
 use definition::StackFrame;
+use functions::parts;
 
 // The local range of a function.
 pub struct Locals {
@@ -70,9 +69,7 @@ fn no_entry(refusal: u8) -> Entry
 
 // An entry as far as cells go: checks it, saves the local range and copies the arguments. A run keeps its context in place, and takes numbers from here.
 pub fn enter_cells(
-    file: &[u8],
-    functions: usize,
-    nfunctions: usize,
+    functions: &[u8],
     f: usize,
     depth: usize,
     held: usize,
@@ -80,14 +77,13 @@ pub fn enter_cells(
     cells: &mut [u32],
     saved: &mut [u32],
 ) -> Entry
-    requires { ⌜ lumpFits 36 (length (now file)) (lump functions nfunctions) ≡ true ⌝ }
     requires { ⌜ (held ≤ 2048) × (2048 ≤ length (now saved)) × (count ≤ length (now cells)) ⌝ }
-    ensures { λ r. ⌜ ((P : Program) → functionsIn (now (file .entry)) functions nfunctions ≡ P .functions → entryOf r (now (cells .exit)) (now (saved .exit)) ≡ entering P f (numbered depth held count) (now (cells .entry)) (now (saved .entry))) ⌝ }
+    ensures { λ r. ⌜ ((P : Program) → functionsIn (now (functions .entry)) ≡ P .functions → entryOf r (now (cells .exit)) (now (saved .exit)) ≡ entering P f (numbered depth held count) (now (cells .entry)) (now (saved .entry))) ⌝ }
 {
-    if nfunctions <= f {
+    if functions.len() / 36 <= f {
         return no_entry(20);
     }
-    let def = functions::get_def(file, functions, nfunctions, f);
+    let def = functions::get_def(functions, f);
     let refusal = entry_refusal(def, depth, held, count);
     if refusal != 0 {
         return no_entry(refusal);
@@ -111,14 +107,13 @@ pub struct Leaving {
 }
 
 // The local range of a function; one that isn't there has no locals.
-fn locals_of(file: &[u8], functions: usize, nfunctions: usize, f: usize) -> Locals
-    requires { ⌜ lumpFits 36 (length (now file)) (lump functions nfunctions) ≡ true ⌝ }
-    ensures { λ r. ⌜ ((P : Program) → functionsIn (now (file .entry)) functions nfunctions ≡ P .functions → r ≡ rangeOf (functionOf P f)) ⌝ }
+fn locals_of(functions: &[u8], f: usize) -> Locals
+    ensures { λ r. ⌜ ((P : Program) → functionsIn (now (functions .entry)) ≡ P .functions → r ≡ rangeOf (functionOf P f)) ⌝ }
 {
-    if nfunctions <= f {
+    if functions.len() / 36 <= f {
         return Locals { start: 0, count: 0 };
     }
-    let def = functions::get_def(file, functions, nfunctions, f);
+    let def = functions::get_def(functions, f);
     Locals {
         start: def.start as usize,
         count: def.locals as usize,
@@ -149,9 +144,7 @@ fn no_leaving(refusal: u8) -> Leaving
 
 // A Return or Done of the three cells from a on, as far as cells go: checks it, copies the three cells and restores the local range.
 pub fn return_cells(
-    file: &[u8],
-    functions: usize,
-    nfunctions: usize,
+    functions: &[u8],
     f: usize,
     depth: usize,
     held: usize,
@@ -160,14 +153,13 @@ pub fn return_cells(
     cells: &mut [u32],
     saved: &[u32],
 ) -> Leaving
-    requires { ⌜ lumpFits 36 (length (now file)) (lump functions nfunctions) ≡ true ⌝ }
     requires { ⌜ (held ≤ 2048) × (2048 ≤ length (now saved)) × (36 ≤ count) × (count ≤ length (now cells)) ⌝ }
-    ensures { λ r. ⌜ ((P : Program) → functionsIn (now (file .entry)) functions nfunctions ≡ P .functions → leavingOf r (now (cells .exit)) ≡ returning P a (numberedIn f depth held count) (now (cells .entry)) (now (saved .entry))) ⌝ }
+    ensures { λ r. ⌜ ((P : Program) → functionsIn (now (functions .entry)) ≡ P .functions → leavingOf r (now (cells .exit)) ≡ returning P a (numberedIn f depth held count) (now (cells .entry)) (now (saved .entry))) ⌝ }
 {
     if !copies::in_range(a, 3, count) {
         return no_leaving(15);
     }
-    let locals = locals_of(file, functions, nfunctions, f);
+    let locals = locals_of(functions, f);
     let refusal = leaving_refusal(locals, depth, held, count);
     if refusal != 0 {
         return no_leaving(refusal);
@@ -213,15 +205,22 @@ impl ExecutionContext {
         functions.count
     }
 
+    // The part of the file that has the functions.
+    pub(crate) fn functions(self, file: &[u8]) -> &[u8]
+        requires { ⌜ Loaded (now file) (self .file) ⌝ }
+        ensures { λ r. ⌜ now r ≡ partOf 36 (self .file .functions) (now (file .entry)) ⌝ }
+    {
+        let recorded = self.file;
+        parts::part(file, 36, recorded.functions)
+    }
+
     // The record of a function that is there.
     pub(crate) fn get_def(self, file: &[u8], f: usize) -> FunctionDef
         requires { ⌜ Loaded (now file) (self .file) ⌝ }
         requires { ⌜ f < self .file .functions .count ⌝ }
         ensures { λ r. ⌜ r ≡ functionOf (programOf (now (file .entry))) f ⌝ }
     {
-        let header = self.file;
-        let table = header.functions;
-        functions::get_def(file, table.offset, table.count, f)
+        functions::get_def(self.functions(file), f)
     }
 
     // The local range of the current function; one that isn't there has no locals.
@@ -229,18 +228,11 @@ impl ExecutionContext {
         requires { ⌜ Loaded (now file) (self .file) ⌝ }
         ensures { λ r. ⌜ r ≡ rangeOf (functionOf (programOf (now (file .entry))) (self .«current_function»)) ⌝ }
     {
-        let recorded = self.file;
-        let functions = recorded.functions;
-        locals_of(
-            file,
-            functions.offset,
-            functions.count,
-            self.current_function,
-        )
+        locals_of(self.functions(file), self.current_function)
     }
 
     // The context in function f, which is to go back to the position `back`.
-    fn entered(self, f: usize, first: i64, locals: usize, back: i64) -> ExecutionContext
+    fn push_frame(self, f: usize, first: i64, locals: usize, back: i64) -> ExecutionContext
         requires { ⌜ (self .depth < 31) × (self .saved + locals ≤ 2048) ⌝ }
         ensures { λ r. ⌜ r ≡ enteredContext self f first locals back ⌝ }
     {
@@ -270,25 +262,14 @@ impl ExecutionContext {
         requires { ⌜ Within (now file) self (length (now cells)) (length (now saved)) ⌝ }
         ensures { λ r. ⌜ outcomeOf r (now (cells .exit)) (now (saved .exit)) ≡ after (config self (now (cells .entry)) (now (saved .entry))) (enter (programOf (now (file .entry))) f back) ⌝ }
     {
-        let recorded = self.file;
-        let functions = recorded.functions;
+        let functions = self.functions(file);
         let count = self.cell_count();
-        let entry = enter_cells(
-            file,
-            functions.offset,
-            functions.count,
-            f,
-            self.depth,
-            self.saved,
-            count,
-            cells,
-            saved,
-        );
+        let entry = enter_cells(functions, f, self.depth, self.saved, count, cells, saved);
         if entry.refusal != 0 {
             return self.refused(entry.refusal);
         }
         Answered {
-            context: self.entered(f, entry.first, entry.locals, back),
+            context: self.push_frame(f, entry.first, entry.locals, back),
             answer: Answer::Accepted,
         }
     }
@@ -300,8 +281,8 @@ impl ExecutionContext {
         leaving_refusal(locals, self.depth, self.saved, self.cell_count())
     }
 
-    // The context after the current function, with so many locals, is left.
-    pub(crate) fn left(self, locals: usize) -> ExecutionContext
+    // The context after the current function, with so many locals, is left: its frame becomes zeros again.
+    pub(crate) fn pop_frame(self, locals: usize) -> ExecutionContext
         requires { ⌜ (0 < self .depth) × ((self .depth ≤ 31) × (locals ≤ self .saved)) ⌝ }
         ensures { λ r. ⌜ r ≡ leftContext self locals ⌝ }
     {
@@ -321,7 +302,7 @@ impl ExecutionContext {
     }
 
     // Leaves the current function: restores its locals, and gives the context after.
-    pub(crate) fn restored(
+    pub(crate) fn leave_function(
         self,
         locals: Locals,
         cells: &mut [u32],
@@ -334,22 +315,7 @@ impl ExecutionContext {
     {
         let first = self.saved - locals.count;
         copies::move_cells(saved, cells, first, locals.start, locals.count);
-        self.left(locals.count)
-    }
-
-    pub fn leave_function(self, file: &[u8], cells: &mut [u32], saved: &[u32]) -> Answered
-        requires { ⌜ Within (now file) self (length (now cells)) (length (now saved)) ⌝ }
-        ensures { λ r. ⌜ outcomeOf r (now (cells .exit)) (now (saved .entry)) ≡ after (config self (now (cells .entry)) (now (saved .entry))) (leave (programOf (now (file .entry)))) ⌝ }
-    {
-        let locals = self.locals(file);
-        let refusal = self.leave_refusal(locals);
-        if refusal != 0 {
-            return self.refused(refusal);
-        }
-        Answered {
-            context: self.restored(locals, cells, saved),
-            answer: Answer::Accepted,
-        }
+        self.pop_frame(locals.count)
     }
 
     // Return and Done of the three cells from a on.
@@ -357,26 +323,15 @@ impl ExecutionContext {
         requires { ⌜ Within (now file) self (length (now cells)) (length (now saved)) ⌝ }
         ensures { λ r. ⌜ outcomeOf r (now (cells .exit)) (now (saved .entry)) ≡ after (config self (now (cells .entry)) (now (saved .entry))) (return (programOf (now (file .entry))) a) ⌝ }
     {
-        let recorded = self.file;
-        let functions = recorded.functions;
+        let functions = self.functions(file);
+        let f = self.current_function;
         let count = self.cell_count();
-        let leaving = return_cells(
-            file,
-            functions.offset,
-            functions.count,
-            self.current_function,
-            self.depth,
-            self.saved,
-            count,
-            a,
-            cells,
-            saved,
-        );
+        let leaving = return_cells(functions, f, self.depth, self.saved, count, a, cells, saved);
         if leaving.refusal != 0 {
             return self.refused(leaving.refusal);
         }
         Answered {
-            context: self.left(leaving.locals),
+            context: self.pop_frame(leaving.locals),
             answer: Answer::Accepted,
         }
     }

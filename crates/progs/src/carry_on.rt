@@ -11,6 +11,7 @@ use crate::ExecutionContext;
 use definition::Answer;
 use functions::fetch;
 use functions::fetch::Fetched;
+use functions::parts;
 
 impl ExecutionContext {
     // 0, or the number of the refusal: the statement at the position is looked at, not executed.
@@ -19,25 +20,12 @@ impl ExecutionContext {
         ensures { λ r. ⌜ r ≡ judge (onward (programOf (now (file .entry))) (self .pc) (now (cells .entry))) ⌝ }
     {
         let recorded = self.file;
-        let statements = recorded.statements;
-        let defs = recorded.globaldefs;
-        let functions = recorded.functions;
-        let count = self.cell_count();
-        let fetched = fetch::fetch(file, statements.offset, statements.count, self.pc);
+        let statements = parts::part(file, 8, recorded.statements);
+        let fetched = fetch::fetch(statements, self.pc);
         match fetched {
             Fetched::Refused(n) => return n,
             Fetched::At(_k, s) => {
-                if execution::hands_over(
-                    file,
-                    defs.offset,
-                    defs.count,
-                    functions.offset,
-                    functions.count,
-                    count,
-                    cells,
-                    s.opcode,
-                    s.arg1,
-                ) {
+                if execution::hands_over(file, recorded, cells, s) {
                     return 0;
                 }
                 return 27;

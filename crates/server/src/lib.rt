@@ -15,6 +15,7 @@ use definition::StackFrame;
 use definition::StatementAnswer;
 use execution::Executed;
 use functions::fetch;
+use functions::parts;
 use progs::Answered;
 use progs::ExecutionContext;
 use progs::calls;
@@ -105,22 +106,7 @@ fn step(context: ExecutionContext, file: &[u8], cells: &mut [u32], saved: &mut [
     ensures { λ r. ⌜ steppedOf r (now (cells .exit)) (now (saved .exit)) ≡ statementOutcome (config context (now (cells .entry)) (now (saved .entry))) (step (programOf (now (file .entry))) (config context (now (cells .entry)) (now (saved .entry)))) ⌝ }
 {
     let recorded = context.file;
-    let statements = recorded.statements;
-    let defs = recorded.globaldefs;
-    let functions = recorded.functions;
-    let globals = recorded.globals;
-    let done = execution::does(
-        file,
-        statements.offset,
-        statements.count,
-        defs.offset,
-        defs.count,
-        functions.offset,
-        functions.count,
-        globals.count,
-        cells,
-        context.pc,
-    );
+    let done = execution::does(file, recorded, cells, context.pc);
     perform(context, file, done, cells, saved)
 }
 
@@ -166,26 +152,13 @@ fn run_for(
     ensures { λ r. ⌜ ranOf r (now (cells .exit)) (now (saved .exit)) ≡ runFor (programOf (now (file .entry))) limit target (config context (now (cells .entry)) (now (saved .entry))) ⌝ }
 {
     let recorded = context.file;
-    let statements = recorded.statements;
-    let defs = recorded.globaldefs;
-    let functions = recorded.functions;
-    let globals = recorded.globals;
+    let functions = parts::part(file, 36, recorded.functions);
+    let cell_count = recorded.globals.count;
     let mut now = context;
     let mut count: u32 = 0;
     while count < limit {
         let completed = count + 1;
-        let done = execution::does(
-            file,
-            statements.offset,
-            statements.count,
-            defs.offset,
-            defs.count,
-            functions.offset,
-            functions.count,
-            globals.count,
-            cells,
-            now.pc,
-        );
+        let done = execution::does(file, recorded, cells, now.pc);
         match done {
             Executed::Next(p) => {
                 now.pc = p;
@@ -193,13 +166,11 @@ fn run_for(
             Executed::Calls(f) => {
                 let back = fetch::after(fetch::place_of(0, now.pc));
                 let entry = calls::enter_cells(
-                    file,
-                    functions.offset,
-                    functions.count,
+                    functions,
                     f,
                     now.depth,
                     now.saved,
-                    globals.count,
+                    cell_count,
                     cells,
                     saved,
                 );
@@ -219,13 +190,11 @@ fn run_for(
             }
             Executed::Returns(a) => {
                 let leaving = calls::return_cells(
-                    file,
-                    functions.offset,
-                    functions.count,
+                    functions,
                     now.current_function,
                     now.depth,
                     now.saved,
-                    globals.count,
+                    cell_count,
                     a,
                     cells,
                     saved,
