@@ -23,26 +23,14 @@ sound-here c = sym (c .before .check-state .ensures) ∙ not-false _ (c .if1 .le
 within : (c : tie.Else1) → let s = c .before .before .before .before .before in Within (s .args .file .now) (s .args .self) (length (s .args .cells .now)) (length (s .args .saved .now))
 within c = passed _ _ _ _ (sound-here c)
 
-check-state-requires : tie.Need-check-state-requires
-check-state-requires c κs = search needs
-
-refused-requires : tie.Need-refused-requires
-refused-requires c κs = search needs
-
 returns : tie.Need-returns
 returns c = carry-13 _ _ _ _ _ (sym (c .before .before .check-state .ensures) ∙ not-true _ (c .before .if1 .taken)) (search needs)
 
 carry-on-refusal-requires : tie.Need-carry-on-refusal-requires
 carry-on-refusal-requires c κs = within c
 
-refused-requires-2 : tie.Need-refused-requires-2
-refused-requires-2 c κs = search needs
-
 returns-2 : tie.Need-returns-2
 returns-2 c = carry-refused _ _ _ _ (sound-here (c .before .before .before)) _ (c .before .before .carry-on-refusal .ensures) (c .before .if2 .taken) _ (search needs)
-
-place-of-requires : tie.Need-place-of-requires
-place-of-requires c κs = search needs
 
 after-requires : tie.Need-after-requires
 after-requires c κs =
@@ -63,12 +51,12 @@ pub carry-on-spec : {M : Type 1} → statement M
 carry-on-spec =
     tie.close
     (tie.spec
-    check-state-requires
-    refused-requires
+    (λ c κs. search needs)
+    (λ c κs. search needs)
     returns
     carry-on-refusal-requires
-    refused-requires-2
+    (λ c κs. search needs)
     returns-2
-    place-of-requires
+    (λ c κs. search needs)
     after-requires
     returns-3)

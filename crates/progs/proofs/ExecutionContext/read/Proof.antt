@@ -29,14 +29,8 @@ place c =
     let g : SFits w64 (c .before .before .before .before .before .before .args .address) = search needs in
     (rw (toZ-ofZ g) at (c .place-of .ensures))
 
-raw-refusal-requires : tie.Need-raw-refusal-requires
-raw-refusal-requires c κs = search needs
-
 returns : tie.Need-returns
 returns c = read-refused _ _ _ _ (c .before .before .before .before .before .args .address) _ (number (c .before)) (search needs)
-
-place-of-requires : tie.Need-place-of-requires
-place-of-requires c κs = search needs
 
 mul-t9 : tie.Need-mul-t9
 mul-t9 c = omega (arith, raw-there _ _ _ _ (c .before .before .before .before .before .before .args .address) _ (place c) (clear (c .before)))
@@ -51,9 +45,9 @@ pub read-spec : {M : Type 1} → statement M
 read-spec =
     tie.close
     (tie.spec
-    raw-refusal-requires
+    (λ c κs. search needs)
     returns
-    place-of-requires
+    (λ c κs. search needs)
     mul-t9
     shared-slice-read-t11
     returns-2)

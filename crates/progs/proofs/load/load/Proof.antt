@@ -12,12 +12,6 @@ use Rattle.progs.proofs.load.load.Tie as tie
 clear : (c : tie.Else1) → let s = c .before .before .before .before .before in judge (loadConditions leastCells (s .args .file .now) (length (s .args .cells .now)) (length (s .args .saved .now))) ≡ 0
 clear c = sym (c .before .load-refusal .ensures) ∙ c .if1 .left
 
-load-refusal-requires : tie.Need-load-refusal-requires
-load-refusal-requires c κs = search needs
-
-of-nothing-requires : tie.Need-of-nothing-requires
-of-nothing-requires c κs = search needs
-
 returns : tie.Need-returns
 returns c = load-refused _ _ _ _ _ (c .before .before .load-refusal .ensures) (c .before .if1 .taken) (c .of-nothing .ensures)
 
@@ -27,12 +21,6 @@ file-of-requires c κs = loads _ _ _ _ (clear c) refl .header
 fill-requires : tie.Need-fill-requires
 fill-requires c κs = let l = loads _ _ _ _ (clear (c .before .before .before)) (c .before .before .file-of .ensures) in (l .cells-there, l .cells-fit)
 
-at-start-requires : tie.Need-at-start-requires
-at-start-requires c κs = search needs
-
-same-length : tie.Need-same-length
-same-length c = search needs
-
 returns-2 : tie.Need-returns-2
 returns-2 c = load-accepted _ _ _ _ _ _ (clear (c .before .before .before .before .before .before .before)) (c .before .before .before .before .before .before .file-of .ensures) (c .at-start .ensures) (c .before .before .before .fill .ensures)
 
@@ -40,11 +28,11 @@ pub load-spec : {M : Type 1} → statement M
 load-spec =
     tie.close
     (tie.spec
-    load-refusal-requires
-    of-nothing-requires
+    (λ c κs. search needs)
+    (λ c κs. search needs)
     returns
     file-of-requires
     fill-requires
-    at-start-requires
-    same-length
+    (λ c κs. search needs)
+    (λ c. search needs)
     returns-2)
