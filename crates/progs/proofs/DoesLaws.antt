@@ -23,7 +23,7 @@ use Rattle.functions.specs.Parts.{partOf, statementsIn}
 use Rattle.functions.specs.PartLaws.{part-statements}
 use Rattle.progs.specs.declared.ExecutionContext.{ExecutionContext}
 use Rattle.progs.specs.declared.Answered.{Answered}
-use Rattle.progs.specs.Contexts.{config, outcomeOf, after, refusing, accepting, onward, Loaded, Within, Standing}
+use Rattle.progs.specs.Contexts.{config, outcomeOf, after, refusing, accepting, onward, Loaded, Within, AtStatement}
 use Rattle.progs.proofs.OutcomeLaws.{refused-outcome, accepted-outcome}
 
 module _ (file : List ℕ) (r : FileRecord) (h : Loaded file r) where
@@ -42,16 +42,16 @@ module _ (file : List ℕ) (r : FileRecord) (h : Loaded file r) where
   fetched-here part p e = rw e (ap (λ (s : List Statement). fetched s p) (part-statements r file (h .lumps)))
 
   -- a position that is fetched from is one of the statements
-  pub stands : (p : ℤ) → judge (programOf file .fetching p) ≡ 0 → Standing p
+  pub at-statement : (p : ℤ) → judge (programOf file .fetching p) ≡ 0 → AtStatement p
   unfolding fetchConditions
-  stands p z =
+  at-statement p z =
       let c : judge (fetchConditions statements p) ≡ 0 = rw (fetching-here p) z in
       by p (ltb-true _ _ (judge-passed (fetchConditions statements p) c .0))
     where
       size : length statements ≡ r .statements .count
       size = count-statements r file
 
-      by : (p : ℤ) → placeOf (length statements) p < length statements → Standing p
+      by : (p : ℤ) → placeOf (length statements) p < length statements → AtStatement p
       by (pos i) k = record { is = refl; small = omega (arith, size, lump-fitting 8 (length file) (r .statements) (h .lumps .statements) .count) }
       by (negsuc i) k = absurd (omega arith)
 
@@ -106,11 +106,11 @@ module _ (file : List ℕ) (x : ExecutionContext) (cells saved : List ℕ) where
     carry-refused z r k = refused-outcome x cells saved _ _ n r numbers z k
 
     module _ (z : n ≡ 0) (h : Loaded file (x .file)) where
-      pub carry-stands : Standing (x .pc)
-      carry-stands = stands file (x .file) h (x .pc) (judge-all _ (all-front (P .fetching (x .pc)) _ (judge-passed (onward P (x .pc) cells) (sym e ∙ z))))
+      pub carry-at : AtStatement (x .pc)
+      carry-at = at-statement file (x .file) h (x .pc) (judge-all _ (all-front (P .fetching (x .pc)) _ (judge-passed (onward P (x .pc) cells) (sym e ∙ z))))
 
       pub carry-done : (y : ExecutionContext) (q : ℤ) → q ≡ pos (placeOf 0 (x .pc)) +ℤ pos 1
           → config y cells saved ≡ advanced before q cells
           → outcomeOf (accepting y) cells saved ≡ after before (carryOn P)
       unfolding carryOn
-      carry-done y q f k = accepted-outcome x cells saved _ _ y cells saved (sym numbers ∙ z) (k ∙ ap (λ (p : ℤ). advanced before p cells) (f ∙ ap (λ (i : ℤ). i +ℤ pos 1) (sym (carry-stands .is))))
+      carry-done y q f k = accepted-outcome x cells saved _ _ y cells saved (sym numbers ∙ z) (k ∙ ap (λ (p : ℤ). advanced before p cells) (f ∙ ap (λ (i : ℤ). i +ℤ pos 1) (sym (carry-at .is))))

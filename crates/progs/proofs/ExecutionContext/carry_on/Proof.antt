@@ -5,7 +5,7 @@ use Rattle.definition.specs.Operations.{sound}
 use Rattle.definition.specs.Load.{programOf}
 use Rattle.progs.specs.Contexts.{config, Within}
 use Rattle.progs.proofs.StateLaws.{passed}
-use Rattle.progs.proofs.DoesLaws.{carry-13, carry-refused, carry-stands, carry-done}
+use Rattle.progs.proofs.DoesLaws.{carry-13, carry-refused, carry-at, carry-done}
 use borrow.Author.Tests.{not-true, not-false}
 use mir.Facts.{toZ-ofZ}
 use mir.Val.{SFits}
@@ -37,7 +37,7 @@ after-requires c κs =
     let k = c .before .before .before in
     let s = k .before .before .before .before .before .before in
     let g : SFits w64 (s .args .self .pc) = search needs in
-    let w = carry-stands _ _ _ _ (sound-here (k .before)) _ (k .carry-on-refusal .ensures) (c .before .before .if2 .left) (within (k .before) .loaded) in
+    let w = carry-at _ _ _ _ (sound-here (k .before)) _ (k .carry-on-refusal .ensures) (c .before .before .if2 .left) (within (k .before) .loaded) in
     omega (arith, w .small, (rw (toZ-ofZ g) at (c .place-of .ensures)))
 
 returns-3 : tie.Need-returns-3
