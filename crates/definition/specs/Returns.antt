@@ -4,6 +4,7 @@ use mathlib.Core.Path.{_≡_}
 use mathlib.Core.List.{List, [], _∷_}
 use lib.ListN.{length}
 use Rattle.definition.specs.Checks.{accepted}
+use Rattle.definition.specs.File.{savedStore, greatestDepth}
 use Rattle.definition.specs.Machine.{Config}
 use Rattle.definition.specs.Load.{load}
 use Rattle.definition.specs.Calls.{Call}
@@ -17,9 +18,9 @@ localsNoted file (n ∷ l) = functionIn file (n .entered) .locals + localsNoted 
 
 pub record Standing (file : List ℕ) (c : Config) (l : Log) : Type 0 where
   pub depth-is : c .state .depth ≡ length l
-  pub depth-most : c .state .depth ≤ 31
+  pub depth-most : c .state .depth ≤ greatestDepth
   pub saved-is : c .state .saved ≡ localsNoted file l
-  pub saved-most : c .state .saved ≤ 2048
+  pub saved-most : c .state .saved ≤ savedStore
 
 -- "position, current function and local cells now equal the note's"; the note is that of the function left
 pub record Back (file : List ℕ) (left : ℕ) (n : Note) (c′ : Config) : Type 0 where
