@@ -12,7 +12,7 @@ use lib.Dec.{leb, ltb}
 use Rattle.definition.specs.declared.FunctionDef.{FunctionDef}
 use Rattle.definition.specs.declared.StackFrame.{StackFrame}
 use Rattle.definition.specs.Checks.{Condition, Conditions, Checked, accepted, guard}
-use Rattle.definition.specs.File.{negative, contentsOf, fileOf, leastCells}
+use Rattle.definition.specs.File.{leastCells, savedStore, greatestDepth, negative, contentsOf, fileOf}
 use Rattle.definition.specs.Machine.{Program, functionOf, Config, countOf, limits, zeroFrame, present, copied, successive, argumentsOf, withCells, advanced}
 use Rattle.definition.specs.Machine.{entryConditions, entered, leaveConditions, left, returnConditions, returned}
 use Rattle.definition.specs.Load.{headerConditions, recordConditions, cellConditions, loadConditions, loaded, load, programAt, programOf}
@@ -46,8 +46,8 @@ Stack file current frames store (n ∷ l) =
 
 record Kept (file : List ℕ) (c : Config) (l : Log) : Type 0 where
   standing : Standing file c l
-  room : 31 ≤ length (c .state .frames)
-  store : 2048 ≤ length (c .saved)
+  room : greatestDepth ≤ length (c .state .frames)
+  store : savedStore ≤ length (c .saved)
   enough : countOf c ≤ length (c .cells)
   stack : Stack file (c .state .function) (c .state .frames) (c .saved) l
 
@@ -75,8 +75,8 @@ abbrev note : List ℕ → ℕ → ℤ → Config → Note
 note file f back c = record { entered = f; position = back; current = c .state .function; cells = localCells file f (c .cells) }
 
 module _ (file : List ℕ) (f : ℕ) (back : ℤ) (c : Config) (l : Log) (k : Kept file c l)
-    (shallow : c .state .depth < 31)
-    (fits : c .state .saved + localsIn file f ≤ 2048)
+    (shallow : c .state .depth < greatestDepth)
+    (fits : c .state .saved + localsIn file f ≤ savedStore)
     (there : Present (functionIn file f .start) (localsIn file f) (length (c .cells))) where
   source : localsIn file f ≤ length (drop (functionIn file f .start) (c .cells))
   source = present-source (c .cells) (functionIn file f .start) (localsIn file f) there
@@ -216,8 +216,8 @@ enter-good file c l f back k h =
     let d = functionIn file f in
     let k′ =
     entered-kept file f back c l k
-    (ltb-true (c .state .depth) 31 (h .1 .0))
-    (leb-true (c .state .saved + d .locals) 2048 (and-right (not (negative (d .locals))) (leb (c .state .saved + d .locals) 2048) (h .1 .1 .0)))
+    (ltb-true (c .state .depth) greatestDepth (h .1 .0))
+    (leb-true (c .state .saved + d .locals) savedStore (and-right (not (negative (d .locals))) (leb (c .state .saved + d .locals) savedStore) (h .1 .1 .0)))
     (present-more (d .start) (d .locals) (countOf c) (length (c .cells)) (k .enough) (present-true (d .start) (d .locals) (countOf c) (h .1 .1 .1 .0)))
     in
     (record { right = tt; standing = k′ .standing }, k′)
@@ -253,7 +253,7 @@ kept-steps file =
 -- ---- the load
 
 lent-enough : (file cells saved : List ℕ) → All (loadConditions leastCells file (length cells) (length saved))
-    → (leb (fileOf file .globals .count) (length cells) && leb 2048 (length saved)) ≡ true
+    → (leb (fileOf file .globals .count) (length cells) && leb savedStore (length saved)) ≡ true
 unfolding cellConditions
 lent-enough file cells saved h =
     all-back (headerConditions file ++ recordConditions (fileOf file .strings .count) (contentsOf file))
@@ -269,8 +269,8 @@ loaded-kept file cells saved =
     let twelve = lent-enough file cells saved h in
     record {
       standing = record { depth-is = refl; depth-most = omega arith; saved-is = refl; saved-most = omega arith };
-      room = omega (arith, length-replicate 31 zeroFrame);
-      store = leb-true 2048 (length saved) (and-right (leb (r .globals .count) (length cells)) (leb 2048 (length saved)) twelve);
+      room = omega (arith, length-replicate greatestDepth zeroFrame);
+      store = leb-true savedStore (length saved) (and-right (leb (r .globals .count) (length cells)) (leb savedStore (length saved)) twelve);
       enough = omega (arith, length-append (contentsOf file .globals) (drop (r .globals .count) cells), length-globals file);
       stack = tt;
     }

@@ -15,7 +15,7 @@ use Rattle.definition.specs.declared.Statement.{Statement}
 use Rattle.definition.specs.declared.FunctionDef.{FunctionDef}
 use Rattle.definition.specs.declared.Handover.the-variants.{Builtin, Opcode}
 use Rattle.definition.specs.Checks.{Condition, Conditions, judge}
-use Rattle.definition.specs.File.{Contents, contentsOf, fileOf, noFunction, negative, between, isBuiltin, builtinOf, builtinKnown}
+use Rattle.definition.specs.File.{opcodeCount, Contents, contentsOf, fileOf, noFunction, negative, between, isBuiltin, builtinOf, builtinKnown}
 use Rattle.definition.specs.Floats.{flag, notV, isZero}
 use Rattle.definition.specs.Cells.{float, vector, string, function, cellOf, signed, Typing, typingOf, typeIs, addressed, cellAccess, vectorAccess, access, mustBeNatural, readAccess}
 use Rattle.definition.specs.Statements.{Does, next, calls, returns, refuses, handsOver, orRefused, provided, moved}
@@ -98,7 +98,7 @@ record Named (op : ℕ) (s : Shape) : Type 0 where
   as-call : isCall s ≡ callOpcode op
   as-return : isReturn s ≡ returnOpcode op
 
-named : (op : ℕ) → op < 66 → Named op (shapeOf op)
+named : (op : ℕ) → op < opcodeCount → Named op (shapeOf op)
 unfolding shapeOf opcodes asOpcode
 named op h =
     let e : asOpcode (0 + op) (shapeOf op) ≡ true = every-at asOpcode host opcodes 0 table op h in

@@ -12,6 +12,7 @@ use lib.Dec.{eqb}
 use lib.Seq.{getD-set-same, getD-set-other}
 use Rattle.definition.specs.declared.StackFrame.{StackFrame}
 use Rattle.definition.specs.Checks.{Condition, Conditions, accepted}
+use Rattle.definition.specs.File.{greatestDepth}
 use Rattle.definition.specs.Machine.{Program, Config, zeroFrame, limits, copied, successive, withCells}
 use Rattle.definition.specs.Machine.{entryConditions, entered, left}
 use Rattle.definition.specs.Load.{load, programOf}
@@ -37,7 +38,7 @@ FramesBy other c l c′ = c′ .state .frames ≡ c .state .frames
 
 -- what holds of every state that a list of calls meets: there are 31 frames, and those from the depth on are zeros
 pub record ZeroAbove (c : Config) : Type 0 where
-  pub number : length (c .state .frames) ≡ 31
+  pub number : length (c .state .frames) ≡ greatestDepth
   pub zeros : (i : ℕ) → c .state .depth ≤ i → frameAt c i ≡ record { «instr_id» = pos 0; «func_id» = 0 }
 
 all-zeros : (n i : ℕ) → getD (replicate n zeroFrame) i zeroFrame ≡ zeroFrame
@@ -79,7 +80,7 @@ module _ (file : List ℕ) where
   entered-frames c l f back k h =
       let s = c .state in
       let frame : StackFrame = record { «instr_id» = back; «func_id» = s .function } in
-      let shallow : s .depth < 31 = ltb-true (s .depth) 31 (h .1 .0) in (
+      let shallow : s .depth < greatestDepth = ltb-true (s .depth) greatestDepth (h .1 .0) in (
         (entry-touches P f back c, getD-set-same (s .frames) (s .depth) frame zeroFrame (omega (arith, k .number))),
         record {
           number = length-set (s .frames) (s .depth) frame ∙ k .number;
@@ -114,6 +115,6 @@ frames-by file cells saved c accepts calls =
     let started = load-starts file cells saved c accepts in
     through file (λ c′ l. ZeroAbove c′) FramesBy (frames-steps file) (λ c′ l. ZeroAbove c′) (λ c′ l k. k) c [] calls
     (record {
-      number = ap length (started .frames) ∙ length-replicate 31 zeroFrame;
-      zeros = λ i le. ap (λ (fs : List StackFrame). getD fs i zeroFrame) (started .frames) ∙ all-zeros 31 i;
+      number = ap length (started .frames) ∙ length-replicate greatestDepth zeroFrame;
+      zeros = λ i le. ap (λ (fs : List StackFrame). getD fs i zeroFrame) (started .frames) ∙ all-zeros greatestDepth i;
     })

@@ -11,7 +11,7 @@ use lib.ListN.{length, getD, set, length-set}
 use lib.Dec.{leb, ltb}
 use Rattle.definition.specs.declared.StackFrame.{StackFrame}
 use Rattle.definition.specs.Checks.{Condition, Conditions, Checked, refused, accepted, guard}
-use Rattle.definition.specs.File.{fileOf}
+use Rattle.definition.specs.File.{greatestDepth, fileOf}
 use Rattle.definition.specs.Machine.{Program, functionOf, State, Config, countOf, limits, zeroFrame, present, copied, successive, argumentsOf, withCells, advanced}
 use Rattle.definition.specs.Machine.{entryConditions, entered, leaveConditions, left, returnConditions, returned}
 use Rattle.definition.specs.Load.{load, loaded, programOf}
@@ -50,7 +50,7 @@ module _ (file : List ℕ) where
   unfolding entryConditions entered limits enteredFunctions
   entered-ready c f back k h =
       let s = c .state in
-      let shallow : s .depth < 31 = ltb-true (s .depth) 31 (h .1 .0) in
+      let shallow : s .depth < greatestDepth = ltb-true (s .depth) greatestDepth (h .1 .0) in
       let frame : StackFrame = record { «instr_id» = back; «func_id» = s .function } in
       let e : enteredAt (s .depth + 1) f (set (s .frames) (s .depth) frame) ≡ f ∷ enteredAt (s .depth) (s .function) (s .frames) =
       rw native.Mathlib.Numerals.add-one (entered-more (s .depth) f (s .frames) frame (omega (arith, k .steady .balanced .room)))

@@ -14,7 +14,7 @@ use Rattle.definition.specs.declared.FileRecord.{FileRecord}
 use Rattle.definition.specs.declared.FunctionDef.{FunctionDef}
 use Rattle.definition.specs.declared.StackFrame.{StackFrame}
 use Rattle.definition.specs.Checks.{Condition, Conditions, Checked, refused, accepted, guard}
-use Rattle.definition.specs.File.{negative, fileOf, contentsOf, lengthFits, lumpsFit, leastCells, cellsFit, entityFits}
+use Rattle.definition.specs.File.{leastCells, savedStore, greatestDepth, negative, fileOf, contentsOf, lengthFits, lumpsFit, cellsFit, entityFits}
 use Rattle.definition.specs.Machine.{Program, functionOf, State, Config, countOf, limits, zeroFrame, startState, present, copied, successive, argumentsOf, withCells, advanced}
 use Rattle.definition.specs.Machine.{entryConditions, entered, leaveConditions, left, returnConditions, returned}
 use Rattle.definition.specs.Load.{headerConditions, recordConditions, cellConditions, loadConditions, loaded, load, sameLump, sameFile, recordedIn, programAt, programOf}
@@ -53,15 +53,15 @@ entered-less (suc k) f frames = rw (frames-set k (suc k) frames zeroFrame (omega
 -- ---- what 13 asks of the state, as facts
 
 pub record Balanced (P : Program) (s : State) : Type 0 where
-  pub room : 31 ≤ length (s .frames)
-  pub depth-most : s .depth ≤ 31
+  pub room : greatestDepth ≤ length (s .frames)
+  pub depth-most : s .depth ≤ greatestDepth
   pub all : allPresent P (enteredFunctions s) ≡ true
   pub sum : s .saved ≡ localsOf P (enteredFunctions s)
-  pub saved-most : s .saved ≤ 2048
+  pub saved-most : s .saved ≤ savedStore
 
 pub record Steady (file : List ℕ) (c : Config) : Type 0 where
   pub balanced : Balanced (programOf file) (c .state)
-  pub long : 2048 ≤ length (c .saved)
+  pub long : savedStore ≤ length (c .saved)
   pub recorded : c .state .file ≡ fileOf file
   pub enough : countOf c ≤ length (c .cells)
   pub in-range : (lengthFits (fileOf file) && lumpsFit (fileOf file) && cellsFit leastCells (fileOf file) && entityFits (fileOf file)) ≡ true
@@ -101,10 +101,10 @@ unfolding sound limits programAt
 steady-sound file c k =
     rw (
       steady-recorded file c k,
-      le-leb 2048 (length (c .saved)) (k .long),
-      le-leb (c .state .depth) 31 (k .balanced .depth-most),
+      le-leb savedStore (length (c .saved)) (k .long),
+      le-leb (c .state .depth) greatestDepth (k .balanced .depth-most),
       k .balanced .all,
-      le-leb (c .state .saved) 2048 (k .balanced .saved-most),
+      le-leb (c .state .saved) savedStore (k .balanced .saved-most),
       eq-eqb (c .state .saved) (localsOf (programOf file) (enteredFunctions (c .state))) (k .balanced .sum),
     )
 
@@ -136,9 +136,9 @@ entered-steady file c f back k h =
     let P = programOf file in
     let d = functionOf P f in
     let s = c .state in
-    let shallow : s .depth < 31 = ltb-true (s .depth) 31 (h .1 .0) in
-    let positive : not (negative (d .locals)) ≡ true = and-left (not (negative (d .locals))) (leb (s .saved + d .locals) 2048) (h .1 .1 .0) in
-    let fits : s .saved + d .locals ≤ 2048 = leb-true _ _ (and-right (not (negative (d .locals))) (leb (s .saved + d .locals) 2048) (h .1 .1 .0)) in
+    let shallow : s .depth < greatestDepth = ltb-true (s .depth) greatestDepth (h .1 .0) in
+    let positive : not (negative (d .locals)) ≡ true = and-left (not (negative (d .locals))) (leb (s .saved + d .locals) savedStore) (h .1 .1 .0) in
+    let fits : s .saved + d .locals ≤ savedStore = leb-true _ _ (and-right (not (negative (d .locals))) (leb (s .saved + d .locals) savedStore) (h .1 .1 .0)) in
     let there : Present (d .start) (d .locals) (length (c .cells)) =
     present-more _ _ (countOf c) _ (k .enough) (present-true (d .start) (d .locals) (countOf c) (h .1 .1 .1 .0))
     in
@@ -245,8 +245,8 @@ loaded-steady file cells saved =
     all-back (headerConditions file ++ recordConditions (r .strings .count) k) (cellConditions leastCells r (length cells) (length saved)) h
     in
     record {
-      balanced = record { room = omega (arith, length-replicate 31 zeroFrame); depth-most = omega arith; all = refl; sum = refl; saved-most = omega arith };
-      long = leb-true 2048 (length saved) (and-right (leb (r .globals .count) (length cells)) (leb 2048 (length saved)) (last .1 .1 .0));
+      balanced = record { room = omega (arith, length-replicate greatestDepth zeroFrame); depth-most = omega arith; all = refl; sum = refl; saved-most = omega arith };
+      long = leb-true savedStore (length saved) (and-right (leb (r .globals .count) (length cells)) (leb savedStore (length saved)) (last .1 .1 .0));
       recorded = refl;
       enough = omega (arith, length-append (k .globals) (drop (r .globals .count) cells), length-globals file);
       in-range =

@@ -1,4 +1,5 @@
--- What an accepted load leaves, field by field, and the sizes that it takes: those too that no row of the table can compute with.
+-- What an accepted load leaves, field by field, and the sizes that it takes: those too that no row of the table can compute with. Limits are written
+-- here, in Loadable and in Thirteen as the numbers of 01, not by the definition's names: a name with another value would be refused here.
 use Prim.Native.Nat.{ℕ, _≤_, _<_}
 use mathlib.Core.Path.{_≡_, refl, subst}
 use mathlib.Core.List.{List, _++_}

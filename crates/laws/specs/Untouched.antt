@@ -12,7 +12,7 @@ use lib.ListN.{length, take, drop, getD, set, length-set, length-drop, length-ap
 use lib.Seq.{paste, length-paste, drop-paste, take-at, drop-at, length-take-le, take-set-le, drop-set-lt, drop-drop}
 use lib.Dec.{leb, ltb}
 use Rattle.definition.specs.Checks.{Condition, Conditions, Checked, refused, accepted, guard}
-use Rattle.definition.specs.File.{negative, fileOf, contentsOf, lengthFits, lumpsFit, leastCells, cellsFit, entityFits}
+use Rattle.definition.specs.File.{leastCells, mostCells, savedStore, negative, fileOf, contentsOf, lengthFits, lumpsFit, cellsFit, entityFits}
 use Rattle.definition.specs.Machine.{Program, functionOf, Config, countOf, limits, present, Copy, copied, successive, argumentsOf, copiesPresent, withCells, advanced}
 use Rattle.definition.specs.Machine.{entryConditions, entered, leaveConditions, left, returnConditions, returned}
 use Rattle.definition.specs.Load.{headerConditions, recordConditions, cellConditions, loadConditions, loaded, load, programOf}
@@ -85,7 +85,7 @@ module _ (file lent : List ℕ) where
   entered-touches c l f back k h =
       let d = functionOf P f in
       let s = c .state in
-      let fits : s .saved + d .locals ≤ 2048 = leb-true _ _ (and-right (not (negative (d .locals))) (leb (s .saved + d .locals) 2048) (h .1 .1 .0)) in
+      let fits : s .saved + d .locals ≤ savedStore = leb-true _ _ (and-right (not (negative (d .locals))) (leb (s .saved + d .locals) savedStore) (h .1 .1 .0)) in
       let room : s .saved + d .locals ≤ length (c .saved) = omega (arith, k .steady .long) in
       let there : Present (d .start) (d .locals) (length (c .cells)) =
       present-more _ _ (countOf c) _ (k .steady .enough) (present-true (d .start) (d .locals) (countOf c) (h .1 .1 .1 .0))
@@ -133,19 +133,19 @@ module _ (file lent : List ℕ) where
       (present-more _ _ (countOf c) _ (k .enough) (present-true (d .start) (d .locals) (countOf c) (h .1 .1 .0)))
       (omega (arith, fewer, k .balanced .saved-most, k .long, length-drop (s .saved - d .locals) (c .saved)))
 
-  least : (c : Config) → Steady file c → 36 ≤ count
+  least : (c : Config) → Steady file c → leastCells ≤ count
   least c k =
       let r = fileOf file in
       let cells-fit : cellsFit leastCells r ≡ true =
       and-right (lengthFits r && lumpsFit r) (cellsFit leastCells r) (and-left (lengthFits r && lumpsFit r && cellsFit leastCells r) (entityFits r) (k .in-range))
       in
-      leb-true 36 count (and-left (leb 36 count) (leb count 32768) cells-fit)
+      leb-true leastCells count (and-left (leb leastCells count) (leb count mostCells) cells-fit)
 
   -- Return's three cells are copied below the count
   three : (a : ℕ) (c : Config) → Steady file c → present a 3 (countOf c) ≡ true → copiesPresent count (successive 3 a 1) ≡ true
   unfolding present successive copiesPresent
   three a c k e =
-      let low : 36 ≤ count = least c k in
+      let low : leastCells ≤ count = least c k in
       let below : a + 3 ≤ count = omega (arith, count-is c k, leb-true (a + 3) (countOf c) e) in
       rw (
         lt-ltb a count (omega arith),
@@ -221,7 +221,7 @@ loaded-keeps file cells saved =
     let last : All (cellConditions leastCells r (length cells) (length saved)) =
     all-back (headerConditions file ++ recordConditions (r .strings .count) k) (cellConditions leastCells r (length cells) (length saved)) h
     in
-    let lent : n ≤ length cells = leb-true n (length cells) (and-left (leb n (length cells)) (leb 2048 (length saved)) (last .1 .1 .0)) in
+    let lent : n ≤ length cells = leb-true n (length cells) (and-left (leb n (length cells)) (leb savedStore (length saved)) (last .1 .1 .0)) in
     record {
       same-length = omega (arith, lent, length-append (k .globals) (drop n cells), length-globals file, length-drop n cells);
       same-above = drop-at (k .globals) (drop n cells) n (length-globals file);
