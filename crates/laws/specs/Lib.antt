@@ -3,10 +3,10 @@ pub mod Starts
 pub mod Frames
 pub mod Sound
 pub mod Thirteen
-pub mod Leavable
+pub mod CanLeave
 pub mod Exactly
 pub mod Loadable
-pub mod Alone
+pub mod RowDecides
 pub mod Completed
 pub mod Runs
 pub mod Untouched

@@ -1,4 +1,4 @@
--- DEMAND 3, proved. What every small step keeps, `Kept`: the depths stand, and each note's frame and saved cells are in their places.
+-- DEMAND 3, proved, by an inductive invariant, `StackMatches`: the depths match the log, and each note's frame and saved cells are in their places.
 use Prim.Native.Nat.{ℕ, zero, suc, _+_, _-_, _≤_, _<_}
 use mathlib.Core.Path.{_≡_, refl, sym, _∙_, ap, subst}
 use mathlib.Core.List.{List, [], _∷_, _++_}
@@ -18,15 +18,15 @@ use Rattle.definition.specs.Machine.{entryConditions, entered, leaveCond
 use Rattle.definition.specs.Load.{headerConditions, recordConditions, cellConditions, loadConditions, loaded, load, programAt, programOf}
 use Rattle.definition.specs.Calls.{Call}
 use Rattle.definition.specs.Log.{Note, Log, functionIn, localCells, Kind, entry, leaving, other}
-use Rattle.definition.specs.Along.{logAfter}
-use Rattle.definition.specs.Returns.{localsNoted, Standing, Back, Right, Holds, Demand3}
+use Rattle.definition.specs.Trace.{logAfter}
+use Rattle.definition.specs.Returns.{localsNoted, DepthsMatch, Restored, LeavingRestores, StepCorrect, Demand3}
 use Rattle.definition.specs.CheckLaws.{All, and-right, all-back, WhenAccepted, guarded}
 use Rattle.definition.specs.Parts.{part, part-below, part-pasted, Present, present-true, present-more, present-source, length-pasted, part-restored, length-copied}
 use Rattle.definition.specs.StatementLaws.{Keeps}
-use Rattle.definition.specs.Walk.{Good, Steps, through}
+use Rattle.definition.specs.Invariant.{Preserves, Inductive, always}
 use Rattle.definition.specs.RecordLaws.{length-globals}
 
--- ---- what is kept
+-- ---- the invariant
 
 -- the frame that belongs to a note
 abbrev frameOf : Note → StackFrame
@@ -36,34 +36,34 @@ abbrev localsIn : List ℕ → ℕ → ℕ
 localsIn file f = functionIn file f .locals
 
 -- the frames and the saved store hold what the notes say, `current` being the current function
-abbrev Stack : List ℕ → ℕ → List StackFrame → List ℕ → Log → Type 0
-Stack file current frames store [] = Unit {0}
-Stack file current frames store (n ∷ l) =
+abbrev FramesMatch : List ℕ → ℕ → List StackFrame → List ℕ → Log → Type 0
+FramesMatch file current frames store [] = Unit {0}
+FramesMatch file current frames store (n ∷ l) =
     (n .entered ≡ current)
     × (getD frames (length l) zeroFrame ≡ frameOf n)
     × (part store (localsNoted file l) (localsIn file (n .entered)) ≡ n .cells)
-    × Stack file (n .current) frames store l
+    × FramesMatch file (n .current) frames store l
 
-record Kept (file : List ℕ) (c : Config) (l : Log) : Type 0 where
-  standing : Standing file c l
+record StackMatches (file : List ℕ) (c : Config) (l : Log) : Type 0 where
+  depths : DepthsMatch file c l
   room : greatestDepth ≤ length (c .state .frames)
   store : savedStore ≤ length (c .saved)
   enough : countOf c ≤ length (c .cells)
-  stack : Stack file (c .state .function) (c .state .frames) (c .saved) l
+  frames : FramesMatch file (c .state .function) (c .state .frames) (c .saved) l
 
 -- frames and saved cells that are the same below, hold the same
-stack-same :
+frames-same :
     (file : List ℕ) (current : ℕ) (frames frames′ : List StackFrame) (store store′ : List ℕ) (l : Log)
     → ((i : ℕ) → i < length l → getD frames′ i zeroFrame ≡ getD frames i zeroFrame)
     → ((a n : ℕ) → a + n ≤ localsNoted file l → part store′ a n ≡ part store a n)
-    → Stack file current frames store l → Stack file current frames′ store′ l
+    → FramesMatch file current frames store l → FramesMatch file current frames′ store′ l
 unfolding localsNoted
-stack-same file current frames frames′ store store′ [] hf hs k = tt
-stack-same file current frames frames′ store store′ (n ∷ l) hf hs (own, frame, cells, rest) = (
+frames-same file current frames frames′ store store′ [] hf hs k = tt
+frames-same file current frames frames′ store store′ (n ∷ l) hf hs (own, frame, cells, rest) = (
   own,
   hf (length l) (omega arith) ∙ frame,
   hs (localsNoted file l) (localsIn file (n .entered)) (omega arith) ∙ cells,
-  stack-same file (n .current) frames frames′ store store′ l
+  frames-same file (n .current) frames frames′ store store′ l
       (λ i h. hf i (omega arith))
       (λ a m h. hs a m (omega arith))
       rest,
@@ -74,7 +74,7 @@ stack-same file current frames frames′ store store′ (n ∷ l) hf hs (own, fr
 abbrev note : List ℕ → ℕ → ℤ → Config → Note
 note file f back c = record { entered = f; position = back; current = c .state .function; cells = localCells file f (c .cells) }
 
-module _ (file : List ℕ) (f : ℕ) (back : ℤ) (c : Config) (l : Log) (k : Kept file c l)
+module _ (file : List ℕ) (f : ℕ) (back : ℤ) (c : Config) (l : Log) (k : StackMatches file c l)
     (shallow : c .state .depth < greatestDepth)
     (fits : c .state .saved + localsIn file f ≤ savedStore)
     (there : Present (functionIn file f .start) (localsIn file f) (length (c .cells))) where
@@ -84,15 +84,15 @@ module _ (file : List ℕ) (f : ℕ) (back : ℤ) (c : Config) (l : Log) (k : Ke
   abbrev after-entry : Config
   after-entry = entered (programOf file) f back c
 
-  entered-kept : Kept file after-entry (note file f back c ∷ l)
+  entered-matches : StackMatches file after-entry (note file f back c ∷ l)
   unfolding entered programAt localsNoted
-  entered-kept =
+  entered-matches =
       record {
-        standing =
+        depths =
             record {
-              depth-is = omega (arith, k .standing .depth-is);
+              depth-is = omega (arith, k .depths .depth-is);
               depth-most = omega arith;
-              saved-is = omega (arith, k .standing .saved-is);
+              saved-is = omega (arith, k .depths .saved-is);
               saved-most = fits;
             };
         room = omega (arith, k .room, length-set (c .state .frames) (c .state .depth) (frameOf (note file f back c)));
@@ -103,69 +103,69 @@ module _ (file : List ℕ) (f : ℕ) (back : ℤ) (c : Config) (l : Log) (k : Ke
               length-paste (c .saved) (c .state .saved) (drop (functionIn file f .start) (c .cells)) (localsIn file f) (omega (arith, k .store)) source,
             );
         enough = omega (arith, k .enough, length-copied (argumentsOf (functionIn file f)) (c .cells));
-        stack = (
+        frames = (
           refl,
-          rw (← (k .standing .depth-is))
+          rw (← (k .depths .depth-is))
               (getD-set-same (c .state .frames) (c .state .depth) (frameOf (note file f back c)) zeroFrame (omega (arith, k .room))),
-          rw (← (k .standing .saved-is))
+          rw (← (k .depths .saved-is))
               (part-pasted (c .saved) (c .state .saved) (drop (functionIn file f .start) (c .cells)) (localsIn file f) (omega (arith, k .store)) source),
-          stack-same file (c .state .function) (c .state .frames) _ (c .saved) _ l
+          frames-same file (c .state .function) (c .state .frames) _ (c .saved) _ l
               (λ i h.
-              getD-set-other (c .state .frames) (c .state .depth) i (frameOf (note file f back c)) zeroFrame (omega (arith, k .standing .depth-is)))
+              getD-set-other (c .state .frames) (c .state .depth) i (frameOf (note file f back c)) zeroFrame (omega (arith, k .depths .depth-is)))
               (λ a n h.
               part-below (c .saved) (c .state .saved) (drop (functionIn file f .start) (c .cells)) (localsIn file f) a n (omega (arith, k .store))
-              (omega (arith, k .standing .saved-is)))
-              (k .stack),
+              (omega (arith, k .depths .saved-is)))
+              (k .frames),
         );
       }
 
 -- ---- leaving
 
-module _ (file : List ℕ) (c : Config) (n : Note) (l : Log) (k : Kept file c (n ∷ l))
+module _ (file : List ℕ) (c : Config) (n : Note) (l : Log) (k : StackMatches file c (n ∷ l))
     (there : Present (functionIn file (c .state .function) .start) (localsIn file (c .state .function)) (length (c .cells))) where
   abbrev d : FunctionDef
   d = functionIn file (c .state .function)
 
   own-count : localsIn file (n .entered) ≡ d .locals
-  own-count = ap (localsIn file) (k .stack .0)
+  own-count = ap (localsIn file) (k .frames .0)
 
   one-less : c .state .depth - 1 ≡ length l
-  one-less = omega (arith, k .standing .depth-is)
+  one-less = omega (arith, k .depths .depth-is)
 
   below : c .state .saved - d .locals ≡ localsNoted file l
   unfolding localsNoted
-  below = omega (arith, k .standing .saved-is, own-count)
+  below = omega (arith, k .depths .saved-is, own-count)
 
   has-saved : d .locals ≤ length (drop (c .state .saved - d .locals) (c .saved))
   unfolding localsNoted
   has-saved =
-      omega (arith, k .standing .saved-is, own-count, k .standing .saved-most, k .store, length-drop (c .state .saved - d .locals) (c .saved))
+      omega (arith, k .depths .saved-is, own-count, k .depths .saved-most, k .store, length-drop (c .state .saved - d .locals) (c .saved))
 
   frame-is : getD (c .state .frames) (c .state .depth - 1) zeroFrame ≡ frameOf n
-  frame-is = rw one-less (k .stack .1)
+  frame-is = rw one-less (k .frames .1)
 
-  left-back : Back file (c .state .function) n (left (programOf file) c)
+  left-restores : Restored file (c .state .function) n (left (programOf file) c)
   unfolding left programAt
-  left-back =
+  left-restores =
       record {
-        its-own = k .stack .0;
+        same-function = k .frames .0;
         position = ap (λ (x : StackFrame). x .«instr_id») frame-is;
         current = ap (λ (x : StackFrame). x .«func_id») frame-is;
         cells =
             part-restored (c .cells) (d .start) (drop (c .state .saved - d .locals) (c .saved)) (d .locals) there has-saved
-            ∙ rw (below, ← own-count) (k .stack .2);
+            ∙ rw (below, ← own-count) (k .frames .2);
       }
 
-  left-kept : Kept file (left (programOf file) c) l
+  left-matches : StackMatches file (left (programOf file) c) l
   unfolding left programAt localsNoted
-  left-kept =
+  left-matches =
       record {
-        standing =
+        depths =
             record {
               depth-is = one-less;
-              depth-most = omega (arith, k .standing .depth-most);
+              depth-most = omega (arith, k .depths .depth-most);
               saved-is = below;
-              saved-most = omega (arith, k .standing .saved-most);
+              saved-most = omega (arith, k .depths .saved-most);
             };
         room = omega (arith, k .room, length-set (c .state .frames) (c .state .depth - 1) zeroFrame);
         store = k .store;
@@ -175,79 +175,79 @@ module _ (file : List ℕ) (c : Config) (n : Note) (l : Log) (k : Kept file c (n
               k .enough,
               length-pasted (c .cells) (d .start) (drop (c .state .saved - d .locals) (c .saved)) (d .locals) there has-saved,
             );
-        stack =
+        frames =
             rw frame-is
-            (stack-same file (n .current) (c .state .frames) _ (c .saved) (c .saved) l
+            (frames-same file (n .current) (c .state .frames) _ (c .saved) (c .saved) l
             (λ i h. getD-set-other (c .state .frames) (c .state .depth - 1) i zeroFrame zeroFrame (omega (arith, one-less)))
             (λ a m h. refl)
-            (k .stack .3));
+            (k .frames .3));
       }
 
--- ---- what changes only the position and the cells, keeps
+-- ---- what changes only the position and the cells preserves it
 
-advanced-kept : (file : List ℕ) (c : Config) (l : Log) (p : ℤ) (cells : List ℕ) → length cells ≡ length (c .cells) → Kept file c l → Kept file (advanced c p cells) l
-advanced-kept file c l p cells e k =
+advanced-matches : (file : List ℕ) (c : Config) (l : Log) (p : ℤ) (cells : List ℕ) → length cells ≡ length (c .cells) → StackMatches file c l → StackMatches file (advanced c p cells) l
+advanced-matches file c l p cells e k =
     record {
-      standing =
+      depths =
           record {
-            depth-is = k .standing .depth-is;
-            depth-most = k .standing .depth-most;
-            saved-is = k .standing .saved-is;
-            saved-most = k .standing .saved-most;
+            depth-is = k .depths .depth-is;
+            depth-most = k .depths .depth-most;
+            saved-is = k .depths .saved-is;
+            saved-most = k .depths .saved-most;
           };
       room = k .room;
       store = k .store;
       enough = omega (arith, e, k .enough);
-      stack = k .stack;
+      frames = k .frames;
     }
 
 -- ---- the small steps
 
-abbrev GoodStep : List ℕ → Kind → Config → Log → Config → Type 0
-GoodStep file κ c l c′ = Good file (Kept file) (Holds file) κ c l c′
+abbrev Preserved : List ℕ → Kind → Config → Log → Config → Type 0
+Preserved file κ c l c′ = Preserves file (StackMatches file) (StepCorrect file) κ c l c′
 
-other-good : (file : List ℕ) (c : Config) (l : Log) (c′ : Config) → Kept file c′ l → GoodStep file other c l c′
-other-good file c l c′ k = (record { right = tt; standing = k .standing }, k)
+other-preserves : (file : List ℕ) (c : Config) (l : Log) (c′ : Config) → StackMatches file c′ l → Preserved file other c l c′
+other-preserves file c l c′ k = (record { restores = tt; depths = k .depths }, k)
 
-enter-good : (file : List ℕ) (c : Config) (l : Log) (f : ℕ) (back : ℤ) → Kept file c l → All (entryConditions (programOf file) f c)
-    → GoodStep file (entry f back) c l (entered (programOf file) f back c)
+enter-preserves : (file : List ℕ) (c : Config) (l : Log) (f : ℕ) (back : ℤ) → StackMatches file c l → All (entryConditions (programOf file) f c)
+    → Preserved file (entry f back) c l (entered (programOf file) f back c)
 unfolding entryConditions limits programAt
-enter-good file c l f back k h =
+enter-preserves file c l f back k h =
     let d = functionIn file f in
     let k′ =
-    entered-kept file f back c l k
+    entered-matches file f back c l k
     (ltb-true (c .state .depth) greatestDepth (h .1 .0))
     (leb-true (c .state .saved + d .locals) savedStore (and-right (not (negative (d .locals))) (leb (c .state .saved + d .locals) savedStore) (h .1 .1 .0)))
     (present-more (d .start) (d .locals) (countOf c) (length (c .cells)) (k .enough) (present-true (d .start) (d .locals) (countOf c) (h .1 .1 .1 .0)))
     in
-    (record { right = tt; standing = k′ .standing }, k′)
+    (record { restores = tt; depths = k′ .depths }, k′)
 
 -- from what the statement before it left of the cells: a Return copies first
-leave-good : (file : List ℕ) (c : Config) (cells : List ℕ) (l : Log) → length cells ≡ length (c .cells) → Kept file c l → All (leaveConditions (programOf file) c)
-    → GoodStep file leaving c l (left (programOf file) (withCells c cells))
+leave-preserves : (file : List ℕ) (c : Config) (cells : List ℕ) (l : Log) → length cells ≡ length (c .cells) → StackMatches file c l → All (leaveConditions (programOf file) c)
+    → Preserved file leaving c l (left (programOf file) (withCells c cells))
 unfolding leaveConditions programAt
-leave-good file c cells [] e k h = absurd (omega (arith, ltb-true 0 (c .state .depth) (h .0), k .standing .depth-is))
-leave-good file c cells (n ∷ l) e k h =
+leave-preserves file c cells [] e k h = absurd (omega (arith, ltb-true 0 (c .state .depth) (h .0), k .depths .depth-is))
+leave-preserves file c cells (n ∷ l) e k h =
     let d = functionIn file (c .state .function) in
-    let kc : Kept file (withCells c cells) (n ∷ l) = advanced-kept file c (n ∷ l) (c .state .pc) cells e k in
+    let kc : StackMatches file (withCells c cells) (n ∷ l) = advanced-matches file c (n ∷ l) (c .state .pc) cells e k in
     let there : Present (d .start) (d .locals) (length cells) =
     present-more (d .start) (d .locals) (countOf c) (length cells) (omega (arith, k .enough, e))
     (present-true (d .start) (d .locals) (countOf c) (h .1 .1 .0))
     in
-    let k′ = left-kept file (withCells c cells) n l kc there in
-    (record { right = left-back file (withCells c cells) n l kc there; standing = k′ .standing }, k′)
+    let k′ = left-matches file (withCells c cells) n l kc there in
+    (record { restores = left-restores file (withCells c cells) n l kc there; depths = k′ .depths }, k′)
 
-kept-steps : (file : List ℕ) → Steps file (Kept file) (Holds file)
-kept-steps file =
+matches-inductive : (file : List ℕ) → Inductive file (StackMatches file) (StepCorrect file)
+matches-inductive file =
     record {
-      plain = λ c l p cells k keeps. other-good file c l (advanced c p cells) (advanced-kept file c l p cells (keeps .same-length) k);
+      plain = λ c l p cells k keeps. other-preserves file c l (advanced c p cells) (advanced-matches file c l p cells (keeps .same-length) k);
       writing = λ c l a v k h.
-          other-good file c l (withCells c (set (c .cells) a v))
-          (advanced-kept file c l (c .state .pc) (set (c .cells) a v) (length-set (c .cells) a v) k);
-      entering = enter-good file;
+          other-preserves file c l (withCells c (set (c .cells) a v))
+          (advanced-matches file c l (c .state .pc) (set (c .cells) a v) (length-set (c .cells) a v) k);
+      entering = enter-preserves file;
       returning = λ c l a k h.
-          leave-good file c (copied (successive 3 a 1) (c .cells)) l (length-copied (successive 3 a 1) (c .cells)) k (h .1);
-      leave-one = λ c l k h. leave-good file c (c .cells) l refl k h;
+          leave-preserves file c (copied (successive 3 a 1) (c .cells)) l (length-copied (successive 3 a 1) (c .cells)) k (h .1);
+      leave-one = λ c l k h. leave-preserves file c (c .cells) l refl k h;
     }
 
 -- ---- the load
@@ -261,22 +261,22 @@ lent-enough file cells saved h =
     h
     .1 .1 .0
 
-loaded-kept : (file cells saved : List ℕ) → WhenAccepted (λ (c : Config). Kept file c []) (load file cells saved)
+loaded-matches : (file cells saved : List ℕ) → WhenAccepted (λ (c : Config). StackMatches file c []) (load file cells saved)
 unfolding load loaded localsNoted
-loaded-kept file cells saved =
-    guarded (λ (c : Config). Kept file c []) _ _ λ h.
+loaded-matches file cells saved =
+    guarded (λ (c : Config). StackMatches file c []) _ _ λ h.
     let r = fileOf file in
     let twelve = lent-enough file cells saved h in
     record {
-      standing = record { depth-is = refl; depth-most = omega arith; saved-is = refl; saved-most = omega arith };
+      depths = record { depth-is = refl; depth-most = omega arith; saved-is = refl; saved-most = omega arith };
       room = omega (arith, length-replicate greatestDepth zeroFrame);
       store = leb-true savedStore (length saved) (and-right (leb (r .globals .count) (length cells)) (leb savedStore (length saved)) twelve);
       enough = omega (arith, length-append (contentsOf file .globals) (drop (r .globals .count) cells), length-globals file);
-      stack = tt;
+      frames = tt;
     }
 
 pub demand3 : Demand3
 unfolding Demand3
 demand3 file cells saved c accepts calls =
-    through file (Kept file) (Holds file) (kept-steps file) (Standing file) (λ c′ l k. k .standing) c [] calls
-    (subst (WhenAccepted (λ (c′ : Config). Kept file c′ [])) accepts (loaded-kept file cells saved))
+    always file (StackMatches file) (StepCorrect file) (matches-inductive file) (DepthsMatch file) (λ c′ l k. k .depths) c [] calls
+    (subst (WhenAccepted (λ (c′ : Config). StackMatches file c′ [])) accepts (loaded-matches file cells saved))
