@@ -29,39 +29,29 @@ use Rattle.definition.specs.CheckLaws.{All, judge-passed, all-front, all
 
 -- ---- the table of opcodes
 
+-- whether a shape is a Call's, and whether it is that of Return and Done
+abbrev transfers : Shape → Bool × Bool
+transfers (floats f) = (false, false)
+transfers (values t f) = (false, false)
+transfers (vectors ta tb f) = (false, false)
+transfers (dots f) = (false, false)
+transfers (strings f) = (false, false)
+transfers (negates t f) = (false, false)
+transfers negatesV = (false, false)
+transfers negatesS = (false, false)
+transfers (stores t) = (false, false)
+transfers storesV = (false, false)
+transfers (branches when) = (false, false)
+transfers jumps = (false, false)
+transfers call = (true, false)
+transfers return = (false, true)
+transfers host = (false, false)
+
 abbrev isCall : Shape → Bool
-isCall (floats f) = false
-isCall (values t f) = false
-isCall (vectors ta tb f) = false
-isCall (dots f) = false
-isCall (strings f) = false
-isCall (negates t f) = false
-isCall negatesV = false
-isCall negatesS = false
-isCall (stores t) = false
-isCall storesV = false
-isCall (branches when) = false
-isCall jumps = false
-isCall call = true
-isCall return = false
-isCall host = false
+isCall s = transfers s .0
 
 abbrev isReturn : Shape → Bool
-isReturn (floats f) = false
-isReturn (values t f) = false
-isReturn (vectors ta tb f) = false
-isReturn (dots f) = false
-isReturn (strings f) = false
-isReturn (negates t f) = false
-isReturn negatesV = false
-isReturn negatesS = false
-isReturn (stores t) = false
-isReturn storesV = false
-isReturn (branches when) = false
-isReturn jumps = false
-isReturn call = false
-isReturn return = true
-isReturn host = false
+isReturn s = transfers s .1
 
 abbrev callOpcode : ℕ → Bool
 callOpcode op = between 51 59 op

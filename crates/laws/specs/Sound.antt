@@ -70,23 +70,20 @@ pub record Consistent (file : List ℕ) (c : Config) : Type 0 where
 same-number : (n : ℕ) → eqb n n ≡ true
 same-number n = eq-eqb n n refl
 
+same-lump : (l : Lump) → sameLump l l ≡ true
+same-lump l = rw (same-number (l .offset), same-number (l .count))
+
 same-file : (r : FileRecord) → sameFile r r ≡ true
 unfolding sameFile
 same-file r =
     rw (
       same-number (r .length),
-      same-number (r .statements .offset),
-      same-number (r .statements .count),
-      same-number (r .globaldefs .offset),
-      same-number (r .globaldefs .count),
-      same-number (r .fielddefs .offset),
-      same-number (r .fielddefs .count),
-      same-number (r .functions .offset),
-      same-number (r .functions .count),
-      same-number (r .strings .offset),
-      same-number (r .strings .count),
-      same-number (r .globals .offset),
-      same-number (r .globals .count),
+      same-lump (r .statements),
+      same-lump (r .globaldefs),
+      same-lump (r .fielddefs),
+      same-lump (r .functions),
+      same-lump (r .strings),
+      same-lump (r .globals),
       same-number (r .entityfields),
     )
 
