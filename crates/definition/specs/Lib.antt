@@ -18,4 +18,5 @@ pub mod Parts
 pub mod StatementLaws
 pub mod Invariant
 pub mod RecordLaws
+pub mod LoadLaws
 pub mod ReturnsProof

@@ -12,19 +12,20 @@ use lib.Dec.{leb, ltb}
 use Rattle.definition.specs.declared.FunctionDef.{FunctionDef}
 use Rattle.definition.specs.declared.StackFrame.{StackFrame}
 use Rattle.definition.specs.Checks.{Condition, Conditions, Checked, accepted, guard}
-use Rattle.definition.specs.File.{leastCells, savedStore, greatestDepth, negative, contentsOf, fileOf}
+use Rattle.definition.specs.File.{savedStore, greatestDepth, negative, contentsOf, fileOf}
 use Rattle.definition.specs.Machine.{Program, functionOf, Config, countOf, limits, zeroFrame, present, copied, successive, argumentsOf, withCells, advanced}
 use Rattle.definition.specs.Machine.{entryConditions, entered, leaveConditions, left, returnConditions, returned}
-use Rattle.definition.specs.Load.{headerConditions, recordConditions, cellConditions, loadConditions, loaded, load, programAt, programOf}
+use Rattle.definition.specs.Load.{cellConditions, loaded, load, programAt, programOf}
 use Rattle.definition.specs.Calls.{Call}
 use Rattle.definition.specs.Log.{Note, Log, functionIn, localCells, Kind, entry, leaving, other}
 use Rattle.definition.specs.Trace.{logAfter}
 use Rattle.definition.specs.Returns.{localsNoted, DepthsMatch, Restored, LeavingRestores, StepCorrect, Demand3}
-use Rattle.definition.specs.CheckLaws.{All, and-right, all-back, WhenAccepted, guarded}
+use Rattle.definition.specs.CheckLaws.{All, and-right, WhenAccepted, guarded}
 use Rattle.definition.specs.Parts.{part, part-below, part-pasted, Present, present-true, present-more, present-source, length-pasted, part-restored, length-copied}
 use Rattle.definition.specs.StatementLaws.{Keeps}
 use Rattle.definition.specs.Invariant.{Preserves, Inductive, always}
 use Rattle.definition.specs.RecordLaws.{length-globals}
+use Rattle.definition.specs.LoadLaws.{load-rows}
 
 -- ---- the invariant
 
@@ -252,21 +253,12 @@ matches-inductive file =
 
 -- ---- the load
 
-lent-enough : (file cells saved : List ℕ) → All (loadConditions leastCells file (length cells) (length saved))
-    → (leb (fileOf file .globals .count) (length cells) && leb savedStore (length saved)) ≡ true
-unfolding cellConditions
-lent-enough file cells saved h =
-    all-back (headerConditions file ++ recordConditions (fileOf file .strings .count) (contentsOf file))
-    (cellConditions leastCells (fileOf file) (length cells) (length saved))
-    h
-    .1 .1 .0
-
 loaded-matches : (file cells saved : List ℕ) → WhenAccepted (λ (c : Config). StackMatches file c []) (load file cells saved)
-unfolding load loaded localsNoted
+unfolding load loaded localsNoted cellConditions
 loaded-matches file cells saved =
     guarded (λ (c : Config). StackMatches file c []) _ _ λ h.
     let r = fileOf file in
-    let twelve = lent-enough file cells saved h in
+    let twelve = load-rows file (length cells) (length saved) h .cells .1 .1 .0 in
     record {
       depths = record { depth-is = refl; depth-most = omega arith; saved-is = refl; saved-most = omega arith };
       room = omega (arith, length-replicate greatestDepth zeroFrame);

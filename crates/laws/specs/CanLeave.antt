@@ -18,15 +18,11 @@ use Rattle.definition.specs.Operations.{enteredAt, enteredFunctions, sound, nat
 use Rattle.definition.specs.Calls.{Call}
 use Rattle.definition.specs.Log.{Log, Kind, entry, leaving, other}
 use Rattle.definition.specs.Trace.{StepProperty, Always}
-use Rattle.definition.specs.CheckLaws.{All, WhenAccepted, guarded, guard-accepts}
+use Rattle.definition.specs.CheckLaws.{All, all-both, WhenAccepted, guarded, guard-accepts}
 use Rattle.definition.specs.Parts.{length-copied}
 use Rattle.definition.specs.StatementLaws.{Keeps}
 use Rattle.definition.specs.Invariant.{Preserves, Inductive, always}
 use Rattle.laws.specs.Sound.{StackConsistent, Consistent, consistent-sound, entered-more, entered-less, suffice, advanced-consistent, entered-consistent, left-consistent, returned-consistent, loaded-consistent, AnyStep}
-
-all-both : (cs ds : Conditions) → All cs → All ds → All (cs ++ ds)
-all-both [] ds h k = k
-all-both (c ∷ cs) ds (h, hs) k = (h, all-both cs ds hs k)
 
 -- the local cells of these functions are below the count
 abbrev Ranges : Program → ℕ → List ℕ → Type 0

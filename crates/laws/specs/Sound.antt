@@ -22,9 +22,10 @@ use Rattle.definition.specs.Operations.{frameFunctions, enteredAt, enteredFunct
 use Rattle.definition.specs.Calls.{Call}
 use Rattle.definition.specs.Log.{Log, Kind, entry, leaving, other}
 use Rattle.definition.specs.Trace.{StepProperty, Always}
-use Rattle.definition.specs.CheckLaws.{All, and-left, and-right, and-both, all-front, all-back, WhenAccepted, guarded}
+use Rattle.definition.specs.CheckLaws.{All, and-left, and-right, and-both, WhenAccepted, guarded}
 use Rattle.definition.specs.Parts.{Present, present-true, present-more, present-source, length-pasted, length-copied}
 use Rattle.definition.specs.RecordLaws.{length-globals}
+use Rattle.definition.specs.LoadLaws.{load-rows}
 use Rattle.definition.specs.StatementLaws.{Keeps}
 use Rattle.definition.specs.Invariant.{Preserves, Inductive, always}
 
@@ -235,22 +236,16 @@ loaded-consistent file cells saved =
     guarded (Consistent file) _ _ λ h.
     let r = fileOf file in
     let k = contentsOf file in
-    let header : All (headerConditions file) =
-    all-front (headerConditions file) (recordConditions (r .strings .count) k)
-    (all-front (headerConditions file ++ recordConditions (r .strings .count) k) (cellConditions leastCells r (length cells) (length saved)) h)
-    in
-    let last : All (cellConditions leastCells r (length cells) (length saved)) =
-    all-back (headerConditions file ++ recordConditions (r .strings .count) k) (cellConditions leastCells r (length cells) (length saved)) h
-    in
+    let rows = load-rows file (length cells) (length saved) h in
     record {
       stack = record { room = omega (arith, length-replicate greatestDepth zeroFrame); depth-most = omega arith; all = refl; sum = refl; saved-most = omega arith };
-      long = leb-true savedStore (length saved) (and-right (leb (r .globals .count) (length cells)) (leb savedStore (length saved)) (last .1 .1 .0));
+      long = leb-true savedStore (length saved) (and-right (leb (r .globals .count) (length cells)) (leb savedStore (length saved)) (rows .cells .1 .1 .0));
       recorded = refl;
       enough = omega (arith, length-append (k .globals) (drop (r .globals .count) cells), length-globals file);
       in-range =
           and-both (lengthFits r && lumpsFit r && cellsFit leastCells r) (entityFits r)
-          (and-both (lengthFits r && lumpsFit r) (cellsFit leastCells r) (and-both (lengthFits r) (lumpsFit r) (header .0) (header .1 .1 .1 .0)) (last .0))
-          (last .1 .0);
+          (and-both (lengthFits r && lumpsFit r) (cellsFit leastCells r) (and-both (lengthFits r) (lumpsFit r) (rows .header .0) (rows .header .1 .1 .1 .0)) (rows .cells .0))
+          (rows .cells .1 .0);
     }
 
 -- what holds of every state that a list of calls meets

@@ -19,9 +19,10 @@ use Rattle.definition.specs.Load.{headerConditions, recordConditions, cellCondi
 use Rattle.definition.specs.Calls.{Call}
 use Rattle.definition.specs.Log.{Log, Kind, entry, leaving, other}
 use Rattle.definition.specs.Trace.{StepProperty, Always}
-use Rattle.definition.specs.CheckLaws.{All, and-left, and-right, all-back, WhenAccepted, guarded}
+use Rattle.definition.specs.CheckLaws.{All, and-left, and-right, WhenAccepted, guarded}
 use Rattle.definition.specs.Parts.{Present, present-true, present-more, present-source, paste-none, length-pasted, drop-pasted, length-copied, drop-copied}
 use Rattle.definition.specs.RecordLaws.{length-globals}
+use Rattle.definition.specs.LoadLaws.{load-rows}
 use Rattle.definition.specs.StatementLaws.{Keeps}
 use Rattle.definition.specs.Invariant.{Preserves, Inductive, always}
 use Rattle.laws.specs.Sound.{StackConsistent, Consistent, advanced-consistent, entered-consistent, left-consistent, returned-consistent, loaded-consistent}
@@ -218,10 +219,8 @@ loaded-keeps file cells saved =
     let r = fileOf file in
     let n = r .globals .count in
     let k = contentsOf file in
-    let last : All (cellConditions leastCells r (length cells) (length saved)) =
-    all-back (headerConditions file ++ recordConditions (r .strings .count) k) (cellConditions leastCells r (length cells) (length saved)) h
-    in
-    let lent : n ≤ length cells = leb-true n (length cells) (and-left (leb n (length cells)) (leb savedStore (length saved)) (last .1 .1 .0)) in
+    let rows = load-rows file (length cells) (length saved) h in
+    let lent : n ≤ length cells = leb-true n (length cells) (and-left (leb n (length cells)) (leb savedStore (length saved)) (rows .cells .1 .1 .0)) in
     record {
       same-length = omega (arith, lent, length-append (k .globals) (drop n cells), length-globals file, length-drop n cells);
       same-above = drop-at (k .globals) (drop n cells) n (length-globals file);
