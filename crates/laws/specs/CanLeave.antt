@@ -116,7 +116,7 @@ module _ (file : List ℕ) where
       with-none (refused n) s z = tt
       with-none (accepted c) s z = record { consistent = s; ranges = rw z tt }
 
--- what holds of every state that a list of calls meets: above depth 0 leaving is accepted, and so is an abandonment to any depth up to the present one
+-- what holds of every state that a list of calls reaches: above depth 0 leaving is accepted, and so is an abandonment to any depth up to the present one
 pub record CanLeave (file : List ℕ) (c : Config) (l : Log) : Type 0 where
   pub leaves : 0 < c .state .depth → All (leaveConditions (programOf file) c)
   pub abandons-to : (target : ℕ) → target ≤ c .state .depth → (c′ : Config) × (abandon (programOf file) (pos target) c ≡ accepted c′)

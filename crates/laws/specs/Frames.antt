@@ -36,7 +36,7 @@ FramesBy (entry f back) c l c′ = Only (c .state .depth) c c′ × (frameAt c�
 FramesBy leaving c l c′ = Only (c .state .depth - 1) c c′ × (frameAt c′ (c .state .depth - 1) ≡ record { «instr_id» = pos 0; «func_id» = 0 })
 FramesBy other c l c′ = c′ .state .frames ≡ c .state .frames
 
--- what holds of every state that a list of calls meets: there are 31 frames, and those from the depth on are zeros
+-- what holds of every state that a list of calls reaches: there are 31 frames, and those from the depth on are zeros
 pub record ZeroAbove (c : Config) : Type 0 where
   pub number : length (c .state .frames) ≡ greatestDepth
   pub zeros : (i : ℕ) → c .state .depth ≤ i → frameAt c i ≡ record { «instr_id» = pos 0; «func_id» = 0 }

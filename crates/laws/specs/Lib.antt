@@ -1,4 +1,4 @@
--- Laws that keep the definition and demand 3's claim honest.
+-- Laws of the definition beside demand 3: what holds of every state, or of every state that calls reach after an accepted load.
 pub mod Starts
 pub mod Frames
 pub mod Sound

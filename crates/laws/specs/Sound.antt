@@ -1,4 +1,4 @@
--- After an accepted load check 13 refuses no call of any list, and what the load records stays. So demand 3 is not had by refusing.
+-- After an accepted load check 13 refuses no call of any list, and what the load records stays. So demand 3 does not hold merely because calls are refused.
 use Prim.Native.Nat.{ℕ, zero, suc, _+_, _-_, _≤_, _<_}
 use mathlib.Core.Path.{_≡_, refl, sym, _∙_, ap, subst}
 use mathlib.Core.List.{List, [], _∷_, _++_}
@@ -248,7 +248,7 @@ loaded-consistent file cells saved =
           (rows .cells .1 .0);
     }
 
--- what holds of every state that a list of calls meets
+-- what holds of every state that a list of calls reaches
 pub record AsLoaded (file : List ℕ) (c : Config) (l : Log) : Type 0 where
   -- check 13 does not refuse
   pub passes : sound (programOf file) c ≡ true
