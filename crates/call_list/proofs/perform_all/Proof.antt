@@ -144,8 +144,7 @@ perform-all-spec =
     mul-at
     mul-place-of
     shared-slice-copy-out-place-of
-    (λ c κs. search needs)
-    add-perform-call
+    (λ c κs. search needs) add-perform-call
     mul-perform-call
     shared-slice-copy-out-perform-call
     add-perform-call-2

@@ -27,10 +27,6 @@ perform-calls-spec =
     (tie.spec
     returns
     returns-2
-    (λ c κs. search needs)
-    returns-3
+    (λ c κs. search needs) returns-3
     perform-all-requires
-    (λ c. search needs)
-    (λ c. search needs)
-    (λ c. search needs)
-    returns-4)
+    (λ c. search needs) (λ c. search needs) (λ c. search needs) returns-4)

@@ -14,9 +14,5 @@ pub reply-handover-spec : {M : Type 1} → statement M
 reply-handover-spec =
     tie.close
     (tie.spec
-    (λ c. search needs)
-    (λ c κs. search needs)
-    returns
-    (λ c. search needs)
-    (λ c κs. search needs)
-    returns-2)
+    (λ c. search needs) (λ c κs. search needs) returns
+    (λ c. search needs) (λ c κs. search needs) returns-2)

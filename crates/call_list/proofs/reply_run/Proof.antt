@@ -20,16 +20,7 @@ pub reply-run-spec : {M : Type 1} → statement M
 reply-run-spec =
     tie.close
     (tie.spec
-    (λ c. search needs)
-    (λ c κs. search needs)
-    returns
-    (λ c. search needs)
-    (λ c κs. search needs)
-    returns-2
-    (λ c. search needs)
-    (λ c. search needs)
-    (λ c κs. search needs)
-    returns-3
-    (λ c. search needs)
-    (λ c κs. search needs)
-    returns-4)
+    (λ c. search needs) (λ c κs. search needs) returns
+    (λ c. search needs) (λ c κs. search needs) returns-2
+    (λ c. search needs) (λ c. search needs) (λ c κs. search needs) returns-3
+    (λ c. search needs) (λ c κs. search needs) returns-4)

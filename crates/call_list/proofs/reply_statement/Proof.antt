@@ -18,13 +18,6 @@ pub reply-statement-spec : {M : Type 1} → statement M
 reply-statement-spec =
     tie.close
     (tie.spec
-    (λ c. search needs)
-    (λ c κs. search needs)
-    returns
-    (λ c. search needs)
-    (λ c. search needs)
-    (λ c κs. search needs)
-    returns-2
-    (λ c. search needs)
-    (λ c κs. search needs)
-    returns-3)
+    (λ c. search needs) (λ c κs. search needs) returns
+    (λ c. search needs) (λ c. search needs) (λ c κs. search needs) returns-2
+    (λ c. search needs) (λ c κs. search needs) returns-3)
