@@ -54,28 +54,25 @@ pub struct Listed {
     pub answer: ListAnswer,
 }
 
+fn reply(context: ExecutionContext, word: u32, detail: u32, count: u32) -> Replied
+    ensures { λ r. ⌜ r ≡ answering context (record { word = word; detail = detail; count = count }) ⌝ }
+{
+    Replied {
+        context,
+        word,
+        detail,
+        count,
+    }
+}
+
 pub fn reply_answer(a: Answered) -> Replied
     ensures { λ r. ⌜ r ≡ answering (a .context) (answerReply (a .answer)) ⌝ }
 {
     let context = a.context;
     let answer = a.answer;
     match answer {
-        Answer::Accepted => {
-            return Replied {
-                context,
-                word: ACCEPTED,
-                detail: 0,
-                count: 0,
-            };
-        }
-        Answer::Refused(n) => {
-            return Replied {
-                context,
-                word: REFUSED,
-                detail: n as u32,
-                count: 0,
-            };
-        }
+        Answer::Accepted => return reply(context, ACCEPTED, 0, 0),
+        Answer::Refused(n) => return reply(context, REFUSED, n as u32, 0),
     }
 }
 
@@ -83,22 +80,8 @@ pub fn reply_read(context: ExecutionContext, answer: ReadAnswer) -> Replied
     ensures { λ r. ⌜ r ≡ answering context (readReply answer) ⌝ }
 {
     match answer {
-        ReadAnswer::Value(v) => {
-            return Replied {
-                context,
-                word: ACCEPTED,
-                detail: v,
-                count: 0,
-            };
-        }
-        ReadAnswer::Refused(n) => {
-            return Replied {
-                context,
-                word: REFUSED,
-                detail: n as u32,
-                count: 0,
-            };
-        }
+        ReadAnswer::Value(v) => return reply(context, ACCEPTED, v, 0),
+        ReadAnswer::Refused(n) => return reply(context, REFUSED, n as u32, 0),
     }
 }
 
@@ -106,22 +89,8 @@ fn reply_handover(context: ExecutionContext, handed: Handover, count: u32) -> Re
     ensures { λ r. ⌜ r ≡ answering context (handoverReply handed count) ⌝ }
 {
     match handed {
-        Handover::Builtin(n) => {
-            return Replied {
-                context,
-                word: BUILTIN,
-                detail: n,
-                count,
-            };
-        }
-        Handover::Opcode(n) => {
-            return Replied {
-                context,
-                word: OPCODE,
-                detail: n,
-                count,
-            };
-        }
+        Handover::Builtin(n) => return reply(context, BUILTIN, n, count),
+        Handover::Opcode(n) => return reply(context, OPCODE, n, count),
     }
 }
 
@@ -131,22 +100,8 @@ pub fn reply_statement(s: Stepped) -> Replied
     let context = s.context;
     let answer = s.answer;
     match answer {
-        StatementAnswer::Completed => {
-            return Replied {
-                context,
-                word: ACCEPTED,
-                detail: 0,
-                count: 0,
-            };
-        }
-        StatementAnswer::Refused(n) => {
-            return Replied {
-                context,
-                word: REFUSED,
-                detail: n as u32,
-                count: 0,
-            };
-        }
+        StatementAnswer::Completed => return reply(context, ACCEPTED, 0, 0),
+        StatementAnswer::Refused(n) => return reply(context, REFUSED, n as u32, 0),
         StatementAnswer::HandedOver(h) => return reply_handover(context, h, 0),
     }
 }
@@ -158,30 +113,9 @@ pub fn reply_run(ran: Ran) -> Replied
     let answer = ran.answer;
     let count = ran.count;
     match answer {
-        RunAnswer::Ended => {
-            return Replied {
-                context,
-                word: ENDED,
-                detail: 0,
-                count,
-            };
-        }
-        RunAnswer::Spent => {
-            return Replied {
-                context,
-                word: SPENT,
-                detail: 0,
-                count,
-            };
-        }
-        RunAnswer::Refused(n) => {
-            return Replied {
-                context,
-                word: REFUSED,
-                detail: n as u32,
-                count,
-            };
-        }
+        RunAnswer::Ended => return reply(context, ENDED, 0, count),
+        RunAnswer::Spent => return reply(context, SPENT, 0, count),
+        RunAnswer::Refused(n) => return reply(context, REFUSED, n as u32, count),
         RunAnswer::HandedOver(h) => return reply_handover(context, h, count),
     }
 }

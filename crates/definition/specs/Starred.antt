@@ -430,7 +430,7 @@ own = accepted (20 ∷ 15 ∷ 28 ∷ 27 ∷ 29 ∷ 15 ∷ 15 ∷ [])
 pub data Row : Type 0 where
   row : String → Seen → Seen → Row
 
-abbrev sameNumbers : List ℕ → List ℕ → Bool
+abbrev pub sameNumbers : List ℕ → List ℕ → Bool
 sameNumbers [] [] = true
 sameNumbers [] (y ∷ ys) = false
 sameNumbers (x ∷ xs) [] = false

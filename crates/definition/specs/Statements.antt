@@ -10,7 +10,7 @@ use Rattle.definition.specs.declared.FunctionDef.{FunctionDef}
 use Rattle.definition.specs.declared.Handover.{Handover}
 use Rattle.definition.specs.declared.Handover.the-variants.{Builtin, Opcode}
 use Rattle.definition.specs.Checks.{Condition, Conditions, _otherwise_, judge}
-use Rattle.definition.specs.File.{Contents, noFunction, isBuiltin, builtinOf, builtinKnown}
+use Rattle.definition.specs.File.{opcodeCount, Contents, noFunction, isBuiltin, builtinOf, builtinKnown}
 use Rattle.definition.specs.Floats.{addF, subF, mulF, divF, eqF, neF, leF, geF, ltF, gtF, andF, orF, notF, bitAndF, bitOrF, isZero, flag}
 use Rattle.definition.specs.Floats.{mulV, eqV, neV, notV, eqN, neN, notN}
 use Rattle.definition.specs.Cells.{string, float, vector, entity, field, function, cellOf, signed, Typing, typingOf}
@@ -253,7 +253,7 @@ statementAt statements p = getD statements (placeOf (length statements) p) noSta
 unfoldable pub fetchConditions : List Statement → ℤ → Conditions
 fetchConditions statements p =
     (ltb (placeOf (length statements) p) (length statements) otherwise 14)
-    ∷ (ltb (statementAt statements p .opcode) 66 otherwise 7)
+    ∷ (ltb (statementAt statements p .opcode) opcodeCount otherwise 7)
     ∷ []
 
 -- a statement of a shape at the position p, whose operands name the cells a, b and c

@@ -1,5 +1,5 @@
--- After an accepted load each operation is refused by its own row alone: so 13 hides no acceptance, and a run is begun, a cell read or written, a
--- function entered and a handed-over statement carried on from wherever the row's conditions hold.
+-- After an accepted load the row of an operation alone decides whether it is refused: so 13 takes no acceptance away, and a run is begun, a cell read or
+-- written, a function entered and a handed-over statement carried on from wherever the row's conditions hold.
 use Prim.Native.Nat.{ℕ, suc, _+_}
 use mathlib.Core.Path.{_≡_, subst}
 use mathlib.Core.Logic.{inr}
@@ -10,16 +10,16 @@ use lib.ListN.{length, getD, set}
 use Rattle.definition.specs.declared.FileRecord.{FileRecord}
 use Rattle.definition.specs.declared.RunAnswer.the-variants.{Refused}
 use Rattle.definition.specs.Checks.{Condition, Conditions, _otherwise_, judge, Checked, accepted, guard}
-use Rattle.definition.specs.File.{fileOf}
+use Rattle.definition.specs.File.{greatestLimit, fileOf}
 use Rattle.definition.specs.Statements.{placeOf}
 use Rattle.definition.specs.Machine.{Program, Config, countOf, limits, withCells, advanced, entryConditions, entered, step, Ran, runFor}
 use Rattle.definition.specs.Load.{load, programOf}
 use Rattle.definition.specs.Operations.{sound, natural, below, permitted, isHandedOver, hostEnter, statement, runConditions, run, carryOnConditions, carryOn, rawRead, rawWrite}
 use Rattle.definition.specs.Calls.{Call}
-use Rattle.definition.specs.Along.{Through}
+use Rattle.definition.specs.Trace.{Always}
 use Rattle.definition.specs.CheckLaws.{All, FailsFirst, judge-all, judge-first, WhenAccepted}
-use Rattle.definition.specs.Walk.{through}
-use Rattle.laws.specs.Sound.{Steady, steady-sound, steady-steps, loaded-steady, Any}
+use Rattle.definition.specs.Invariant.{always}
+use Rattle.laws.specs.Sound.{Consistent, consistent-sound, consistent-inductive, loaded-consistent, AnyStep}
 use Rattle.laws.specs.Exactly.{Exactly, exactly}
 
 -- what a run gives, exactly by these conditions
@@ -33,7 +33,7 @@ module _ (file : List ℕ) (c : Config) where
 
   -- "28: limit outside 1 to 99,999; 29: target below 0, or not below the depth"
   abbrev pub runRow : ℤ → ℤ → Conditions
-  runRow target limit = (permitted limit 99999 otherwise 28) ∷ (below target (c .state .depth) otherwise 29) ∷ []
+  runRow target limit = (permitted limit greatestLimit otherwise 28) ∷ (below target (c .state .depth) otherwise 29) ∷ []
 
   -- "15: cell negative or not below the count"
   abbrev pub rawRow : ℤ → Conditions
@@ -46,7 +46,8 @@ module _ (file : List ℕ) (c : Config) where
   abbrev place : ℤ → ℕ
   place f = placeOf (length (P .functions)) f
 
-  pub record Alone : Type 0 where
+  -- each operation from c is accepted, or refused, by the conditions of its own row of 01's table
+  pub record RowDecides : Type 0 where
     pub enters : (f : ℤ) → Exactly (entryConditions P (place f) c) (entered P (place f) (c .state .pc) c) (hostEnter P f c)
     pub steps : statement P c ≡ step P c
     pub runs : (target limit : ℤ) → RunExactly (runRow target limit) c (runFor P (natural limit) (natural target) c) (run P target limit c)
@@ -54,17 +55,17 @@ module _ (file : List ℕ) (c : Config) where
     pub reads : (a : ℤ) → Exactly (rawRow a) (getD (c .cells) (natural a) 0) (rawRead P a c)
     pub writes : (a : ℤ) (v : ℕ) → Exactly (rawRow a) (withCells c (set (c .cells) (natural a) v)) (rawWrite P a v c)
 
-  module _ (k : Steady file c) where
+  module _ (k : Consistent file c) where
     passes : sound P c ≡ true
-    passes = steady-sound file c k
+    passes = consistent-sound file c k
 
     without-13 : {A : Type 0} (cs : Conditions) (a : A) → Exactly cs a (guard ((sound P c otherwise 13) ∷ cs) a)
     unfolding guard judge
     without-13 cs a = rw passes (exactly cs a)
 
-    begins-alone : (target limit : ℤ) → RunExactly (runRow target limit) c (runFor P (natural limit) (natural target) c) (run P target limit c)
+    run-decides : (target limit : ℤ) → RunExactly (runRow target limit) c (runFor P (natural limit) (natural target) c) (run P target limit c)
     unfolding run runConditions limits
-    begins-alone target limit =
+    run-decides target limit =
         record {
           begins = λ h. rw (judge-all (runConditions P target limit c) (passes, h));
           refuses = λ n f. rw (judge-first (runConditions P target limit c) (suc n) (inr (passes, f)));
@@ -74,20 +75,20 @@ module _ (file : List ℕ) (c : Config) where
     by-count : {A : Type 0} (a : ℤ) (v : A) (x : Checked A) → Exactly ((below a (countOf c) otherwise 15) ∷ []) v x → Exactly (rawRow a) v x
     by-count a v x e = subst (λ (r : FileRecord). Exactly ((below a (r .globals .count) otherwise 15) ∷ []) v x) (k .recorded) e
 
-    alone : Alone
+    decides : RowDecides
     unfolding hostEnter statement carryOn carryOnConditions rawRead rawWrite
-    alone =
+    decides =
         record {
           enters = λ f. without-13 _ _;
           steps = rw passes;
-          runs = begins-alone;
+          runs = run-decides;
           carries = without-13 _ _;
           reads = λ a. by-count a _ _ (without-13 _ _);
           writes = λ a v. by-count a _ _ (without-13 _ _);
         }
 
-pub always-alone : (file cells saved : List ℕ) (c : Config) → load file cells saved ≡ accepted c → (calls : List Call)
-    → Through file Any (λ c′ l. Alone file c′) c [] calls
-always-alone file cells saved c accepts calls =
-    through file (λ c′ l. Steady file c′) Any (steady-steps file) (λ c′ l. Alone file c′) (λ c′ l k. alone file c′ k)
-    c [] calls (subst (WhenAccepted (Steady file)) accepts (loaded-steady file cells saved))
+pub row-always-decides : (file cells saved : List ℕ) (c : Config) → load file cells saved ≡ accepted c → (calls : List Call)
+    → Always file AnyStep (λ c′ l. RowDecides file c′) c [] calls
+row-always-decides file cells saved c accepts calls =
+    always file (λ c′ l. Consistent file c′) AnyStep (consistent-inductive file) (λ c′ l. RowDecides file c′) (λ c′ l k. decides file c′ k)
+    c [] calls (subst (WhenAccepted (Consistent file)) accepts (loaded-consistent file cells saved))
