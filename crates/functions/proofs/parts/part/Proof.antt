@@ -3,8 +3,7 @@ use native.Mathlib.Nat.{mul-zero, add-sub-cancel-left}
 use native.Mathlib.Omega.{arith}
 use lib.ListN.{length}
 use borrow.Author.Needs.{needs}
-use Rattle.functions.specs.Laws.{lump-fitting, lump-end}
-use Rattle.functions.proofs.Tests.{short-product}
+use Rattle.functions.specs.Laws.{lump-end}
 use Rattle.functions.proofs.parts.part.Statement.{statement}
 use Rattle.functions.proofs.parts.part.Tie as tie
 
