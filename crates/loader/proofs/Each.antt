@@ -42,17 +42,11 @@ as-read conditions e h = h ∙ ap (λ x. judge (conditions x)) e
 
 -- ---- the records of a part
 
-pub small : (kind : Kind) → sizeOf kind ≤ 36
-small Functions = omega arith
-small Statements = omega arith
-small Globaldefs = omega arith
-small Fielddefs = omega arith
-
-pub some : (kind : Kind) → 0 < sizeOf kind
-some Functions = omega arith
-some Statements = omega arith
-some Globaldefs = omega arith
-some Fielddefs = omega arith
+pub bounds : (kind : Kind) → (0 < sizeOf kind) × (sizeOf kind ≤ 36)
+bounds Functions = (omega arith, omega arith)
+bounds Statements = (omega arith, omega arith)
+bounds Globaldefs = (omega arith, omega arith)
+bounds Fielddefs = (omega arith, omega arith)
 
 -- the conditions of the records from a byte on
 abbrev pub eachFrom : Kind → ℕ → List ℕ → ℕ → Conditions
@@ -87,7 +81,7 @@ module _ {kind : Kind} {strings : ℕ} {part : List ℕ} {at size : ℕ} (l : Le
   module _ (h : size ≤ length part - at) {n : ℕ} (e : n ≡ judge (conditionsAt kind strings part at)) where
     one-more : judge (conditionsAt kind strings part at ++ eachFrom kind strings part (at + size)) ≡ judge (eachIn kind strings part)
     unfolding each records
-    one-more = rw (l .is) (rw (div-eq-sub-div (some kind) (rw (l .is) at h), add-one, ← sub-add-eq) at (l .rest))
+    one-more = rw (l .is) (rw (div-eq-sub-div (bounds kind .0) (rw (l .is) at h), add-one, ← sub-add-eq) at (l .rest))
 
     -- the first of them refuses, or passes
     pub stopped : (n ≡ 0 → ⊥) → n ≡ judge (eachIn kind strings part)

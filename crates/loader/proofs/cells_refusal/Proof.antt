@@ -21,5 +21,4 @@ returns-3 c =
 
 pub cells-refusal-spec : {M : Type 1} → statement M
 cells-refusal-spec =
-    tie.close
-    (tie.spec (λ c κs. search needs) returns (λ c κs. search needs) returns-2 (λ c κs. search needs) returns-3)
+    tie.close (tie.spec (λ c κs. search needs) returns (λ c κs. search needs) returns-2 (λ c κs. search needs) returns-3)

@@ -32,12 +32,4 @@ returns-3 c =
 
 pub load-refusal-spec : {M : Type 1} → statement M
 load-refusal-spec =
-    tie.close
-    (tie.spec
-    (λ c κs. search needs)
-    returns
-    file-of-requires
-    records-refusal-requires
-    returns-2
-    (λ c κs. search needs)
-    returns-3)
+    tie.close (tie.spec (λ c κs. search needs) returns file-of-requires records-refusal-requires returns-2 (λ c κs. search needs) returns-3)

@@ -27,13 +27,4 @@ returns-2 c = rw add-sub-cancel-left
 
 pub part-spec : {M : Type 1} → statement M
 part-spec =
-    tie.close
-    (tie.spec
-    (λ c. search needs)
-    returns
-    mul-end
-    add-end
-    (λ c. search needs)
-    (λ c. search needs)
-    part-result-end
-    returns-2)
+    tie.close (tie.spec (λ c. search needs) returns mul-end add-end (λ c. search needs) (λ c. search needs) part-result-end returns-2)

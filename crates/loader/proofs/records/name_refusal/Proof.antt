@@ -18,5 +18,4 @@ returns-2 c =
 
 pub name-refusal-spec : {M : Type 1} → statement M
 name-refusal-spec =
-    tie.close
-    (tie.spec (λ c κs. search needs) (λ c. search needs) returns (λ c. search needs) returns-2)
+    tie.close (tie.spec (λ c κs. search needs) (λ c. search needs) returns (λ c. search needs) returns-2)

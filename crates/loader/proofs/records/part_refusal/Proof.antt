@@ -4,7 +4,7 @@ use lib.ListN.{length}
 use native.Mathlib.Omega.{arith}
 use borrow.Author.Needs.{needs}
 use Rattle.definition.specs.Checks.{judge}
-use Rattle.loader.proofs.Each.{Left, some, all-of, stopped, next, none-left}
+use Rattle.loader.proofs.Each.{Left, bounds, all-of, stopped, next, none-left}
 use Rattle.loader.proofs.records.part_refusal.Statement.{statement}
 use Rattle.loader.proofs.records.part_refusal.Tie as tie
 
@@ -24,7 +24,7 @@ returns : tie.Need-returns Inv-loop μ-loop
 returns c = stopped (c .before .before .before .loop .inv) (c .before .before .loop-test .taken) (c .before .record-refusal .ensures) (c .if1 .taken)
 
 loop-less : tie.Need-loop-less Inv-loop μ-loop
-loop-less c = omega (arith, some (c .before .before .before .before .before .before .args .kind))
+loop-less c = omega (arith, bounds (c .before .before .before .before .before .before .args .kind) .0)
 
 loop-again : tie.Need-loop-again Inv-loop μ-loop
 loop-again c = next (c .before .before .before .loop .inv) (c .before .before .loop-test .taken) (c .before .record-refusal .ensures) (c .if1 .left)
@@ -34,16 +34,5 @@ returns-2 c = none-left (c .before .loop .inv) (c .loop-test .left)
 
 pub part-refusal-spec : {M : Type 1} → statement M
 part-refusal-spec =
-    tie.close
-    (tie.spec
-    Inv-loop
-    μ-loop
-    (λ c κs. search needs)
-    loop-holds
-    (λ c. search needs)
-    record-refusal-requires
-    returns
-    (λ c. search needs)
-    loop-less
-    loop-again
-    returns-2)
+    tie.close (tie.spec Inv-loop μ-loop (λ c κs. search needs) loop-holds (λ c. search needs) record-refusal-requires returns
+    (λ c. search needs) loop-less loop-again returns-2)

@@ -42,13 +42,6 @@ returns-4 c =
 
 pub records-refusal-spec : {M : Type 1} → statement M
 records-refusal-spec =
-    tie.close
-    (tie.spec
-    (λ c κs. fit c .functions)
-    returns
-    (λ c κs. fit (c .before .before) .statements)
-    returns-2
-    (λ c κs. fit (c .before .before .before .before) .globaldefs)
-    returns-3
-    (λ c κs. fit (c .before .before .before .before .before .before) .fielddefs)
-    returns-4)
+    tie.close (tie.spec (λ c κs. fit c .functions) returns (λ c κs. fit (c .before .before) .statements) returns-2
+    (λ c κs. fit (c .before .before .before .before) .globaldefs) returns-3
+    (λ c κs. fit (c .before .before .before .before .before .before) .fielddefs) returns-4)
