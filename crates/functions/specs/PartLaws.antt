@@ -11,7 +11,7 @@ use lib.Seq.{getD-take, getD-drop, length-take-le}
 use Rattle.definition.specs.declared.Lump.{Lump}
 use Rattle.definition.specs.declared.FileRecord.{FileRecord}
 use Rattle.definition.specs.File.{byteAt, u16At, u32At, lumpFits, records, recordsIn, readStatement, readDefinition, readFunction, contentsAt}
-use Rattle.functions.specs.Parts.{partOf, recordsOf, statementsIn, definitionsIn, functionsIn}
+use Rattle.functions.specs.Parts.{partOf, recordsOf, statementsIn, definitionsIn, functionsIn, cellsIn}
 use Rattle.functions.specs.Laws.{lump-end, AllFit}
 
 -- the n bytes from i on in f are those from j on in g
@@ -124,3 +124,7 @@ module _ (r : FileRecord) (file : List ℕ) (fit : AllFit (length file) r) where
   pub part-functions : functionsIn (partOf 36 (r .functions) file) ≡ contentsAt r file .functions
   unfolding contentsAt
   part-functions = part-records readFunction 36 function-local (omega arith) file (r .functions) (fit .functions)
+
+  pub part-globals : cellsIn (partOf 4 (r .globals) file) ≡ contentsAt r file .globals
+  unfolding contentsAt
+  part-globals = part-records u32At 4 u32-local (omega arith) file (r .globals) (fit .globals)

@@ -6,7 +6,7 @@ use Rattle.definition.specs.declared.Lump.{Lump}
 use Rattle.definition.specs.declared.Statement.{Statement}
 use Rattle.definition.specs.declared.Definition.{Definition}
 use Rattle.definition.specs.declared.FunctionDef.{FunctionDef}
-use Rattle.definition.specs.File.{records, readStatement, readDefinition, readFunction}
+use Rattle.definition.specs.File.{records, u32At, readStatement, readDefinition, readFunction}
 
 abbrev pub partOf : ℕ → Lump → List ℕ → List ℕ
 partOf size l file = take (size * l .count) (drop (l .offset) file)
@@ -22,3 +22,7 @@ definitionsIn part = recordsOf readDefinition 8 part
 
 abbrev pub functionsIn : List ℕ → List FunctionDef
 functionsIn part = recordsOf readFunction 36 part
+
+-- the starting cells
+abbrev pub cellsIn : List ℕ → List ℕ
+cellsIn part = recordsOf u32At 4 part

@@ -8,6 +8,7 @@ ghost use Rattle.functions.specs.Answers.{fetched};
 ghost use Rattle.functions.specs.Parts.{statementsIn};
 use crate::ops;
 use crate::reads;
+use definition::STATEMENT_SIZE;
 use definition::Statement;
 
 // The index of a statement, and its four numbers.
@@ -26,12 +27,12 @@ pub fn place_of(n: usize, p: i64) -> usize
 pub fn fetch(statements: &[u8], pc: i64) -> Fetched
     ensures { λ r. ⌜ r ≡ fetched (statementsIn (now (statements .entry))) pc ⌝ }
 {
-    let count = statements.len() / 8;
+    let count = statements.len() / STATEMENT_SIZE;
     let k = place_of(count, pc);
     if count <= k {
         return Fetched::Refused(14);
     }
-    let statement = reads::read_statement(statements, 8 * k);
+    let statement = reads::read_statement(statements, STATEMENT_SIZE * k);
     if ops::is_opcode(statement.opcode) {
         Fetched::At(k, statement)
     } else {

@@ -7,6 +7,7 @@ ghost use lib.ListN.{length, getD};
 ghost use Rattle.definition.specs.File.{noFunction, between, builtinNumber, isBuiltin, builtinOf, builtinKnown};
 ghost use Rattle.functions.specs.Answers.{functionId};
 ghost use Rattle.functions.specs.Parts.{functionsIn};
+use definition::FUNCTION_SIZE;
 use definition::FunctionDef;
 
 pub mod fetch;
@@ -39,7 +40,7 @@ pub fn get_def(functions: &[u8], id: usize) -> FunctionDef
     requires { ⌜ id < length (now functions) / 36 ⌝ }
     ensures { λ r. ⌜ r ≡ getD (functionsIn (now (functions .entry))) id noFunction ⌝ }
 {
-    reads::read_function(functions, 36 * id)
+    reads::read_function(functions, FUNCTION_SIZE * id)
 }
 
 fn between(low: u32, high: u32, n: u32) -> bool

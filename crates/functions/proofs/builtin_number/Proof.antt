@@ -3,20 +3,8 @@ use borrow.Author.Needs.{needs}
 use Rattle.functions.proofs.builtin_number.Statement.{statement}
 use Rattle.functions.proofs.builtin_number.Tie as tie
 
-returns : tie.Need-returns
-unfolding builtinNumber
-returns c = cc
-
 pub builtin-number-spec : {M : Type 1} → statement M
+unfolding builtinNumber
 builtin-number-spec =
-    tie.close
-    (tie.spec
-    (λ c κs. search needs)
-    (λ c κs. search needs)
-    (λ c κs. search needs)
-    (λ c κs. search needs)
-    (λ c κs. search needs)
-    (λ c κs. search needs)
-    (λ c κs. search needs)
-    (λ c κs. search needs)
-    returns)
+    tie.close (tie.spec (λ c κs. search needs) (λ c κs. search needs) (λ c κs. search needs) (λ c κs. search needs) (λ c κs. search needs)
+    (λ c κs. search needs) (λ c κs. search needs) (λ c κs. search needs) (λ c. cc))

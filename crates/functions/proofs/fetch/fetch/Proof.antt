@@ -30,12 +30,4 @@ returns-3 c = bad-opcode _ _ _ (place (c .before .before .before .before)) _ (c 
 
 pub fetch-spec : {M : Type 1} → statement M
 fetch-spec =
-    tie.close
-    (tie.spec
-    (λ c κs. search needs)
-    returns
-    mul-read-statement
-    (λ c κs. ends c)
-    (λ c κs. search needs)
-    returns-2
-    returns-3)
+    tie.close (tie.spec (λ c κs. search needs) returns mul-read-statement (λ c κs. ends c) (λ c κs. search needs) returns-2 returns-3)

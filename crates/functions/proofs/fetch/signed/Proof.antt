@@ -17,4 +17,5 @@ returns-2 : tie.Need-returns-2
 returns-2 c = rw (toZ-pos w64 {n = c .before .args .bits} (omega arith), signed-high (c .before .args .bits) (omega arith) (omega arith)) (toZ-ofZ (signed-fits _ (omega arith)))
 
 pub signed-spec : {M : Type 1} → statement M
-signed-spec = tie.close (tie.spec (λ c. search needs) (λ c. search needs) sub-result returns returns-2)
+signed-spec =
+    tie.close (tie.spec (λ c. search needs) (λ c. search needs) sub-result returns returns-2)

@@ -2,10 +2,7 @@ use borrow.Author.Needs.{needs}
 use Rattle.functions.proofs.header.lump_at.Statement.{statement}
 use Rattle.functions.proofs.header.lump_at.Tie as tie
 
-returns : tie.Need-returns
-returns c = cc
-
 pub lump-at-spec : {M : Type 1} → statement M
 lump-at-spec =
-    tie.close
-    (tie.spec (λ c κs. search needs) (λ c κs. search needs) (λ c. search needs) (λ c κs. search needs) (λ c κs. search needs) returns)
+    tie.close (tie.spec (λ c κs. search needs) (λ c κs. search needs) (λ c. search needs) (λ c κs. search needs) (λ c κs. search needs)
+    (λ c. cc))

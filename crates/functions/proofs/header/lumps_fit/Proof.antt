@@ -3,18 +3,8 @@ use borrow.Author.Needs.{needs}
 use Rattle.functions.proofs.header.lumps_fit.Statement.{statement}
 use Rattle.functions.proofs.header.lumps_fit.Tie as tie
 
-returns : tie.Need-returns
-unfolding lumpsFit
-returns c = cc
-
 pub lumps-fit-spec : {M : Type 1} → statement M
+unfolding lumpsFit
 lumps-fit-spec =
-    tie.close
-    (tie.spec
-    (λ c κs. search needs)
-    (λ c κs. search needs)
-    (λ c κs. search needs)
-    (λ c κs. search needs)
-    (λ c κs. search needs)
-    (λ c κs. search needs)
-    returns)
+    tie.close (tie.spec (λ c κs. search needs) (λ c κs. search needs) (λ c κs. search needs) (λ c κs. search needs) (λ c κs. search needs)
+    (λ c κs. search needs) (λ c. cc))

@@ -7,19 +7,8 @@ use Rattle.functions.proofs.header.recorded_in.Tie as tie
 returns : tie.Need-returns
 returns c = short-file _ _ _ (c .if1 .taken)
 
-returns-2 : tie.Need-returns-2
-unfolding recordedIn
-returns-2 c = cc
-
 pub recorded-in-spec : {M : Type 1} → statement M
+unfolding recordedIn
 recorded-in-spec =
-    tie.close
-    (tie.spec
-    returns
-    (λ c κs. search needs)
-    (λ c κs. search needs)
-    (λ c κs. search needs)
-    (λ c κs. search needs)
-    (λ c κs. search needs)
-    (λ c κs. search needs)
-    returns-2)
+    tie.close (tie.spec returns (λ c κs. search needs) (λ c κs. search needs) (λ c κs. search needs) (λ c κs. search needs)
+    (λ c κs. search needs) (λ c κs. search needs) (λ c. cc))

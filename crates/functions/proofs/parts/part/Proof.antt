@@ -3,8 +3,7 @@ use native.Mathlib.Nat.{mul-zero, add-sub-cancel-left}
 use native.Mathlib.Omega.{arith}
 use lib.ListN.{length}
 use borrow.Author.Needs.{needs}
-use Rattle.functions.specs.Laws.{lump-fitting, lump-end}
-use Rattle.functions.proofs.Tests.{short-product}
+use Rattle.functions.specs.Laws.{lump-end}
 use Rattle.functions.proofs.parts.part.Statement.{statement}
 use Rattle.functions.proofs.parts.part.Tie as tie
 
@@ -28,13 +27,4 @@ returns-2 c = rw add-sub-cancel-left
 
 pub part-spec : {M : Type 1} → statement M
 part-spec =
-    tie.close
-    (tie.spec
-    (λ c. search needs)
-    returns
-    mul-end
-    add-end
-    (λ c. search needs)
-    (λ c. search needs)
-    part-result-end
-    returns-2)
+    tie.close (tie.spec (λ c. search needs) returns mul-end add-end (λ c. search needs) (λ c. search needs) part-result-end returns-2)

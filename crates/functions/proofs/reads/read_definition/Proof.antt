@@ -2,10 +2,7 @@ use borrow.Author.Needs.{needs}
 use Rattle.functions.proofs.reads.read_definition.Statement.{statement}
 use Rattle.functions.proofs.reads.read_definition.Tie as tie
 
-returns : tie.Need-returns
-returns c = cc
-
 pub read-definition-spec : {M : Type 1} → statement M
 read-definition-spec =
-    tie.close
-    (tie.spec (λ c κs. search needs) (λ c. search needs) (λ c κs. search needs) (λ c. search needs) (λ c κs. search needs) returns)
+    tie.close (tie.spec (λ c κs. search needs) (λ c. search needs) (λ c κs. search needs) (λ c. search needs) (λ c κs. search needs)
+    (λ c. cc))

@@ -2,18 +2,7 @@ use borrow.Author.Needs.{needs}
 use Rattle.functions.proofs.reads.read_statement.Statement.{statement}
 use Rattle.functions.proofs.reads.read_statement.Tie as tie
 
-returns : tie.Need-returns
-returns c = cc
-
 pub read-statement-spec : {M : Type 1} → statement M
 read-statement-spec =
-    tie.close
-    (tie.spec
-    (λ c κs. search needs)
-    (λ c. search needs)
-    (λ c κs. search needs)
-    (λ c. search needs)
-    (λ c κs. search needs)
-    (λ c. search needs)
-    (λ c κs. search needs)
-    returns)
+    tie.close (tie.spec (λ c κs. search needs) (λ c. search needs) (λ c κs. search needs) (λ c. search needs) (λ c κs. search needs)
+    (λ c. search needs) (λ c κs. search needs) (λ c. cc))

@@ -3,19 +3,8 @@ use borrow.Author.Needs.{needs}
 use Rattle.functions.proofs.reads.u32_at.Statement.{statement}
 use Rattle.functions.proofs.reads.u32_at.Tie as tie
 
-returns : tie.Need-returns
-unfolding u32At
-returns c = search needs
-
 pub u32-at-spec : {M : Type 1} → statement M
+unfolding u32At
 u32-at-spec =
-    tie.close
-    (tie.spec
-    (λ c κs. search needs)
-    (λ c. search needs)
-    (λ c κs. search needs)
-    (λ c. search needs)
-    (λ c. search needs)
-    (λ c. search needs)
-    (λ c. search needs)
-    returns)
+    tie.close (tie.spec (λ c κs. search needs) (λ c. search needs) (λ c κs. search needs) (λ c. search needs) (λ c. search needs)
+    (λ c. search needs) (λ c. search needs) (λ c. search needs))
