@@ -10,7 +10,7 @@ use borrow.Author.Tests.{eqb-true, lt-ltb, ltb-true}
 use Rattle.definition.specs.Checks.{judge}
 use Rattle.definition.specs.File.{records}
 use Rattle.definition.specs.Cells.{Typing, cellOf, lookup, passes, cellAccess, access}
-use Rattle.definition.specs.Statements.{floatsEffect, vectorsEffect, dotsEffect, vectorResult}
+use Rattle.definition.specs.Statements.{floatsEffect, vectorsEffect, vectorsToFloatEffect, vectorResult}
 use Rattle.typed.specs.Typing.{typing}
 use Rattle.typed.specs.Checking.{first, threeRefusal, Reaches}
 use Rattle.typed.specs.Laws.{neither, judge-three, reach}
@@ -25,11 +25,11 @@ module _ (g : Typing) (a b c : ℕ) (cells : List ℕ) where
   unfolding vectorsEffect
   vectors-is ta tb f = record { refusal-is = judge-three (access g ta a) (access g tb b) (access g 3 c); cells-are = refl }
 
-  pub dots-is : (f : ℕ → ℕ → ℕ → ℕ → ℕ → ℕ → ℕ)
-      → Is (dotsEffect f g a b c cells) (threeRefusal g 3 a 3 b 2 c)
+  pub vectors-to-float-is : (f : ℕ → ℕ → ℕ → ℕ → ℕ → ℕ → ℕ)
+      → Is (vectorsToFloatEffect f g a b c cells) (threeRefusal g 3 a 3 b 2 c)
       (set cells c (f (getD cells a 0) (getD cells (a + 1) 0) (getD cells (a + 2) 0) (getD cells b 0) (getD cells (b + 1) 0) (getD cells (b + 2) 0)))
-  unfolding dotsEffect
-  dots-is f = record { refusal-is = judge-three (access g 3 a) (access g 3 b) (access g 2 c); cells-are = refl }
+  unfolding vectorsToFloatEffect
+  vectors-to-float-is f = record { refusal-is = judge-three (access g 3 a) (access g 3 b) (access g 2 c); cells-are = refl }
 
 pub reach-three : (g : Typing) (ta a tb b tc c : ℕ) → threeRefusal g ta a tb b tc c ≡ 0
     → Reaches ta a (g .count) × Reaches tb b (g .count) × Reaches tc c (g .count)

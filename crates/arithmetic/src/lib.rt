@@ -5,8 +5,8 @@ ghost use mathlib.Core.Path.{_≡_};
 ghost use Prim.Native.Nat.{_+_, _-_, _*_, _≤_, _<_};
 ghost use lib.ListN.{length, getD, set};
 ghost use Rattle.definition.specs.Cells.{float, cellOf};
-ghost use Rattle.definition.specs.Statements.{floatsEffect, vectorsEffect, dotsEffect, component, vectorResult};
-ghost use Rattle.floats.specs.Opcodes.{floatOp, componentOp, dotOp};
+ghost use Rattle.definition.specs.Statements.{floatsEffect, vectorsEffect, vectorsToFloatEffect, component, vectorResult};
+ghost use Rattle.floats.specs.Opcodes.{floatOp, componentOp, vectorsToFloatOp};
 ghost use Rattle.typed.specs.Typing.{typing};
 ghost use Rattle.typed.specs.Checking.{threeRefusal, Reaches};
 ghost use Rattle.globals.specs.Effects.{after, effectOn};
@@ -122,11 +122,11 @@ pub fn op_vectors(
     Answer::Accepted
 }
 
-fn apply_dots(cells: &mut [u32], op: u16, a: usize, b: usize, c: usize)
+fn apply_vectors_to_float(cells: &mut [u32], op: u16, a: usize, b: usize, c: usize)
     requires { ⌜ (a + 2 < length (now cells)) × (b + 2 < length (now cells)) × (c < length (now cells)) ⌝ }
-    ensures { λ _. ⌜ now (cells .exit) ≡ set (now (cells .entry)) c (dotOp op (getD (now (cells .entry)) a 0) (getD (now (cells .entry)) (a + 1) 0) (getD (now (cells .entry)) (a + 2) 0) (getD (now (cells .entry)) b 0) (getD (now (cells .entry)) (b + 1) 0) (getD (now (cells .entry)) (b + 2) 0)) ⌝ }
+    ensures { λ _. ⌜ now (cells .exit) ≡ set (now (cells .entry)) c (vectorsToFloatOp op (getD (now (cells .entry)) a 0) (getD (now (cells .entry)) (a + 1) 0) (getD (now (cells .entry)) (a + 2) 0) (getD (now (cells .entry)) b 0) (getD (now (cells .entry)) (b + 1) 0) (getD (now (cells .entry)) (b + 2) 0)) ⌝ }
 {
-    cells[c] = floats::dot_op(
+    cells[c] = floats::vectors_to_float_op(
         op,
         cells[a],
         cells[a + 1],
@@ -138,7 +138,7 @@ fn apply_dots(cells: &mut [u32], op: u16, a: usize, b: usize, c: usize)
 }
 
 // op_mul_v, op_eq_v, op_ne_v.
-pub fn op_dots(
+pub fn op_vectors_to_float(
     defs: &[u8],
     count: usize,
     cells: &mut [u32],
@@ -148,7 +148,7 @@ pub fn op_dots(
     c: usize,
 ) -> Answer
     requires { ⌜ count ≤ length (now cells) ⌝ }
-    ensures { λ r. ⌜ after r (now (cells .exit)) ≡ effectOn (dotsEffect (dotOp op) (typing (now (defs .entry)) count) a b c (now (cells .entry))) (now (cells .entry)) ⌝ }
+    ensures { λ r. ⌜ after r (now (cells .exit)) ≡ effectOn (vectorsToFloatEffect (vectorsToFloatOp op) (typing (now (defs .entry)) count) a b c (now (cells .entry))) (now (cells .entry)) ⌝ }
 {
     let refusal = typed::check_three(
         defs,
@@ -163,6 +163,6 @@ pub fn op_dots(
     if refusal != 0 {
         return Answer::Refused(refusal);
     }
-    apply_dots(cells, op, a, b, c);
+    apply_vectors_to_float(cells, op, a, b, c);
     Answer::Accepted
 }

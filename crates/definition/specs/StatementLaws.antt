@@ -19,8 +19,8 @@ use Rattle.definition.specs.File.{opcodeCount, Contents, contentsOf, fil
 use Rattle.definition.specs.Floats.{flag, notV, isZero}
 use Rattle.definition.specs.Cells.{float, vector, string, function, cellOf, signed, Typing, typingOf, typeIs, addressed, cellAccess, vectorAccess, access, mustBeNatural, readAccess}
 use Rattle.definition.specs.Statements.{Does, next, calls, returns, refuses, handsOver, orRefused, provided, moved}
-use Rattle.definition.specs.Statements.{Shape, floats, values, vectors, dots, strings, negates, negatesV, negatesS, stores, storesV, branches, jumps, call, return, host, opcodes, shapeOf}
-use Rattle.definition.specs.Statements.{floatsEffect, valuesEffect, vectorResult, vectorsEffect, dotsEffect, operandGiven, stringAccess, stringResult, stringsEffect, unused, negatesEffect, negatesVEffect, negatesSEffect}
+use Rattle.definition.specs.Statements.{Shape, floats, values, vectors, vectorsToFloat, strings, negates, negatesV, negatesS, stores, storesV, branches, jumps, call, return, host, opcodes, shapeOf}
+use Rattle.definition.specs.Statements.{floatsEffect, valuesEffect, vectorResult, vectorsEffect, vectorsToFloatEffect, operandGiven, stringAccess, stringResult, stringsEffect, unused, negatesEffect, negatesVEffect, negatesSEffect}
 use Rattle.definition.specs.Statements.{storedNatural, storesEffect, reservedCell, moveAccess, storesVEffect, branchesDo, callOf, callDoes, statementAt, fetchConditions, executeAs, execute, doesAt}
 use Rattle.definition.specs.Machine.{Program}
 use Rattle.definition.specs.Load.{programAt, programOf}
@@ -34,7 +34,7 @@ abbrev transfers : Shape → Bool × Bool
 transfers (floats f) = (false, false)
 transfers (values t f) = (false, false)
 transfers (vectors ta tb f) = (false, false)
-transfers (dots f) = (false, false)
+transfers (vectorsToFloat f) = (false, false)
 transfers (strings f) = (false, false)
 transfers (negates t f) = (false, false)
 transfers negatesV = (false, false)
@@ -182,7 +182,7 @@ module _ (k : Contents) (p : ℤ) (st : Statement) (cells : List ℕ) (κ : Kind
     as-call : isCall s ≡ true → Called (k .functions) p (getD cells a 0) κ
 
   executed : (s : Shape) → Expected s → HasKind count p cells κ (executeAs s k (typingOf k) p st a b c cells)
-  unfolding floatsEffect valuesEffect vectorsEffect vectorResult dotsEffect stringsEffect negatesEffect negatesVEffect negatesSEffect storesEffect storesVEffect branchesDo callDoes
+  unfolding floatsEffect valuesEffect vectorsEffect vectorResult vectorsToFloatEffect stringsEffect negatesEffect negatesVEffect negatesSEffect storesEffect storesVEffect branchesDo callDoes
   executed (floats f) e = provided-has-kind count p cells κ _ _ λ h. (
     e .as-other refl refl,
     keeps-one count cells c _ (access-below (typingOf k) float c (all-back (access (typingOf k) float a ++ access (typingOf k) float b) _ h)),
@@ -196,7 +196,7 @@ module _ (k : Contents) (p : ℤ) (st : Statement) (cells : List ℕ) (κ : Kind
         e .as-other refl refl,
         keeps-set count cells _ (c + 2) _ below (keeps-set count cells _ (c + 1) _ (omega arith) (keeps-one count cells c _ (omega arith))),
       )
-  executed (dots f) e = provided-has-kind count p cells κ _ _ λ h. (
+  executed (vectorsToFloat f) e = provided-has-kind count p cells κ _ _ λ h. (
     e .as-other refl refl,
     keeps-one count cells c _ (access-below (typingOf k) float c (all-back (access (typingOf k) vector a ++ access (typingOf k) vector b) _ h)),
   )

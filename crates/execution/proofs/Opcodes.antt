@@ -7,7 +7,7 @@ use mathlib.Core.Bool.{Bool, true, false, true≢false, _||_, Bool·beq}
 use lib.Dec.{eqb}
 use borrow.Author.Tests.{eq-eqb, ne-eqb}
 use native.Mathlib.Nat.{zero-add}
-use Rattle.definition.specs.Statements.{Shape, floats, values, vectors, dots, strings, negates, negatesV, negatesS, stores, storesV, branches, jumps, call, return, host, opcodes, shapeOf}
+use Rattle.definition.specs.Statements.{Shape, floats, values, vectors, vectorsToFloat, strings, negates, negatesV, negatesS, stores, storesV, branches, jumps, call, return, host, opcodes, shapeOf}
 use Rattle.definition.specs.StatementLaws.{every, every-at}
 use Rattle.floats.specs.Opcodes.{floatsOf, floatOp}
 use Rattle.floats.proofs.Opcodes.{among, Missed, missed}
@@ -51,7 +51,7 @@ floats-are op e = go (shapeOf op) e
     go (floats f) e = refl
     go (values t f) e = absurd (true≢false (sym e))
     go (vectors ta tb f) e = absurd (true≢false (sym e))
-    go (dots f) e = absurd (true≢false (sym e))
+    go (vectorsToFloat f) e = absurd (true≢false (sym e))
     go (strings f) e = absurd (true≢false (sym e))
     go (negates t f) e = absurd (true≢false (sym e))
     go negatesV e = absurd (true≢false (sym e))
@@ -74,7 +74,7 @@ abbrev isHost : Shape → Bool
 isHost (floats f) = false
 isHost (values t f) = false
 isHost (vectors ta tb f) = false
-isHost (dots f) = false
+isHost (vectorsToFloat f) = false
 isHost (strings f) = false
 isHost (negates t f) = false
 isHost negatesV = false
@@ -91,7 +91,7 @@ host-is : (s : Shape) → isHost s ≡ true → host ≡ s
 host-is (floats f) e = absurd (true≢false (sym e))
 host-is (values t f) e = absurd (true≢false (sym e))
 host-is (vectors ta tb f) e = absurd (true≢false (sym e))
-host-is (dots f) e = absurd (true≢false (sym e))
+host-is (vectorsToFloat f) e = absurd (true≢false (sym e))
 host-is (strings f) e = absurd (true≢false (sym e))
 host-is (negates t f) e = absurd (true≢false (sym e))
 host-is negatesV e = absurd (true≢false (sym e))

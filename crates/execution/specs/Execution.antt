@@ -17,7 +17,7 @@ use Rattle.functions.specs.PartLaws.{part-globaldefs, part-functions}
 use Rattle.typed.specs.Typing.{typing}
 use Rattle.definition.specs.Cells.{cellOf, Typing, typingOf}
 use Rattle.definition.specs.Statements.{Does, next, calls, returns, refuses, handsOver}
-use Rattle.definition.specs.Statements.{Shape, floats, values, vectors, dots, strings, negates, negatesV, negatesS, stores, storesV, branches, jumps, call, return, host, shapeOf}
+use Rattle.definition.specs.Statements.{Shape, floats, values, vectors, vectorsToFloat, strings, negates, negatesV, negatesS, stores, storesV, branches, jumps, call, return, host, shapeOf}
 use Rattle.definition.specs.Statements.{executeAs, execute}
 use Rattle.execution.specs.declared.Executed.{Executed}
 use Rattle.execution.specs.declared.Executed.the-variants.{Next, Calls, Returns, Refused, HandedOver}
@@ -50,7 +50,7 @@ execute-with k p st cells = go (shapeOf (st .opcode))
     go (floats f) = refl
     go (values t f) = refl
     go (vectors ta tb f) = refl
-    go (dots f) = refl
+    go (vectorsToFloat f) = refl
     go (strings f) = refl
     go (negates t f) = refl
     go negatesV = refl

@@ -2,8 +2,11 @@
 use crate::shapes::CellOp;
 use crate::shapes::Shape;
 use definition::Answer;
+use definition::DEFINITION_SIZE;
+use definition::FUNCTION_SIZE;
 use definition::FileRecord;
 use definition::Handover;
+use definition::STATEMENT_SIZE;
 use definition::Statement;
 use functions::fetch;
 use functions::fetch::Fetched;
@@ -61,7 +64,15 @@ fn write(
             b,
             c,
         ),
-        CellOp::Dots => return arithmetic::op_dots(defs, count, cells, op, a, b, c),
+        CellOp::VectorsToFloat => return arithmetic::op_vectors_to_float(
+            defs,
+            count,
+            cells,
+            op,
+            a,
+            b,
+            c,
+        ),
         CellOp::Strings => return comparisons::op_strings(defs, count, cells, op, a, b, c),
         CellOp::Nots(t) => return comparisons::op_nots(defs, count, cells, op, t, a, b, c),
         CellOp::NotV => return comparisons::op_not_v(defs, count, cells, a, b, c),
@@ -111,7 +122,10 @@ fn callee(functions: &[u8], value: u32) -> Executed
     if value == 0 {
         return Executed::Refused(19);
     }
-    let functions::FunctionId::Id(f) = functions::id_from_i32(value, functions.len() / 36) else {
+    let functions::FunctionId::Id(f) = functions::id_from_i32(
+        value,
+        functions.len() / FUNCTION_SIZE,
+    ) else {
         return Executed::Refused(20);
     };
     let def = functions::get_def(functions, f);
@@ -147,7 +161,7 @@ pub fn execute(
     requires { ⌜ (k < 2147483648) × (s .opcode < 66) ⌝ }
     ensures { λ r. ⌜ executed r (now (cells .exit)) ≡ execution (execute (contentsAt recorded (now (file .entry))) (pos k) s (now (cells .entry))) (now (cells .entry)) ⌝ }
 {
-    let defs = parts::part(file, 8, recorded.globaldefs);
+    let defs = parts::part(file, DEFINITION_SIZE, recorded.globaldefs);
     let count = recorded.globals.count;
     if shapes::is_floats(s.opcode) {
         let answer = arithmetic::op_floats(defs, count, cells, s.opcode, s.arg1, s.arg2, s.arg3);
@@ -165,7 +179,7 @@ pub fn execute(
         Shape::Branch(when) => return branch(defs, count, cells, k, when, a, s.arg2),
         Shape::Goto => return Executed::Next(fetch::jump(k, s.arg1)),
         Shape::Call => {
-            let functions = parts::part(file, 36, recorded.functions);
+            let functions = parts::part(file, FUNCTION_SIZE, recorded.functions);
             return call(defs, functions, count, cells, a);
         }
         Shape::Return => return Executed::Returns(a),
@@ -200,8 +214,8 @@ pub fn hands_over(file: &[u8], recorded: FileRecord, cells: &[u32], s: Statement
         Shape::Branch(_when) => return false,
         Shape::Goto => return false,
         Shape::Call => {
-            let defs = parts::part(file, 8, recorded.globaldefs);
-            let functions = parts::part(file, 36, recorded.functions);
+            let defs = parts::part(file, DEFINITION_SIZE, recorded.globaldefs);
+            let functions = parts::part(file, FUNCTION_SIZE, recorded.functions);
             let count = recorded.globals.count;
             let done = call(defs, functions, count, cells, fetch::cell_of(s.arg1));
             return is_handed_over(done);
@@ -216,7 +230,7 @@ pub fn does(file: &[u8], recorded: FileRecord, cells: &mut [u32], pc: i64) -> Ex
     requires { ⌜ Usable (length (now file)) recorded (length (now cells)) ⌝ }
     ensures { λ r. ⌜ executed r (now (cells .exit)) ≡ execution (doesAt (contentsAt recorded (now (file .entry))) pc (now (cells .entry))) (now (cells .entry)) ⌝ }
 {
-    let fetched = fetch::fetch(parts::part(file, 8, recorded.statements), pc);
+    let fetched = fetch::fetch(parts::part(file, STATEMENT_SIZE, recorded.statements), pc);
     match fetched {
         Fetched::Refused(n) => return Executed::Refused(n),
         Fetched::At(k, s) => return execute(file, recorded, cells, k, s),

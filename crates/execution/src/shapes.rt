@@ -16,7 +16,7 @@ ghost use Rattle.execution.specs.Shapes.{isFloats, shapeAs};
 pub enum CellOp {
     Values(u16),
     Vectors(u16, u16),
-    Dots,
+    VectorsToFloat,
     Strings,
     Nots(u16),
     NotV,
@@ -56,16 +56,16 @@ pub fn shape_of(op: u16) -> Shape
 {
     match op {
         ops::DONE => return Shape::Return,
-        ops::MUL_V => return Shape::Cells(CellOp::Dots),
+        ops::MUL_V => return Shape::Cells(CellOp::VectorsToFloat),
         ops::MUL_FV => return Shape::Cells(CellOp::Vectors(FLOAT, VECTOR)),
         ops::MUL_VF => return Shape::Cells(CellOp::Vectors(VECTOR, FLOAT)),
         ops::ADD_V => return Shape::Cells(CellOp::Vectors(VECTOR, VECTOR)),
         ops::SUB_V => return Shape::Cells(CellOp::Vectors(VECTOR, VECTOR)),
-        ops::EQ_V => return Shape::Cells(CellOp::Dots),
+        ops::EQ_V => return Shape::Cells(CellOp::VectorsToFloat),
         ops::EQ_S => return Shape::Cells(CellOp::Strings),
         ops::EQ_ENT => return Shape::Cells(CellOp::Values(ENTITY)),
         ops::EQ_FNC => return Shape::Cells(CellOp::Values(FUNCTION)),
-        ops::NE_V => return Shape::Cells(CellOp::Dots),
+        ops::NE_V => return Shape::Cells(CellOp::VectorsToFloat),
         ops::NE_S => return Shape::Cells(CellOp::Strings),
         ops::NE_ENT => return Shape::Cells(CellOp::Values(ENTITY)),
         ops::NE_FNC => return Shape::Cells(CellOp::Values(FUNCTION)),

@@ -4,7 +4,7 @@ ghost use Prim.Native.Nat.{_≤_, _<_, _%_, _/_};
 ghost use Rattle.definition.specs.Floats.{value, cell, addF, subF, mulF, divF, flag, isZero, eqF, neF, leF, geF, ltF, gtF, andF, orF, notF, whole, bitAndF, bitOrF};
 ghost use Rattle.definition.specs.Floats.{mulV, sameV, eqV, neV, notV, eqN, neN, notN};
 ghost use Rattle.floats.specs.Scaled.{scaled};
-ghost use Rattle.floats.specs.Opcodes.{floatOp, componentOp, dotOp, valueOp, notOp};
+ghost use Rattle.floats.specs.Opcodes.{floatOp, componentOp, vectorsToFloatOp, valueOp, notOp};
 use functions::ops;
 
 // The float of a cell. `from_bits` takes no NaN's pattern, so a NaN is made by a division.
@@ -260,8 +260,8 @@ pub fn component_op(op: u16, x: u32, y: u32) -> u32
 }
 
 // Two vectors: the result of MulV, EqV, NeV.
-pub fn dot_op(op: u16, a0: u32, a1: u32, a2: u32, b0: u32, b1: u32, b2: u32) -> u32
-    ensures { λ r. ⌜ r ≡ dotOp op a0 a1 a2 b0 b1 b2 ⌝ }
+pub fn vectors_to_float_op(op: u16, a0: u32, a1: u32, a2: u32, b0: u32, b1: u32, b2: u32) -> u32
+    ensures { λ r. ⌜ r ≡ vectorsToFloatOp op a0 a1 a2 b0 b1 b2 ⌝ }
 {
     match op {
         ops::MUL_V => return mul_v(a0, a1, a2, b0, b1, b2),

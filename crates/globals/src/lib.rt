@@ -19,7 +19,7 @@ pub fn check_unary(
     defs: &[u8],
     count: usize,
     cells: &[u32],
-    idle: usize,
+    extra: usize,
     natural: bool,
     ta: u16,
     a: usize,
@@ -27,9 +27,9 @@ pub fn check_unary(
     b: usize,
 ) -> u8
     requires { ⌜ count ≤ length (now cells) ⌝ }
-    ensures { λ r. ⌜ r ≡ first (judge (unused idle)) (moveRefusal (typing (now (defs .entry)) count) natural ta a tb b (now (cells .entry))) ⌝ }
+    ensures { λ r. ⌜ r ≡ first (judge (unused extra)) (moveRefusal (typing (now (defs .entry)) count) natural ta a tb b (now (cells .entry))) ⌝ }
 {
-    let r = check_unused(idle);
+    let r = check_unused(extra);
     if r != 0 {
         return r;
     }

@@ -18,7 +18,7 @@ use Rattle.definition.specs.Checks.{judge}
 use Rattle.definition.specs.File.{Contents, builtinNumber}
 use Rattle.definition.specs.Cells.{lookup, scalar, passes, signed, cellOf, cellAccess, vectorAccess, access, readAccess}
 use Rattle.definition.specs.Statements.{Does, next, calls, returns, refuses, handsOver, shapeOf, fetchConditions, execute, doesAt}
-use Rattle.definition.specs.Statements.{floatsEffect, valuesEffect, vectorResult, vectorsEffect, dotsEffect, stringsEffect}
+use Rattle.definition.specs.Statements.{floatsEffect, valuesEffect, vectorResult, vectorsEffect, vectorsToFloatEffect, stringsEffect}
 use Rattle.definition.specs.Statements.{negatesEffect, negatesVEffect, negatesSEffect, storesEffect, storesVEffect, branchesDo, callOf, callDoes}
 use Rattle.definition.specs.Starred.{sameNumbers}
 
@@ -724,7 +724,7 @@ unfoldable computing : Unit {0}
 unfolding judge builtinNumber
     Ieee.ofBits Ieee.toBits Ieee.add Ieee.sub Ieee.mul Ieee.div Ieee.eq Ieee.ne Ieee.le Ieee.lt Ieee.toSigned Ieee.ofInt
     lookup scalar passes signed cellOf cellAccess vectorAccess access readAccess
-    shapeOf floatsEffect valuesEffect vectorResult vectorsEffect dotsEffect stringsEffect negatesEffect negatesVEffect negatesSEffect
+    shapeOf floatsEffect valuesEffect vectorResult vectorsEffect vectorsToFloatEffect stringsEffect negatesEffect negatesVEffect negatesSEffect
     storesEffect storesVEffect branchesDo callOf callDoes fetchConditions execute doesAt
 computing = tt
 

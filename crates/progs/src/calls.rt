@@ -13,7 +13,11 @@ use crate::Answered;
 use crate::ExecutionContext;
 use crate::copies;
 use definition::Answer;
+use definition::FUNCTION_SIZE;
 use definition::FunctionDef;
+use definition::GREATEST_DEPTH;
+use definition::MOST_ARGUMENTS;
+use definition::SAVED_STORE;
 use definition::StackFrame;
 use functions::parts;
 
@@ -38,17 +42,17 @@ fn entry_refusal(def: FunctionDef, depth: usize, held: usize, count: usize) -> u
     let start = def.start as usize;
     let locals = def.locals as usize;
     let argsz = def.argsz;
-    if 31 <= depth {
+    if GREATEST_DEPTH <= depth {
         return 22;
     }
     // A negative count's bits are over 2,048.
-    if 2048 < held + locals {
+    if SAVED_STORE < held + locals {
         return 23;
     }
     if !copies::in_range(start, locals, count) {
         return 15;
     }
-    if 8 < def.argc {
+    if MOST_ARGUMENTS < def.argc as usize {
         return 24;
     }
     if !copies::arguments_in_range(argsz, start, def.argc as usize, count) {
@@ -75,12 +79,12 @@ pub fn enter_cells(
     held: usize,
     count: usize,
     cells: &mut [u32],
-    saved: &mut [u32],
+    store: &mut [u32],
 ) -> Entry
-    requires { ⌜ (held ≤ 2048) × (2048 ≤ length (now saved)) × (count ≤ length (now cells)) ⌝ }
-    ensures { λ r. ⌜ ((P : Program) → functionsIn (now (functions .entry)) ≡ P .functions → entryOf r (now (cells .exit)) (now (saved .exit)) ≡ entering P f (numbered depth held count) (now (cells .entry)) (now (saved .entry))) ⌝ }
+    requires { ⌜ (held ≤ 2048) × (2048 ≤ length (now store)) × (count ≤ length (now cells)) ⌝ }
+    ensures { λ r. ⌜ ((P : Program) → functionsIn (now (functions .entry)) ≡ P .functions → entryOf r (now (cells .exit)) (now (store .exit)) ≡ entering P f (numbered depth held count) (now (cells .entry)) (now (store .entry))) ⌝ }
 {
-    if functions.len() / 36 <= f {
+    if functions.len() / FUNCTION_SIZE <= f {
         return no_entry(20);
     }
     let def = functions::get_def(functions, f);
@@ -91,7 +95,7 @@ pub fn enter_cells(
     let start = def.start as usize;
     let locals = def.locals as usize;
     let argsz = def.argsz;
-    copies::move_cells(cells, saved, start, held, locals);
+    copies::move_cells(cells, store, start, held, locals);
     copies::copy_arguments(cells, argsz, start, def.argc as usize);
     Entry {
         refusal: 0,
@@ -110,7 +114,7 @@ pub struct Leaving {
 fn locals_of(functions: &[u8], f: usize) -> Locals
     ensures { λ r. ⌜ ((P : Program) → functionsIn (now (functions .entry)) ≡ P .functions → r ≡ rangeOf (functionOf P f)) ⌝ }
 {
-    if functions.len() / 36 <= f {
+    if functions.len() / FUNCTION_SIZE <= f {
         return Locals { start: 0, count: 0 };
     }
     let def = functions::get_def(functions, f);
@@ -151,10 +155,10 @@ pub fn return_cells(
     count: usize,
     a: usize,
     cells: &mut [u32],
-    saved: &[u32],
+    store: &[u32],
 ) -> Leaving
-    requires { ⌜ (held ≤ 2048) × (2048 ≤ length (now saved)) × (36 ≤ count) × (count ≤ length (now cells)) ⌝ }
-    ensures { λ r. ⌜ ((P : Program) → functionsIn (now (functions .entry)) ≡ P .functions → leavingOf r (now (cells .exit)) ≡ returning P a (numberedIn f depth held count) (now (cells .entry)) (now (saved .entry))) ⌝ }
+    requires { ⌜ (held ≤ 2048) × (2048 ≤ length (now store)) × (36 ≤ count) × (count ≤ length (now cells)) ⌝ }
+    ensures { λ r. ⌜ ((P : Program) → functionsIn (now (functions .entry)) ≡ P .functions → leavingOf r (now (cells .exit)) ≡ returning P a (numberedIn f depth held count) (now (cells .entry)) (now (store .entry))) ⌝ }
 {
     if !copies::in_range(a, 3, count) {
         return no_leaving(15);
@@ -166,7 +170,7 @@ pub fn return_cells(
     }
     copies::copy_cells(cells, a, 1, 3);
     copies::move_cells(
-        saved,
+        store,
         cells,
         held - locals.count,
         locals.start,
@@ -211,7 +215,7 @@ impl ExecutionContext {
         ensures { λ r. ⌜ now r ≡ partOf 36 (self .file .functions) (now (file .entry)) ⌝ }
     {
         let recorded = self.file;
-        parts::part(file, 36, recorded.functions)
+        parts::part(file, FUNCTION_SIZE, recorded.functions)
     }
 
     // The record of a function that is there.
@@ -257,14 +261,14 @@ impl ExecutionContext {
         f: usize,
         back: i64,
         cells: &mut [u32],
-        saved: &mut [u32],
+        store: &mut [u32],
     ) -> Answered
-        requires { ⌜ Within (now file) self (length (now cells)) (length (now saved)) ⌝ }
-        ensures { λ r. ⌜ outcomeOf r (now (cells .exit)) (now (saved .exit)) ≡ after (config self (now (cells .entry)) (now (saved .entry))) (enter (programOf (now (file .entry))) f back) ⌝ }
+        requires { ⌜ Within (now file) self (length (now cells)) (length (now store)) ⌝ }
+        ensures { λ r. ⌜ outcomeOf r (now (cells .exit)) (now (store .exit)) ≡ after (config self (now (cells .entry)) (now (store .entry))) (enter (programOf (now (file .entry))) f back) ⌝ }
     {
         let functions = self.functions(file);
         let count = self.cell_count();
-        let entry = enter_cells(functions, f, self.depth, self.saved, count, cells, saved);
+        let entry = enter_cells(functions, f, self.depth, self.saved, count, cells, store);
         if entry.refusal != 0 {
             return self.refused(entry.refusal);
         }
@@ -306,27 +310,27 @@ impl ExecutionContext {
         self,
         locals: Locals,
         cells: &mut [u32],
-        saved: &[u32],
+        store: &[u32],
     ) -> ExecutionContext
         requires { ⌜ (0 < self .depth) × (self .depth ≤ 31) ⌝ }
-        requires { ⌜ (locals .count ≤ self .saved) × (self .saved ≤ length (now saved)) ⌝ }
+        requires { ⌜ (locals .count ≤ self .saved) × (self .saved ≤ length (now store)) ⌝ }
         requires { ⌜ present (locals .start) (locals .count) (length (now cells)) ≡ true ⌝ }
-        ensures { λ r. ⌜ ((P : Program) → locals ≡ rangeOf (functionOf P (self .«current_function»)) → config r (now (cells .exit)) (now (saved .entry)) ≡ left P (config self (now (cells .entry)) (now (saved .entry)))) ⌝ }
+        ensures { λ r. ⌜ ((P : Program) → locals ≡ rangeOf (functionOf P (self .«current_function»)) → config r (now (cells .exit)) (now (store .entry)) ≡ left P (config self (now (cells .entry)) (now (store .entry)))) ⌝ }
     {
         let first = self.saved - locals.count;
-        copies::move_cells(saved, cells, first, locals.start, locals.count);
+        copies::move_cells(store, cells, first, locals.start, locals.count);
         self.pop_frame(locals.count)
     }
 
     // Return and Done of the three cells from a on.
-    pub fn op_return(self, file: &[u8], a: usize, cells: &mut [u32], saved: &[u32]) -> Answered
-        requires { ⌜ Within (now file) self (length (now cells)) (length (now saved)) ⌝ }
-        ensures { λ r. ⌜ outcomeOf r (now (cells .exit)) (now (saved .entry)) ≡ after (config self (now (cells .entry)) (now (saved .entry))) (return (programOf (now (file .entry))) a) ⌝ }
+    pub fn op_return(self, file: &[u8], a: usize, cells: &mut [u32], store: &[u32]) -> Answered
+        requires { ⌜ Within (now file) self (length (now cells)) (length (now store)) ⌝ }
+        ensures { λ r. ⌜ outcomeOf r (now (cells .exit)) (now (store .entry)) ≡ after (config self (now (cells .entry)) (now (store .entry))) (return (programOf (now (file .entry))) a) ⌝ }
     {
         let functions = self.functions(file);
         let f = self.current_function;
         let count = self.cell_count();
-        let leaving = return_cells(functions, f, self.depth, self.saved, count, a, cells, saved);
+        let leaving = return_cells(functions, f, self.depth, self.saved, count, a, cells, store);
         if leaving.refusal != 0 {
             return self.refused(leaving.refusal);
         }

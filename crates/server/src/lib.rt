@@ -7,6 +7,9 @@ ghost use Rattle.definition.specs.Operations.{statement, run};
 ghost use Rattle.definition.specs.Answers.{statementOutcome};
 ghost use Rattle.progs.specs.Contexts.{config, Within};
 ghost use Rattle.server.specs.Stepping.{steppedOf, steppedAs, ranAs, ranOf, notRun, Apart};
+use definition::FUNCTION_SIZE;
+use definition::GREATEST_DEPTH;
+use definition::GREATEST_LIMIT;
 use definition::RunAnswer;
 use definition::StackFrame;
 use definition::StatementAnswer;
@@ -47,14 +50,14 @@ fn run_for(
     limit: u32,
     target: usize,
     cells: &mut [u32],
-    saved: &mut [u32],
+    store: &mut [u32],
 ) -> Ran
-    requires { ⌜ Within (now file) context (length (now cells)) (length (now saved)) ⌝ }
+    requires { ⌜ Within (now file) context (length (now cells)) (length (now store)) ⌝ }
     requires { ⌜ Apart target (context .depth) ⌝ }
-    ensures { λ r. ⌜ ranOf r (now (cells .exit)) (now (saved .exit)) ≡ runFor (programOf (now (file .entry))) limit target (config context (now (cells .entry)) (now (saved .entry))) ⌝ }
+    ensures { λ r. ⌜ ranOf r (now (cells .exit)) (now (store .exit)) ≡ runFor (programOf (now (file .entry))) limit target (config context (now (cells .entry)) (now (store .entry))) ⌝ }
 {
     let recorded = context.file;
-    let functions = parts::part(file, 36, recorded.functions);
+    let functions = parts::part(file, FUNCTION_SIZE, recorded.functions);
     let cell_count = recorded.globals.count;
     let mut now = context;
     let mut count: u32 = 0;
@@ -74,7 +77,7 @@ fn run_for(
                     now.saved,
                     cell_count,
                     cells,
-                    saved,
+                    store,
                 );
                 if entry.refusal != 0 {
                     return ends(now, RunAnswer::Refused(entry.refusal), count);
@@ -99,7 +102,7 @@ fn run_for(
                     cell_count,
                     a,
                     cells,
-                    saved,
+                    store,
                 );
                 if leaving.refusal != 0 {
                     return ends(now, RunAnswer::Refused(leaving.refusal), count);
@@ -167,17 +170,17 @@ pub fn statement(
     context: ExecutionContext,
     file: &[u8],
     cells: &mut [u32],
-    saved: &mut [u32],
+    store: &mut [u32],
 ) -> Stepped
-    ensures { λ r. ⌜ steppedOf r (now (cells .exit)) (now (saved .exit)) ≡ statementOutcome (config context (now (cells .entry)) (now (saved .entry))) (statement (programOf (now (file .entry))) (config context (now (cells .entry)) (now (saved .entry)))) ⌝ }
+    ensures { λ r. ⌜ steppedOf r (now (cells .exit)) (now (store .exit)) ≡ statementOutcome (config context (now (cells .entry)) (now (store .entry))) (statement (programOf (now (file .entry))) (config context (now (cells .entry)) (now (store .entry)))) ⌝ }
 {
-    if !context.check_state(file, cells, saved) {
+    if !context.check_state(file, cells, store) {
         return Stepped {
             context,
             answer: StatementAnswer::Refused(13),
         };
     }
-    let ran = run_for(context, file, 1, 32, cells, saved);
+    let ran = run_for(context, file, 1, GREATEST_DEPTH + 1, cells, store);
     as_statement(ran)
 }
 
@@ -197,20 +200,20 @@ pub fn run(
     target: i64,
     limit: i64,
     cells: &mut [u32],
-    saved: &mut [u32],
+    store: &mut [u32],
 ) -> Ran
-    ensures { λ r. ⌜ ranOf r (now (cells .exit)) (now (saved .exit)) ≡ run (programOf (now (file .entry))) target limit (config context (now (cells .entry)) (now (saved .entry))) ⌝ }
+    ensures { λ r. ⌜ ranOf r (now (cells .exit)) (now (store .exit)) ≡ run (programOf (now (file .entry))) target limit (config context (now (cells .entry)) (now (store .entry))) ⌝ }
 {
-    if !context.check_state(file, cells, saved) {
+    if !context.check_state(file, cells, store) {
         return not_run(context, 13);
     }
     let most = fetch::place_of(0, limit);
-    if most == 0 || 99999 < most {
+    if most == 0 || GREATEST_LIMIT < most {
         return not_run(context, 28);
     }
     let down = fetch::place_of(context.depth, target);
     if context.depth <= down {
         return not_run(context, 29);
     }
-    run_for(context, file, most as u32, down, cells, saved)
+    run_for(context, file, most as u32, down, cells, store)
 }

@@ -7,6 +7,8 @@ ghost use Rattle.functions.specs.Parts.{definitionsIn};
 ghost use Rattle.definition.specs.Cells.{lookup, scalar, passes, cellAccess, vectorAccess, access, mustBeNatural, readAccess};
 ghost use Rattle.typed.specs.Typing.{typing, typeCheck};
 ghost use Rattle.typed.specs.Checking.{threeRefusal, moveRefusal};
+use definition::DEFINITION_SIZE;
+use definition::SAVE_FLAG;
 use functions::reads;
 
 // The types of definitions and operands.
@@ -23,7 +25,7 @@ pub const FIELD: u16 = 5;
 pub const FUNCTION: u16 = 6;
 
 // What `find` gives for a cell without a definition: no type, since bit 15 of a definition's type is its save flag.
-pub const UNTYPED: u16 = 32768;
+pub const UNTYPED: u16 = SAVE_FLAG;
 
 // What a type check answers.
 pub enum TypeCheck {
@@ -35,14 +37,14 @@ pub enum TypeCheck {
 pub fn find(defs: &[u8], cell: usize) -> u16
     ensures { λ r. ⌜ r ≡ lookup (definitionsIn (now (defs .entry))) cell ⌝ }
 {
-    if defs.len() < 8 {
+    if defs.len() < DEFINITION_SIZE {
         return UNTYPED;
     }
     let def = reads::read_definition(defs, 0);
     if def.offset as usize == cell {
-        def.kind % 32768
+        def.kind % SAVE_FLAG
     } else {
-        find(&defs[8..], cell)
+        find(&defs[DEFINITION_SIZE..], cell)
     }
 }
 

@@ -13,7 +13,7 @@ returns-2 c = rw (c .before .before .before .before .before .what2 .given .1) (c
 
 returns-3 : tie.Need-returns-3
 unfolding effectAs
-returns-3 c = rw (c .before .before .before .before .enum-told .given .1) (c .before .before .op-dots .ensures)
+returns-3 c = rw (c .before .before .before .before .enum-told .given .1) (c .before .before .op-vectors-to-float .ensures)
 
 returns-4 : tie.Need-returns-4
 unfolding effectAs

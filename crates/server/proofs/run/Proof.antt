@@ -16,7 +16,7 @@ use borrow.Author.Needs.{needs}
 use Rattle.server.proofs.run.Statement.{statement}
 use Rattle.server.proofs.run.Tie as tie
 
-sound-here : (c : tie.Else1) → let s = c .before .before .before .before .before .before .before in sound (programOf (s .args .file .now)) (config (s .args .context) (s .args .cells .now) (s .args .saved .now)) ≡ true
+sound-here : (c : tie.Else1) → let s = c .before .before .before .before .before .before .before in sound (programOf (s .args .file .now)) (config (s .args .context) (s .args .cells .now) (s .args .store .now)) ≡ true
 sound-here c = sym (c .before .check-state .ensures) ∙ not-false _ (c .if1 .left)
 
 most : (c : tie.After-place-of) → c .place-of .result ≡ placeOf 0 (c .before .before .before .before .before .before .before .before .args .limit)

@@ -53,7 +53,7 @@ count-here c = ap (λ (r : FileRecord). r .globals .count) (c .before .before .b
 entry-did : (c : tie.After-enter-cells Inv-loop μ-loop)
     → let l = c .before .before .before .before .before .before .before .before .before .before .before .before .before .before .before in
     let s = c .before .before .before .before .before .before .before .before .before .before .before .before .before .before .before .before .before .before .before .before .before in
-    entryOf (c .enter-cells .result) (c .enter-cells .last .1 .1 .1 .1 .1 .0) (c .enter-cells .last .1 .1 .1 .1 .1 .1 .0) ≡ entering (programOf (s .args .file .now)) (c .before .before .before .before .before .before .before .done2 .given .0 .0) (l .loop .now) (c .before .before .before .before .before .before .before .before .before .before .before .does .last .1 .1 .0) (l .loop .saved)
+    entryOf (c .enter-cells .result) (c .enter-cells .last .1 .1 .1 .1 .1 .0) (c .enter-cells .last .1 .1 .1 .1 .1 .1 .0) ≡ entering (programOf (s .args .file .now)) (c .before .before .before .before .before .before .before .done2 .given .0 .0) (l .loop .now) (c .before .before .before .before .before .before .before .before .before .before .before .does .last .1 .1 .0) (l .loop .store)
 entry-did c =
     let s = c .before .before .before .before .before .before .before .before .before .before .before .before .before .before .before .before .before .before .before .before .before in
     c .enter-cells .ensures (programOf (s .args .file .now)) (functions-here _ _ (s .pre .0 .loaded) _ (c .before .before .before .before .before .before .before .before .before .before .before .before .before .before .before .before .part .ensures)) ∙ by-count _ _ _ _ _ _ (count-here (c .before .before .before .before .before .before .before .before .before .before .before .before .before .before .before))
@@ -62,7 +62,7 @@ entry-did c =
 leaving-did : (c : tie.After-return-cells Inv-loop μ-loop)
     → let l = c .before .before .before .before .before .before .before .before .before .before .before .before in
     let s = c .before .before .before .before .before .before .before .before .before .before .before .before .before .before .before .before .before .before in
-    leavingOf (c .return-cells .result) (c .return-cells .last .1 .1 .1 .1 .1 .1 .0) ≡ returning (programOf (s .args .file .now)) (c .before .before .before .before .done3 .given .0 .0) (l .loop .now) (c .before .before .before .before .before .before .before .before .does .last .1 .1 .0) (l .loop .saved)
+    leavingOf (c .return-cells .result) (c .return-cells .last .1 .1 .1 .1 .1 .1 .0) ≡ returning (programOf (s .args .file .now)) (c .before .before .before .before .done3 .given .0 .0) (l .loop .now) (c .before .before .before .before .before .before .before .before .does .last .1 .1 .0) (l .loop .store)
 leaving-did c =
     let s = c .before .before .before .before .before .before .before .before .before .before .before .before .before .before .before .before .before .before in
     c .return-cells .ensures (programOf (s .args .file .now)) (functions-here _ _ (s .pre .0 .loaded) _ (c .before .before .before .before .before .before .before .before .before .before .before .before .before .part .ensures)) ∙ return-by-count _ _ _ _ _ _ (count-here (c .before .before .before .before .before .before .before .before .before .before .before .before))
@@ -236,7 +236,7 @@ same-length-12 : tie.Need-same-length-12 Inv-loop μ-loop
 same-length-12 c = c .before .before .loop .inv .0 .0 .0 .1
 
 returns-6 : tie.Need-returns-6 Inv-loop μ-loop
-returns-6 c = ap (λ (w : Ran). ranOf w (c .before .before .loop .cells) (c .before .before .loop .saved)) (c .ends6 .ensures) ∙ run-spent _ _ _ _ _ _ (c .before .loop-test .left) (c .before .before .loop .inv .1)
+returns-6 c = ap (λ (w : Ran). ranOf w (c .before .before .loop .cells) (c .before .before .loop .store)) (c .ends6 .ensures) ∙ run-spent _ _ _ _ _ _ (c .before .loop-test .left) (c .before .before .loop .inv .1)
 
 pub run-for-spec : {M : Type 1} → statement M
 run-for-spec =

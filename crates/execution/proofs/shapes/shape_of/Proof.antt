@@ -2,29 +2,29 @@ use mathlib.Core.Path.{refl}
 use mathlib.Core.Bool.{true, false}
 use mathlib.Core.List.{[], _∷_}
 use Rattle.definition.specs.Statements.{opcodes, shapeOf}
-use Rattle.floats.specs.Opcodes.{valueOp, componentOp, dotOp, notOp}
-use Rattle.execution.specs.declared.shapes.CellOp.the-variants.{Values, Vectors, Dots, Strings, Nots, NotV, NotS, Stores, StoreV}
+use Rattle.floats.specs.Opcodes.{valueOp, componentOp, vectorsToFloatOp, notOp}
+use Rattle.execution.specs.declared.shapes.CellOp.the-variants.{Values, Vectors, VectorsToFloat, Strings, Nots, NotV, NotS, Stores, StoreV}
 use Rattle.execution.specs.declared.shapes.Shape.the-variants.{Cells, Branch, Goto, Call, Return, Host}
 use Rattle.execution.proofs.Opcodes.{at, rest}
 use Rattle.execution.proofs.shapes.shape_of.Statement.{statement}
 use Rattle.execution.proofs.shapes.shape_of.Tie as tie
 
 pub shape-of-spec : {M : Type 1} → statement M
-unfolding valueOp componentOp dotOp notOp opcodes shapeOf
+unfolding valueOp componentOp vectorsToFloatOp notOp opcodes shapeOf
 shape-of-spec =
     tie.close
     (tie.spec
     (λ c. at Return 0 _ (c .match .keys1) refl)
-    (λ c. at (Cells Dots) 2 _ (c .match .keys2) refl)
+    (λ c. at (Cells VectorsToFloat) 2 _ (c .match .keys2) refl)
     (λ c. at (Cells (Vectors 2 3)) 3 _ (c .match .keys3) refl)
     (λ c. at (Cells (Vectors 3 2)) 4 _ (c .match .keys4) refl)
     (λ c. at (Cells (Vectors 3 3)) 7 _ (c .match .keys5) refl)
     (λ c. at (Cells (Vectors 3 3)) 9 _ (c .match .keys6) refl)
-    (λ c. at (Cells Dots) 11 _ (c .match .keys7) refl)
+    (λ c. at (Cells VectorsToFloat) 11 _ (c .match .keys7) refl)
     (λ c. at (Cells Strings) 12 _ (c .match .keys8) refl)
     (λ c. at (Cells (Values 4)) 13 _ (c .match .keys9) refl)
     (λ c. at (Cells (Values 6)) 14 _ (c .match .keys10) refl)
-    (λ c. at (Cells Dots) 16 _ (c .match .keys11) refl)
+    (λ c. at (Cells VectorsToFloat) 16 _ (c .match .keys11) refl)
     (λ c. at (Cells Strings) 17 _ (c .match .keys12) refl)
     (λ c. at (Cells (Values 4)) 18 _ (c .match .keys13) refl)
     (λ c. at (Cells (Values 6)) 19 _ (c .match .keys14) refl)

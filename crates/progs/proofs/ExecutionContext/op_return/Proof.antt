@@ -8,7 +8,7 @@ use Rattle.progs.proofs.ExecutionContext.op_return.Statement.{statement
 use Rattle.progs.proofs.ExecutionContext.op_return.Tie as tie
 
 -- what the cells' part did, in terms of the context
-did : (c : tie.After-return-cells) → let s = c .before .before .before .before .before .before .before in leavingOf (c .return-cells .result) (c .return-cells .last .1 .1 .1 .1 .1 .1 .0) ≡ returning (programOf (s .args .file .now)) (s .args .a) (s .args .self) (s .args .cells .now) (s .args .saved .now)
+did : (c : tie.After-return-cells) → let s = c .before .before .before .before .before .before .before in leavingOf (c .return-cells .result) (c .return-cells .last .1 .1 .1 .1 .1 .1 .0) ≡ returning (programOf (s .args .file .now)) (s .args .a) (s .args .self) (s .args .cells .now) (s .args .store .now)
 did c =
     let s = c .before .before .before .before .before .before .before in
     c .return-cells .ensures (programOf (s .args .file .now)) (functions-here _ _ (s .pre .loaded) _ (c .before .before .before .functions .ensures)) ∙ return-by-count _ _ _ _ _ _ (c .before .before .cell-count .ensures)

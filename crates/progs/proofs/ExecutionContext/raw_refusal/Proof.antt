@@ -14,7 +14,7 @@ use Rattle.progs.proofs.ExecutionContext.raw_refusal.Statement.{stateme
 use Rattle.progs.proofs.ExecutionContext.raw_refusal.Tie as tie
 
 -- check 13 passed
-sound-here : (c : tie.Else1) → let s = c .before .before .before .before .before in sound (programOf (s .args .file .now)) (config (s .args .self) (s .args .cells .now) (s .args .saved .now)) ≡ true
+sound-here : (c : tie.Else1) → let s = c .before .before .before .before .before in sound (programOf (s .args .file .now)) (config (s .args .self) (s .args .cells .now) (s .args .store .now)) ≡ true
 sound-here c = sym (c .before .check-state .ensures) ∙ not-false _ (c .if1 .left)
 
 -- the place that the address names

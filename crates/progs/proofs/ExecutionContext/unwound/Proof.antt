@@ -30,7 +30,7 @@ ok c = leaves _ _ _ (c .locals .ensures) (leaves-first _ _ _ (c .before .if1 .ta
 gives : (c : tie.After-slice-known2 Inv-loop μ-loop)
     → let l = c .before .before .before .before .before .before .before in
     let s = l .before .before .before .before in
-    config (c .before .before .leave-function .result) (c .before .before .leave-function .last .1 .1 .0) (s .args .saved .now) ≡ left (programOf (s .args .file .now)) (config (l .loop .context) (l .loop .cells) (s .args .saved .now))
+    config (c .before .before .leave-function .result) (c .before .before .leave-function .last .1 .1 .0) (s .args .store .now) ≡ left (programOf (s .args .file .now)) (config (l .loop .context) (l .loop .cells) (s .args .store .now))
 gives c = c .before .before .leave-function .ensures (programOf (c .before .before .before .before .before .before .before .before .before .before .before .args .file .now)) (c .before .before .before .before .locals .ensures)
 
 after : (c : tie.After-slice-known2 Inv-loop μ-loop) → let l = c .before .before .before .before .before .before .before in stateOf (c .before .before .leave-function .result) ≡ left (programOf (l .before .before .before .before .args .file .now)) (bare (l .loop .context)) .state

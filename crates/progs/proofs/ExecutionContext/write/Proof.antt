@@ -14,13 +14,13 @@ use Rattle.progs.proofs.ExecutionContext.write.Statement.{statement}
 use Rattle.progs.proofs.ExecutionContext.write.Tie as tie
 
 -- the number that is found is that of the conditions
-number : (c : tie.After-raw-refusal) → let s = c .before .before .before .before .before in c .raw-refusal .result ≡ judge (rawConditions (programOf (s .args .file .now)) (s .args .address) (config (s .args .self) (s .args .cells .now) (s .args .saved .now)))
+number : (c : tie.After-raw-refusal) → let s = c .before .before .before .before .before in c .raw-refusal .result ≡ judge (rawConditions (programOf (s .args .file .now)) (s .args .address) (config (s .args .self) (s .args .cells .now) (s .args .store .now)))
 number c =
     let g : SFits w64 (c .before .before .before .before .before .args .address) = search needs in
     (rw (toZ-ofZ g) at (c .raw-refusal .ensures))
 
 -- none refuses
-clear : (c : tie.Else1) → let s = c .before .before .before .before .before .before in judge (rawConditions (programOf (s .args .file .now)) (s .args .address) (config (s .args .self) (s .args .cells .now) (s .args .saved .now))) ≡ 0
+clear : (c : tie.Else1) → let s = c .before .before .before .before .before .before in judge (rawConditions (programOf (s .args .file .now)) (s .args .address) (config (s .args .self) (s .args .cells .now) (s .args .store .now))) ≡ 0
 clear c = sym (number (c .before)) ∙ c .if1 .left
 
 -- the place that the address names

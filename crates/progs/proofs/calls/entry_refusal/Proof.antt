@@ -38,6 +38,7 @@ entry-refusal-spec =
     returns-2
     (λ c κs. search needs)
     returns-3
+    (λ c. search needs)
     returns-4
     (λ c. search needs)
     (λ c κs. search needs)

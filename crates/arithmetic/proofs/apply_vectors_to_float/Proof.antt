@@ -1,12 +1,12 @@
 use borrow.Author.Needs.{needs}
-use Rattle.arithmetic.proofs.apply_dots.Statement.{statement}
-use Rattle.arithmetic.proofs.apply_dots.Tie as tie
+use Rattle.arithmetic.proofs.apply_vectors_to_float.Statement.{statement}
+use Rattle.arithmetic.proofs.apply_vectors_to_float.Tie as tie
 
 returns : tie.Need-returns
-returns c = rw (c .dot-op .ensures)
+returns c = rw (c .vectors-to-float-op .ensures)
 
-pub apply-dots-spec : {M : Type 1} → statement M
-apply-dots-spec =
+pub apply-vectors-to-float-spec : {M : Type 1} → statement M
+apply-vectors-to-float-spec =
     tie.close
     (tie.spec
     (λ c. search needs)
