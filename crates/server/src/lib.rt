@@ -19,6 +19,9 @@ use functions::parts;
 use progs::ExecutionContext;
 use progs::calls;
 
+// No context has this depth.
+const NO_DEPTH: usize = GREATEST_DEPTH + 1;
+
 // The context after a statement, and what it answers.
 pub struct Stepped {
     pub context: ExecutionContext,
@@ -180,7 +183,7 @@ pub fn statement(
             answer: StatementAnswer::Refused(13),
         };
     }
-    let ran = run_for(context, file, 1, GREATEST_DEPTH + 1, cells, store);
+    let ran = run_for(context, file, 1, NO_DEPTH, cells, store);
     as_statement(ran)
 }
 
