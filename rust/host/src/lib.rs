@@ -30,7 +30,7 @@
 //! assert_eq!(run.outcome, host::RunOutcome::Ended);
 //! assert_eq!(run.count, 2);
 //! assert_eq!(f32::from_bits(machine.read(1)?), 3.75);
-//! # Ok::<(), host::Refusal>(())
+//! # Ok::<(), Box<dyn std::error::Error>>(())
 //! ```
 
 #![deny(missing_docs)]
@@ -42,7 +42,10 @@ compile_error!("the static library is compiled for x86-64 Linux");
 
 pub mod assemble;
 mod call;
+mod caller;
 mod context;
+mod float_mode;
+mod layout;
 #[allow(unsafe_code)]
 mod library;
 mod machine;
@@ -50,8 +53,10 @@ mod program;
 mod refusal;
 
 pub use call::{CallError, Cause};
+pub use caller::Caller;
 pub use context::{Context, FileRecord, Lump, StackFrame, FRAMES};
-pub use library::Reply;
+pub use float_mode::{check_float_mode, FloatModeError};
+pub use layout::LayoutError;
 pub use machine::{Handover, Machine, Outcome, Run, RunOutcome, CELLS, SAVED_STORE};
 pub use program::{Definition, Function, Program};
-pub use refusal::Refusal;
+pub use refusal::{LoadError, Refusal};
