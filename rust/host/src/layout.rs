@@ -6,8 +6,8 @@ use std::error::Error;
 use std::fmt;
 use std::mem::{offset_of, size_of};
 
-use crate::context::{StackFrame, FRAMES};
-use crate::library::Reply;
+use crate::context::{Context, FileRecord, StackFrame, FRAMES};
+use crate::library::{Found, FunctionRecord, Structs};
 
 /// The room for the structs with numbers in their fields: more than any library's will need.
 pub const ROOM: usize = 1 << 16;
@@ -40,7 +40,7 @@ struct Field {
     size: usize,
 }
 
-/// Fields by name, with one size for all.
+/// The fields of a struct by name, of one size.
 macro_rules! fields {
     ($type:ty, $size:expr, $($($name:ident).+),+) => {
         [$((stringify!($($name).+), offset_of!($type, $($name).+), $size)),+]
@@ -48,43 +48,74 @@ macro_rules! fields {
     };
 }
 
-/// All fields in the order of their numbers, of which the first is 1.
-fn fields() -> Vec<Field> {
-    let mut fields = Vec::new();
-    fields.extend(fields!(
-        Reply,
+/// The fields of a struct that is itself a field.
+fn within(name: &str, offset: usize, fields: impl IntoIterator<Item = Field>) -> Vec<Field> {
+    let placed = |field: Field| Field {
+        name: format!("{name}.{}", field.name),
+        offset: offset + field.offset,
+        size: field.size,
+    };
+    fields.into_iter().map(placed).collect()
+}
+
+fn file_fields() -> impl IntoIterator<Item = Field> {
+    fields!(
+        FileRecord,
         8,
-        context.file.length,
-        context.file.statements.offset,
-        context.file.statements.count,
-        context.file.globaldefs.offset,
-        context.file.globaldefs.count,
-        context.file.fielddefs.offset,
-        context.file.fielddefs.count,
-        context.file.functions.offset,
-        context.file.functions.count,
-        context.file.strings.offset,
-        context.file.strings.count,
-        context.file.globals.offset,
-        context.file.globals.count,
-        context.file.entityfields,
-        context.pc,
-        context.current_function,
-        context.depth,
-        context.saved
-    ));
+        length,
+        statements.offset,
+        statements.count,
+        globaldefs.offset,
+        globaldefs.count,
+        fielddefs.offset,
+        fielddefs.count,
+        functions.offset,
+        functions.count,
+        strings.offset,
+        strings.count,
+        globals.offset,
+        globals.count,
+        entityfields
+    )
+}
+
+fn context_fields() -> Vec<Field> {
+    let mut all = within("file", offset_of!(Context, file), file_fields());
+    all.extend(fields!(Context, 8, pc, current_function, depth, saved));
     for i in 0..FRAMES {
-        let frame = offset_of!(Reply, context.frames) + i * size_of::<StackFrame>();
-        for field in fields!(StackFrame, 8, instr_id, func_id) {
-            fields.push(Field {
-                name: format!("context.frames[{i}].{}", field.name),
-                offset: frame + field.offset,
-                size: field.size,
-            });
-        }
+        let offset = offset_of!(Context, frames) + i * size_of::<StackFrame>();
+        let frame = fields!(StackFrame, 8, instr_id, func_id);
+        all.extend(within(&format!("frames[{i}]"), offset, frame));
     }
-    fields.extend(fields!(Reply, 4, answer.word, answer.detail, answer.count));
-    fields
+    all
+}
+
+#[rustfmt::skip]
+fn function_fields() -> Vec<Field> {
+    let mut all = Vec::from(fields!(Found<FunctionRecord>, 4, found, refusal));
+    all.extend(fields!(Found<FunctionRecord>, 4, record.first, record.start, record.locals, record.name, record.srcfile, record.argc));
+    all.extend((0..8).map(|i| Field {
+        name: format!("record.argsz[{i}]"),
+        offset: offset_of!(Found<FunctionRecord>, record.argsz) + i,
+        size: 1,
+    }));
+    all
+}
+
+/// All fields in the order of their numbers, of which the first is 1.
+#[rustfmt::skip]
+fn fields() -> Vec<Field> {
+    let mut all = within("context", offset_of!(Structs, reply.context), context_fields());
+    all.extend(fields!(Structs, 4, reply.answer.word, reply.answer.detail, reply.answer.count));
+    all.extend(fields!(Structs, 4, header.found, header.refusal));
+    all.extend(within("header", offset_of!(Structs, header.record), file_fields()));
+    all.extend(fields!(Structs, 4, statement.found, statement.refusal));
+    all.extend(fields!(Structs, 2, statement.record.opcode, statement.record.arg1, statement.record.arg2, statement.record.arg3));
+    all.extend(within("function", offset_of!(Structs, function), function_fields()));
+    all.extend(fields!(Structs, 4, definition.found, definition.refusal));
+    all.extend(fields!(Structs, 2, definition.record.kind, definition.record.offset));
+    all.extend(fields!(Structs, 4, definition.record.name));
+    all
 }
 
 /// Compares what `host_layout` wrote into room that was filled with [`FILL`]: each number at its field's place, and
@@ -97,7 +128,7 @@ pub fn compare(bytes: &[u8]) -> Result<(), LayoutError> {
             return Err(LayoutError(message));
         }
     }
-    let size = size_of::<Reply>();
+    let size = size_of::<Structs>();
     if bytes[size..].iter().any(|byte| *byte != FILL) {
         let message = format!("its structs take more than {size} bytes");
         return Err(LayoutError(message));
@@ -108,12 +139,12 @@ pub fn compare(bytes: &[u8]) -> Result<(), LayoutError> {
 #[cfg(test)]
 mod tests {
     use super::*;
-    use crate::context::{Context, FileRecord, Lump};
-    use crate::library;
+    use crate::context::Lump;
+    use crate::library::{self, Reply};
 
     #[test]
     fn the_library_has_this_layout() {
-        assert_eq!(fields().len(), 83);
+        assert_eq!(fields().len(), 126);
         assert_eq!(compare(&library::numbered()), Ok(()));
         assert_eq!(library::layout(), Ok(()));
     }
@@ -125,6 +156,7 @@ mod tests {
         assert_eq!(size_of::<StackFrame>(), 16);
         assert_eq!(size_of::<Context>(), 640);
         assert_eq!(size_of::<Reply>(), 656);
+        assert_eq!(size_of::<Structs>(), 848);
     }
 
     /// A library in which a field lies where another is, or has another size.
@@ -151,7 +183,8 @@ mod tests {
     #[test]
     fn structs_of_another_length() {
         let right = library::numbered();
-        let (front, middle, end) = (0, offset_of!(Reply, context.pc), size_of::<Reply>());
+        let middle = offset_of!(Structs, reply.context.pc);
+        let (front, end) = (0, size_of::<Structs>());
         for place in [front, middle, end] {
             let mut longer = right.clone();
             longer.splice(place..place, [0; 8]);

@@ -9,14 +9,14 @@
 //! call.
 //!
 //! A struct of more than 16 bytes is returned through a pointer that the caller gives as the first parameter (System V
-//! ABI for x86-64). It is declared so here: an operation then writes its answer where the machine keeps it, and the
+//! ABI for x86-64). The operations are declared so here: each then writes its answer where the machine keeps it, and the
 //! 640 bytes of a context aren't copied once more.
 
 use std::arch::asm;
 use std::mem::MaybeUninit;
 use std::sync::OnceLock;
 
-use crate::context::Context;
+use crate::context::{Context, FileRecord};
 use crate::layout::{self, LayoutError};
 
 /// The context after an operation, and its answer.
@@ -37,6 +37,65 @@ pub struct Answer {
     pub detail: u32,
     /// How many statements a run completed; else 0.
     pub count: u32,
+}
+
+/// A record of the file, and whether it is there.
+#[repr(C)]
+#[derive(Clone, Copy, Debug)]
+pub struct Found<T> {
+    /// 1 where the record is there. Where it is 0, the record is of zeros.
+    pub found: u32,
+    /// Why it isn't there: document 01's number. 0 where it is, and for a definition that isn't, which has none.
+    pub refusal: u32,
+    pub record: T,
+}
+
+impl<T> Found<T> {
+    fn record(self) -> Option<T> {
+        (self.found == 1).then_some(self.record)
+    }
+}
+
+/// A statement. All numbers of records are unsigned here, whatever they mean.
+#[repr(C)]
+#[derive(Clone, Copy, Debug)]
+pub struct StatementRecord {
+    pub opcode: u16,
+    pub arg1: u16,
+    pub arg2: u16,
+    pub arg3: u16,
+}
+
+/// A function, without its profile number.
+#[repr(C)]
+#[derive(Clone, Copy, Debug)]
+pub struct FunctionRecord {
+    pub first: u32,
+    pub start: u32,
+    pub locals: u32,
+    pub name: u32,
+    pub srcfile: u32,
+    pub argc: u32,
+    pub argsz: [u8; 8],
+}
+
+/// A definition of a cell or of a field; bit 15 of the kind is the save flag.
+#[repr(C)]
+#[derive(Clone, Copy, Debug)]
+pub struct DefinitionRecord {
+    pub kind: u16,
+    pub offset: u16,
+    pub name: u32,
+}
+
+/// All structs that the library answers, as `host_layout` gives them.
+#[repr(C)]
+pub struct Structs {
+    pub reply: Reply,
+    pub header: Found<FileRecord>,
+    pub statement: Found<StatementRecord>,
+    pub function: Found<FunctionRecord>,
+    pub definition: Found<DefinitionRecord>,
 }
 
 /// The word of what is accepted or completed.
@@ -61,6 +120,11 @@ extern "C" {
     fn host_abandon(out: *mut Reply, context: Context, file: *const u8, file_len: usize, target: i64, cells: *mut u32, cells_len: usize, saved: *const u32, saved_len: usize) -> *mut Reply;
     fn host_read(out: *mut Reply, context: Context, file: *const u8, file_len: usize, address: i64, cells: *const u32, cells_len: usize, saved: *const u32, saved_len: usize) -> *mut Reply;
     fn host_write(out: *mut Reply, context: Context, file: *const u8, file_len: usize, address: i64, value: u32, cells: *mut u32, cells_len: usize, saved: *const u32, saved_len: usize) -> *mut Reply;
+    fn host_read_header(file: *const u8, file_len: usize) -> Found<FileRecord>;
+    fn host_read_statement(file: *const u8, file_len: usize, recorded: FileRecord, pc: i64) -> Found<StatementRecord>;
+    fn host_read_function(file: *const u8, file_len: usize, recorded: FileRecord, id: i64) -> Found<FunctionRecord>;
+    fn host_read_definition(file: *const u8, file_len: usize, recorded: FileRecord, index: i64) -> Found<DefinitionRecord>;
+    fn host_read_field(file: *const u8, file_len: usize, recorded: FileRecord, index: i64) -> Found<DefinitionRecord>;
 }
 
 /// Whether the library that is linked lays its structs out as this crate does. It is compared once.
@@ -261,4 +325,35 @@ pub fn write(
         );
         reply.assume_init_ref().answer
     }
+}
+
+/// What the header says of the file; nothing where the length isn't one that a file may have.
+pub fn read_header(file: &[u8]) -> Option<FileRecord> {
+    assert_layout();
+    // SAFETY: see the module's text.
+    unsafe { host_read_header(file.as_ptr(), file.len()) }.record()
+}
+
+pub fn read_statement(file: &[u8], recorded: &FileRecord, pc: i64) -> Option<StatementRecord> {
+    assert_layout();
+    // SAFETY: see the module's text.
+    unsafe { host_read_statement(file.as_ptr(), file.len(), *recorded, pc) }.record()
+}
+
+pub fn read_function(file: &[u8], recorded: &FileRecord, id: i64) -> Option<FunctionRecord> {
+    assert_layout();
+    // SAFETY: see the module's text.
+    unsafe { host_read_function(file.as_ptr(), file.len(), *recorded, id) }.record()
+}
+
+pub fn read_definition(file: &[u8], recorded: &FileRecord, index: i64) -> Option<DefinitionRecord> {
+    assert_layout();
+    // SAFETY: see the module's text.
+    unsafe { host_read_definition(file.as_ptr(), file.len(), *recorded, index) }.record()
+}
+
+pub fn read_field(file: &[u8], recorded: &FileRecord, index: i64) -> Option<DefinitionRecord> {
+    assert_layout();
+    // SAFETY: see the module's text.
+    unsafe { host_read_field(file.as_ptr(), file.len(), *recorded, index) }.record()
 }

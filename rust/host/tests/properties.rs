@@ -4,8 +4,10 @@ mod common;
 
 use std::panic::{catch_unwind, resume_unwind, AssertUnwindSafe};
 
-use common::{random_file, random_machine, Chance};
-use host::{Caller, Context, Machine, Outcome, Program, Refusal, RunOutcome, SAVED_STORE};
+use common::{random_assembly, random_file, random_machine, Chance};
+use host::{
+    Caller, Context, Definition, Machine, Outcome, Program, Refusal, RunOutcome, SAVED_STORE,
+};
 
 #[derive(Clone, Copy, Debug)]
 enum Call {
@@ -368,6 +370,33 @@ fn calls_leave_the_depth() {
         seen.panics,
         seen.nested_calls
     );
+}
+
+/// What the assembler put in comes out again.
+#[test]
+fn records_of_assembled_files() {
+    for seed in 0..500 {
+        let mut assembly = random_assembly(&mut Chance::new(5_000_000 + seed));
+        assembly.fields = vec![(0x8007, 65_535, -1), (2, 0, 9)];
+        let file = assembly.bytes();
+        let program = Program::new(&file);
+        let numbers = || 0..;
+        let functions = numbers().map_while(|number| program.function(number));
+        assert!(functions.eq(assembly.functions.iter().copied()));
+        let statements = numbers().map_while(|number| program.statement(number));
+        assert!(statements.eq(assembly.statements.iter().copied()));
+        let plain = |found: Definition| {
+            let save = if found.save { 0x8000 } else { 0 };
+            (found.kind | save, found.cell, found.name)
+        };
+        let definitions = numbers().map_while(|number| program.definition(number).map(plain));
+        assert!(definitions.eq(assembly.definitions.iter().copied()));
+        let fields = numbers().map_while(|number| program.field(number).map(plain));
+        assert!(fields.eq(assembly.fields.iter().copied()));
+        assert_eq!(program.function_count(), assembly.functions.len());
+        assert_eq!(program.definition_count(), assembly.definitions.len());
+        assert_eq!(program.field_count(), 2);
+    }
 }
 
 #[test]
