@@ -60,3 +60,8 @@ pub use layout::LayoutError;
 pub use machine::{Handover, Machine, Outcome, Run, RunOutcome, CELLS, SAVED_STORE};
 pub use program::{Definition, Function, Program};
 pub use refusal::{LoadError, Refusal};
+
+/// The Rust of docs/EMBEDDING.md, compiled and run with the tests.
+#[cfg(doctest)]
+#[doc = include_str!("../../../docs/EMBEDDING.md")]
+struct Embedding;
