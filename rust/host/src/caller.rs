@@ -9,40 +9,7 @@ use crate::refusal::Refusal;
 ///
 /// It has no access to the program's bytes, the buffers as a whole, the frames or the context, and can neither enter
 /// a function without leaving it nor leave one that it hasn't entered. So no closure keeps a call from ending at the
-/// depth where it began. These don't compile:
-///
-/// ```compile_fail
-/// fn builtin(machine: &mut host::Caller<'_>) { machine.program_mut().clear(); }
-/// ```
-/// ```compile_fail
-/// fn builtin(machine: &mut host::Caller<'_>) { machine.cells_mut().clear(); }
-/// ```
-/// ```compile_fail
-/// fn builtin(machine: &mut host::Caller<'_>) { machine.saved_mut().clear(); }
-/// ```
-/// ```compile_fail
-/// fn builtin(machine: &mut host::Caller<'_>) { machine.set_context(host::Context::default()); }
-/// ```
-/// ```compile_fail
-/// fn builtin(machine: &mut host::Caller<'_>) { machine.load().ok(); }
-/// ```
-/// ```compile_fail
-/// fn builtin(machine: &mut host::Caller<'_>) { machine.enter(1).ok(); }
-/// ```
-/// ```compile_fail
-/// fn builtin(machine: &mut host::Caller<'_>) { machine.abandon(0).ok(); }
-/// ```
-/// ```compile_fail
-/// fn builtin(machine: &mut host::Caller<'_>) { machine.carry_on().ok(); }
-/// ```
-/// ```compile_fail
-/// fn builtin(machine: &mut host::Caller<'_>) { machine.statement(); }
-/// ```
-/// ```compile_fail
-/// fn builtin(machine: &mut host::Caller<'_>) { machine.run(0, 10); }
-/// ```
-///
-/// And this one does:
+/// depth where it began.
 ///
 /// ```
 /// fn builtin(machine: &mut host::Caller<'_>) -> Result<(), host::Refusal> {
@@ -141,3 +108,57 @@ impl<'a> Caller<'a> {
         self.machine.call(function, limit, host)
     }
 }
+
+/// What a [`Caller`] hasn't: none of these compiles, but the first and the last one.
+///
+/// ```
+/// fn builtin(machine: &mut host::Caller<'_>) { machine.write(1, 0).ok(); }
+/// ```
+/// ```compile_fail
+/// fn builtin(machine: &mut host::Caller<'_>) { machine.program_mut().clear(); }
+/// ```
+/// ```compile_fail
+/// fn builtin(machine: &mut host::Caller<'_>) { machine.cells_mut().clear(); }
+/// ```
+/// ```compile_fail
+/// fn builtin(machine: &mut host::Caller<'_>) { machine.saved_mut().clear(); }
+/// ```
+/// ```compile_fail
+/// fn builtin(machine: &mut host::Caller<'_>) { machine.set_context(host::Context::default()); }
+/// ```
+/// ```compile_fail
+/// fn builtin(machine: &mut host::Caller<'_>) { machine.load().ok(); }
+/// ```
+/// ```compile_fail
+/// fn builtin(machine: &mut host::Caller<'_>) { machine.enter(1).ok(); }
+/// ```
+/// ```compile_fail
+/// fn builtin(machine: &mut host::Caller<'_>) { machine.abandon(0).ok(); }
+/// ```
+/// ```compile_fail
+/// fn builtin(machine: &mut host::Caller<'_>) { machine.carry_on().ok(); }
+/// ```
+/// ```compile_fail
+/// fn builtin(machine: &mut host::Caller<'_>) { machine.statement(); }
+/// ```
+/// ```compile_fail
+/// fn builtin(machine: &mut host::Caller<'_>) { machine.run(0, 10); }
+/// ```
+/// ```compile_fail
+/// fn builtins_of_two(one: &mut host::Machine, other: &mut host::Machine) {
+///     let _ = one.call(1, 10, |_, a| {
+///         let _ = other.call(1, 10, |_, b| Ok::<(), ()>(std::mem::swap(a, b)));
+///         Ok::<(), ()>(())
+///     });
+/// }
+/// ```
+/// ```
+/// fn builtins_of_two(one: &mut host::Machine, other: &mut host::Machine) {
+///     let _ = one.call(1, 10, |_, a| {
+///         let _ = other.call(1, 10, |_, b| b.write(1, a.read(1)?));
+///         Ok::<(), ()>(())
+///     });
+/// }
+/// ```
+#[cfg(doctest)]
+struct Missing;

@@ -7,7 +7,8 @@
 //! document 01 with its sentence. [`Machine::call`] does what a server does with a function: it enters, runs, has
 //! the host answer what is handed over, and leaves the machine at the depth where it was, however the call went.
 //!
-//! What the library promises is proved. What this crate does around it is not: it is Rust, tested.
+//! What the library promises is proved. What this crate does around it is not: it is Rust, tested. A load checks what
+//! both stand on: that the library is the crate's own, and the processor's floating-point mode ([`LoadError`]).
 //!
 //! ```
 //! use host::assemble::{Assembly, Function};
