@@ -156,16 +156,16 @@ fn a_builtin_through_a_result() {
 #[test]
 fn a_builtin_that_calls() {
     let mut machine = loaded(&calling());
-    let mut positions = Vec::new();
+    let mut places = Vec::new();
     let called = machine.call(1, 100, |_, machine| {
-        if positions.is_empty() {
+        if places.is_empty() {
             machine.call(END_OF_MATCH, 10, |_, _| Ok::<(), Refusal>(()))?;
         }
-        positions.push(machine.position());
+        places.push((machine.position(), machine.function(), machine.depth()));
         Ok::<(), host::CallError<Refusal>>(())
     });
-    assert!(called.is_ok());
-    assert_eq!(positions, [1, 4]);
+    assert_eq!(called, Ok(5));
+    assert_eq!(places, [(1, 1, 1), (4, 4, 2)]);
 }
 
 /// A thousand hand-overs and a jump back: without counting them, a limit of 100 statements would allow 100,000.
