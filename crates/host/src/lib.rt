@@ -1,5 +1,6 @@
-// The static library: each operation under a name of C. A function that is exported can't return an enum, so an answer is three numbers, those of a
-// list of calls, beside the context after the operation. No operation asks anything of its caller but that the buffers are what they are said to be.
+// The static library: each operation under a name of C, and the readers of records. A function that is exported can't return an enum, so an answer is
+// three numbers, those of a list of calls, beside the context after the operation. No function asks anything of its caller but that the buffers are
+// what they are said to be.
 ghost use mathlib.Core.Path.{_≡_};
 ghost use Rattle.definition.specs.Load.{programOf};
 ghost use Rattle.definition.specs.Calls.{enters, steps, runs, carries, abandons, reads, writes};
@@ -11,6 +12,7 @@ use progs::ExecutionContext;
 use progs::load;
 
 mod layout;
+mod records;
 
 // A refused load gives a context of zeros, which every operation refuses 13.
 #[no_mangle]
@@ -44,7 +46,7 @@ pub extern "C" fn host_statement(
 ) -> Replied
     ensures { λ r. ⌜ repliedOf r (now (cells .exit)) (now (saved .exit)) ≡ afterCall (programOf (now (file .entry))) steps (config context (now (cells .entry)) (now (saved .entry))) ⌝ }
 {
-    let stepped = server::statement(context, file, cells, saved);
+    let stepped = stepping::step_once(context, file, cells, saved);
     call_list::reply_statement(stepped)
 }
 

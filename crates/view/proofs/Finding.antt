@@ -17,7 +17,7 @@ use Rattle.functions.specs.declared.fetch.Fetched.the-variants as fetch
 use Rattle.functions.specs.Answers.{fetched}
 use Rattle.definition.specs.RecordLaws.{length-records, getD-records}
 use Rattle.view.specs.declared.FoundDefinition.the-variants as definition
-use Rattle.view.specs.Records.{recordAt, statementIn, functionIn, notFound, isFound, definitionIn, noDefinition}
+use Rattle.view.specs.Records.{recordAt, statementIn, functionIn, notFound, isFound, definitionAt, noDefinition}
 
 module _ {A B : Type 0} (found : A → B) (absent : B) (none : A) (read : ℕ → A) (size : ℕ) (l : Lump) (n : ℤ) (i : ℕ) (place : i ≡ placeOf (l .count) n) where
   count : length (recordsIn read size l) ≡ l .count
@@ -51,10 +51,6 @@ module _ (file : List ℕ) (r : FileRecord) (n : ℤ) where
   unfolding functionIn
   function-outside e = rw e
 
-  pub definition-outside : lumpFits 8 (length file) (r .globaldefs) ≡ false → definition.Refused 4 ≡ definitionIn file r n
-  unfolding definitionIn
-  definition-outside e = rw e
-
   module _ (fits : lumpFits 36 (length file) (r .functions) ≡ true) (i : ℕ) (place : i ≡ placeOf (r .functions .count) n) where
     pub function-absent : r .functions .count ≤ i → notFound 20 ≡ functionIn file r n
     unfolding functionIn contentsAt
@@ -67,18 +63,19 @@ module _ (file : List ℕ) (r : FileRecord) (n : ℤ) where
     unfolding functionIn contentsAt
     function-there d h e = rw fits (record-there isFound (notFound 20) noFunction (readFunction file) 36 (r .functions) n i place d h e)
 
-  module _ (fits : lumpFits 8 (length file) (r .globaldefs) ≡ true) (i : ℕ) (place : i ≡ placeOf (r .globaldefs .count) n) where
-    pub definition-absent : r .globaldefs .count ≤ i → definition.NoDefinition ≡ definitionIn file r n
-    unfolding definitionIn contentsAt
-    definition-absent h =
-        rw fits (record-absent definition.At definition.NoDefinition noDefinition (readDefinition file) 8 (r .globaldefs) n i place h)
+module _ (file : List ℕ) (l : Lump) (n : ℤ) where
+  pub definition-outside : lumpFits 8 (length file) l ≡ false → definition.Refused 4 ≡ definitionAt file l n
+  unfolding definitionAt
+  definition-outside e = rw e
 
-    pub definition-there : (d : Definition)
-        → i < r .globaldefs .count
-        → d ≡ readDefinition file (r .globaldefs .offset + 8 * i)
-        → definition.At d ≡ definitionIn file r n
-    unfolding definitionIn contentsAt
+  module _ (fits : lumpFits 8 (length file) l ≡ true) (i : ℕ) (place : i ≡ placeOf (l .count) n) where
+    pub definition-absent : l .count ≤ i → definition.NoDefinition ≡ definitionAt file l n
+    unfolding definitionAt
+    definition-absent h = rw fits (record-absent definition.At definition.NoDefinition noDefinition (readDefinition file) 8 l n i place h)
+
+    pub definition-there : (d : Definition) → i < l .count → d ≡ readDefinition file (l .offset + 8 * i) → definition.At d ≡ definitionAt file l n
+    unfolding definitionAt
     definition-there d h e =
         rw fits
-        (record-there definition.At definition.NoDefinition noDefinition (readDefinition file) 8 (r .globaldefs) n i place d h
+        (record-there definition.At definition.NoDefinition noDefinition (readDefinition file) 8 l n i place d h
         (e ∙ sym (getD-records _ 8 _ _ _ _ h)))

@@ -1,7 +1,7 @@
 // The functions of a file (functions.rs, Functions) as a view that holds the lent bytes. Its readers take it apart and call a covered function on the
 // slice and the numbers. Each stands a second time with plain parameters, since a function that makes or takes a view is proved by hand.
 ghost use mathlib.Core.Path.{_≡_};
-ghost use Rattle.view.specs.Records.{notFound, statementIn, functionIn, definitionIn};
+ghost use Rattle.view.specs.Records.{notFound, statementIn, functionIn, definitionIn, fieldIn};
 use definition::Answer;
 use definition::Definition;
 use definition::FileRecord;
@@ -132,4 +132,14 @@ pub fn read_definition(file: &[u8], recorded: FileRecord, index: i64) -> FoundDe
 {
     let view = Functions { file, recorded };
     view.definition(index)
+}
+
+// A field definition, by its index: a global one of a record that has the field definitions in the place of the global ones.
+pub fn read_field(file: &[u8], recorded: FileRecord, index: i64) -> FoundDefinition
+    ensures { λ r. ⌜ r ≡ fieldIn (now (file .entry)) recorded index ⌝ }
+{
+    let defs = recorded.fielddefs;
+    let mut fields = recorded;
+    fields.globaldefs = defs;
+    read_definition(file, fields, index)
 }
