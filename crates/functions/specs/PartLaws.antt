@@ -75,7 +75,7 @@ module _ {A : Type 0} (read : List ℕ → ℕ → A) (size : ℕ) (own : Local 
     unfolding byteAt
     part-records = rw count-part (same-records _ _ _ _ _ (record { byte = λ k h. rw (zero-add k, getD-take (size * l .count) (drop (l .offset) file) k 0 h) (getD-drop (l .offset) file k 0) }))
 
-statement-local : Local readStatement 8
+pub statement-local : Local readStatement 8
 statement-local f g i j s =
     let a = u16-local f g i j (first s 2 (omega arith)) in
     let b = u16-local _ _ _ _ (inner s 2 2 (omega arith)) in
@@ -90,7 +90,7 @@ definition-local f g i j s =
     let c = u32-local _ _ _ _ (inner s 4 4 (omega arith)) in
     cc
 
-function-local : Local readFunction 36
+pub function-local : Local readFunction 36
 function-local f g i j s =
     let a = u32-local f g i j (first s 4 (omega arith)) in
     let b = u32-local _ _ _ _ (inner s 4 4 (omega arith)) in
