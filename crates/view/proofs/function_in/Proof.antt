@@ -28,7 +28,7 @@ part-requires : tie.Need-part-requires
 part-requires c κs = (fits (c .before .before .before), omega arith)
 
 get-def-requires : tie.Need-get-def-requires
-get-def-requires c κs = function-below _ _ _ (fits (c .before .before .before .before)) _ (place (c .before .before .before)) _ (c .part .ensures) (c .before .if2 .left)
+get-def-requires c κs = function-below (c .before .before .before .before .before .before .before .before .args .file .now) (c .before .before .before .before .before .before .before .before .args .recorded) (c .before .before .before .before .before .before .before .before .args .id) (fits (c .before .before .before .before)) _ (place (c .before .before .before)) _ (c .part .ensures) (c .before .if2 .left)
 
 returns-3 : tie.Need-returns-3
 returns-3 c = function-there _ _ _ (fits (c .before .before .before .before .before)) _ (place (c .before .before .before .before)) _ (c .before .before .if2 .left) _ (c .before .part .ensures) (c .get-def .ensures)
