@@ -1,21 +1,21 @@
 -- What the proofs of `split`, `put_whole`, `round_by` and `fabs` cite. Assumes nothing.
 use Prim.Native.Nat.{ℕ, zero, suc, _+_, _-_, _*_, _/_, _%_, _^_, _≤_, _<_}
 use mathlib.Core.Path.{_≡_, refl, sym, ap, _∙_, subst}
-use mathlib.Core.Logic.{_⊎_, inl, inr}
-use mathlib.Core.Bool.{Bool, true, false, not, _&&_, _||_, cond}
-use native.Mathlib.Nat.{mul-assoc, mul-comm, mul-right-comm, mul-pos, le-of-mul-le-mul-right, add-mul, mul-one, lt-of-lt-of-le, le-trans, le-of-eq, mod-lt, mod-one, div-one, add-zero, mod-eq-of-lt, div-eq-of-lt, div-add-mod', mul-le-mul-right, mul-le-mul-left, le-add-right, eq-or-lt-of-le, not-le-of-lt}
+use mathlib.Core.Logic.{inl, inr}
+use mathlib.Core.Bool.{Bool, true, false, not, _&&_, cond}
+use native.Mathlib.Nat.{mul-assoc, mul-comm, mul-right-comm, mul-pos, le-of-mul-le-mul-right, add-mul, mul-one, lt-of-lt-of-le, le-trans, le-of-eq, mod-lt, mod-one, div-one, add-zero, mod-eq-of-lt, div-eq-of-lt, div-add-mod', mul-le-mul-right, mul-le-mul-left, eq-or-lt-of-le, not-le-of-lt}
 use native.Mathlib.Omega.{arith}
 use lib.Dec.{T, leb, ltb, eqb, lit≤, lit<, leb→le, le→leb, ltb→lt, lt→ltb}
 use lib.Pow.{pow-add, pow-pos, pow-mono, shl-lt, shr-lt}
 use lib.IntN.{pos}
-use lib.Ieee.{Float, nan, inf, fin, binary32, up, down, odd, units, round, neg, isNan, nanBits, ofFields, ofBits, toBits, ofInt}
+use lib.Ieee.{Float, nan, inf, fin, binary32, up, down, odd, units, round, neg, nanBits, ofFields, ofBits, toBits, ofInt}
 use lib.Ieee.Fits.{down-pos, round-is, round-fits}
 use lib.Ieee.Bits.{nanBits-is, toBits-ofBits, ofBits-fits}
 use lib.Ieee.Exact.{HasValue, round-exact}
 use lib.Ieee.Back.{whole-unique}
 use lib.Ieee.Nearest.{div-same}
 use lib.Ieee.Positive.{first-pos}
-use borrow.Author.Tests.{le-leb, lt-leb, lt-ltb, le-ltb}
+use borrow.Author.Tests.{lt-leb, lt-ltb}
 use Rattle.definition.specs.Floats.{value, cell, Rule, rounded, absolute}
 use Rattle.floats.specs.Scaled.{scaled}
 use Rattle.floats.specs.Rounding.{wholeOf, someOf, halfOf, oneIf}
