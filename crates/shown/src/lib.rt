@@ -56,11 +56,11 @@ fn enter_and_run(
     context: ExecutionContext,
     file: &[u8],
     cells: &mut [u32],
-    saved: &mut [u32],
+    store: &mut [u32],
 ) -> Ran
-    ensures { λ r. ⌜ ranOf r (now (cells .exit)) (now (saved .exit)) ≡ enteredAndRun (programOf (now (file .entry))) (config context (now (cells .entry)) (now (saved .entry))) ⌝ }
+    ensures { λ r. ⌜ ranOf r (now (cells .exit)) (now (store .exit)) ≡ enteredAndRun (programOf (now (file .entry))) (config context (now (cells .entry)) (now (store .entry))) ⌝ }
 {
-    let entered = context.enter(file, 1, cells, saved);
+    let entered = context.enter(file, 1, cells, store);
     let context = entered.context;
     let answer = entered.answer;
     match answer {
@@ -71,26 +71,26 @@ fn enter_and_run(
                 count: 0,
             };
         }
-        Answer::Accepted => return server::run(context, file, 0, 99999, cells, saved),
+        Answer::Accepted => return server::run(context, file, 0, 99999, cells, store),
     }
 }
 
 // The line stands at the front of `line`; the result is its length.
-pub fn show(file: &[u8], cells: &mut [u32], saved: &mut [u32], line: &mut [u8]) -> usize
+pub fn show(file: &[u8], cells: &mut [u32], store: &mut [u32], line: &mut [u8]) -> usize
     requires { ⌜ 160 ≤ length (now line) ⌝ }
-    ensures { λ r. ⌜ printed (output (now (line .exit)) r) (now (cells .exit)) (now (saved .exit)) ≡ atFrontOf (now (line .entry)) (shown (now (file .entry)) (now (cells .entry)) (now (saved .entry))) ⌝ }
+    ensures { λ r. ⌜ printed (output (now (line .exit)) r) (now (cells .exit)) (now (store .exit)) ≡ atFrontOf (now (line .entry)) (shown (now (file .entry)) (now (cells .entry)) (now (store .entry))) ⌝ }
     ensures { λ r. ⌜ r ≤ 160 ⌝ }
 {
     if 65536 < file.len() {
         return text::refused_line(line, 1);
     }
-    let loaded = load::load(file, cells, saved);
+    let loaded = load::load(file, cells, store);
     let context = loaded.context;
     let answer = loaded.answer;
     match answer {
         Answer::Refused(n) => return text::refused_line(line, n),
         Answer::Accepted => {
-            let ran = enter_and_run(context, file, cells, saved);
+            let ran = enter_and_run(context, file, cells, store);
             let last = ran.context;
             let outcome = ran.answer;
             return state_line(line, outcome, ran.count, last, cells);
