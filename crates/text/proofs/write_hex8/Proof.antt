@@ -8,9 +8,12 @@ write-hex-requires : tie.Need-write-hex-requires
 unfolding hex8
 write-hex-requires c κs = search needs
 
+same-length : tie.Need-same-length
+same-length c = search needs
+
 returns : tie.Need-returns
 unfolding hex8
 returns c = search needs
 
 pub write-hex8-spec : {M : Type 1} → statement M
-write-hex8-spec = tie.close (tie.spec write-hex-requires (λ c. search needs) returns)
+write-hex8-spec = tie.close (tie.spec write-hex-requires same-length returns)
