@@ -15,10 +15,7 @@ unfolding dotOp opcodes shapeOf
 dot-op-spec =
     tie.close
     (tie.spec
-    (λ c κs. tt)
-    (λ c. row _ _ _ _ _ _ _ _ (c .before .match .keys1) (c .mul-v .ensures))
-    (λ c κs. tt)
-    (λ c. row _ _ _ _ _ _ _ _ (c .before .match .keys2) (c .eq-v .ensures))
-    (λ c κs. tt)
-    (λ c. row _ _ _ _ _ _ _ _ (c .before .match .keys3) (c .ne-v .ensures))
+    (λ c κs. tt) (λ c. row _ _ _ _ _ _ _ _ (c .before .match .keys1) (c .mul-v .ensures))
+    (λ c κs. tt) (λ c. row _ _ _ _ _ _ _ _ (c .before .match .keys2) (c .eq-v .ensures))
+    (λ c κs. tt) (λ c. row _ _ _ _ _ _ _ _ (c .before .match .keys3) (c .ne-v .ensures))
     (λ c. last dotsOf (λ a0 a1 a2 b0 b1 b2. 0) (λ (f : Pairing). f (c .before .args .a0) (c .before .args .a1) (c .before .args .a2) (c .before .args .b0) (c .before .args .b1) (c .before .args .b2)) (2 ∷ 11 ∷ 16 ∷ []) (c .before .args .op) tt (c .match .rest)))

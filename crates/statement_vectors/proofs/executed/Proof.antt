@@ -18,18 +18,6 @@ execute-requires c κs =
 
 pub executed-spec : {M : Type 1} → statement M
 executed-spec =
-    tie.close
-    (tie.spec
-    (λ c. search needs)
-    (λ c κs. search needs)
-    (λ c κs. search needs)
-    (λ c. search needs)
-    (λ c. search needs)
-    (λ c. search needs)
-    fetch-requires
-    (λ c. search needs)
-    (λ c. search needs)
-    (λ c. search needs)
-    execute-requires
-    (λ c. search needs)
+    tie.close (tie.spec (λ c. search needs) (λ c κs. search needs) (λ c κs. search needs) (λ c. search needs) (λ c. search needs)
+    (λ c. search needs) fetch-requires (λ c. search needs) (λ c. search needs) (λ c. search needs) execute-requires (λ c. search needs)
     (λ c. search needs))

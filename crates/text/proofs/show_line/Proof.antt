@@ -98,14 +98,8 @@ d8 c = d7 (c .before .before .before .before)
 left-8 : (c : tie.After-write-field5) → Left (d8 c) (furtherFields (drop 6 (fields (d8 c)))) (output (c .write-field5 .last .0) (c .write-field5 .result))
 left-8 c = rest-next _ _ (left-7 (c .before .before .before .before)) (c .write-field5 .ensures)
 
-outcome-detail-requires : tie.Need-outcome-detail-requires
-outcome-detail-requires c κs = search needs
-
 write-word-requires : tie.Need-write-word-requires
 write-word-requires c κs = rest-room _ _ (left-0 (c .before))
-
-cast-write-field : tie.Need-cast-write-field
-cast-write-field c = search needs
 
 write-field-requires : tie.Need-write-field-requires
 write-field-requires c κs = rest-room _ _ (left-1 (c .before .before .before))
@@ -131,9 +125,6 @@ write-field-requires-5 c κs = rest-room _ _ (left-7 (c .before .before .before)
 write-cells-requires : tie.Need-write-cells-requires
 write-cells-requires c κs = left-8 (c .before .before .before) .room
 
-same-length : tie.Need-same-length
-same-length c = search needs
-
 returns : tie.Need-returns
 returns c =
     let l = c .before .before .before .before .before .before in
@@ -142,18 +133,6 @@ returns c =
 
 pub show-line-spec : {M : Type 1} → statement M
 show-line-spec =
-    tie.close
-    (tie.spec
-    outcome-detail-requires
-    write-word-requires
-    cast-write-field
-    write-field-requires
-    write-field-requires-2
-    write-byte-requires
-    write-signed-requires
-    write-field-requires-3
-    write-field-requires-4
-    write-field-requires-5
-    write-cells-requires
-    same-length
-    returns)
+    tie.close (tie.spec (λ c κs. search needs) write-word-requires (λ c. search needs) write-field-requires write-field-requires-2
+    write-byte-requires write-signed-requires write-field-requires-3 write-field-requires-4 write-field-requires-5 write-cells-requires
+    (λ c. search needs) returns)
