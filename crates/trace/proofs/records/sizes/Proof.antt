@@ -1,7 +1,7 @@
 use borrow.Author.Needs.{needs}
 use Prim.Native.Nat.{_≤_, _-_}
-use Rattle.trace.proofs.print.sizes.Statement.{statement}
-use Rattle.trace.proofs.print.sizes.Tie as tie
+use Rattle.trace.proofs.records.sizes.Statement.{statement}
+use Rattle.trace.proofs.records.sizes.Tie as tie
 
 abbrev Inv-loop : tie.InvT-loop
 Inv-loop argsz i₀ i = i ≤ 8
