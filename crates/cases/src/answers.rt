@@ -5,6 +5,7 @@ use definition::Handover;
 use definition::ReadAnswer;
 use definition::RunAnswer;
 use definition::StatementAnswer;
+use progs::ExecutionContext;
 
 pub enum Said {
     Accepted(u32),
@@ -62,4 +63,9 @@ pub fn print(said: Said) {
         Said::Builtin(n) => print::said(b"builtin", n as u64),
         Said::Opcode(n) => print::said(b"opcode", n as u64),
     }
+}
+
+pub fn print_with_state(said: Said, context: ExecutionContext, cells: &[u32], saved: &[u32]) {
+    print(said);
+    print::state(context, cells, saved);
 }

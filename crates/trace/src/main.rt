@@ -24,8 +24,7 @@ fn trace_step(
     let stepped = stepping::step_once(context, file, cells, saved);
     let after = stepped.context;
     let answer = stepped.answer;
-    answers::print(answers::of_statement(answer));
-    print::state(after, cells, saved);
+    answers::print_with_state(answers::of_statement(answer), after, cells, saved);
     after
 }
 
@@ -39,8 +38,7 @@ fn enter(
     let entered = context.enter(file, function, cells, saved);
     let after = entered.context;
     let answer = entered.answer;
-    answers::print(answers::of_answer(answer));
-    print::state(after, cells, saved);
+    answers::print_with_state(answers::of_answer(answer), after, cells, saved);
     after
 }
 

@@ -5,13 +5,8 @@ use lib.ListN.{length}
 use Rattle.cases.proofs.bytes.Statement.{statement}
 use Rattle.cases.proofs.bytes.Tie as tie
 
-abbrev Inv-loop : tie.InvT-loop
-Inv-loop s at to₀ n i₀ to i = length to ≡ length to₀
-
-abbrev μ-loop : tie.MeasureT-loop
-μ-loop s at to₀ n i₀ to i = length to₀ - i
-
 pub bytes-spec : {M : Type 1} → statement M
 bytes-spec =
-    tie.close (tie.spec Inv-loop μ-loop (λ c κs. search needs) (λ c. search needs) (λ c κs. search needs) (λ c. search needs)
-    (λ c. search needs) (λ c. search needs) (λ c. search needs) (λ c. search needs) (λ c. search needs))
+    tie.close (tie.spec (λ s at to₀ n i₀ to i. length to ≡ length to₀) (λ s at to₀ n i₀ to i. length to₀ - i) (λ c κs. search needs)
+    (λ c. search needs) (λ c κs. search needs) (λ c. search needs) (λ c. search needs) (λ c. search needs) (λ c. search needs)
+    (λ c. search needs) (λ c. search needs))

@@ -4,13 +4,7 @@ use lib.ListN.{length}
 use Rattle.cases.proofs.find.Statement.{statement}
 use Rattle.cases.proofs.find.Tie as tie
 
-abbrev Inv-loop : tie.InvT-loop
-Inv-loop s at b i₀ i = (at ≤ i) × (i ≤ length s)
-
-abbrev μ-loop : tie.MeasureT-loop
-μ-loop s at b i₀ i = length s - i
-
 pub find-spec : {M : Type 1} → statement M
 find-spec =
-    tie.close (tie.spec Inv-loop μ-loop (λ c. search needs) (λ c. search needs) (λ c. search needs) (λ c. search needs) (λ c. search needs)
-    (λ c. search needs) (λ c. search needs))
+    tie.close (tie.spec (λ s at b i₀ i. (at ≤ i) × (i ≤ length s)) (λ s at b i₀ i. length s - i) (λ c. search needs) (λ c. search needs)
+    (λ c. search needs) (λ c. search needs) (λ c. search needs) (λ c. search needs) (λ c. search needs))

@@ -5,14 +5,8 @@ use Rattle.text.specs.Text.{hexDigit}
 use Rattle.text.proofs.hex_digit.Statement.{statement}
 use Rattle.text.proofs.hex_digit.Tie as tie
 
-returns : tie.Need-returns
-unfolding hexDigit
-returns c = rw (lt-ltb _ _ (c .if1 .taken))
-
-returns-2 : tie.Need-returns-2
-unfolding hexDigit
-returns-2 c = rw (le-ltb _ _ (c .if1 .left))
-
 pub hex-digit-spec : {M : Type 1} → statement M
+unfolding hexDigit
 hex-digit-spec =
-    tie.close (tie.spec (λ c. search needs) (λ c. search needs) returns (λ c. search needs) (λ c. search needs) returns-2)
+    tie.close (tie.spec (λ c. search needs) (λ c. search needs) (λ c. rw (lt-ltb _ _ (c .if1 .taken))) (λ c. search needs)
+    (λ c. search needs) (λ c. rw (le-ltb _ _ (c .if1 .left))))

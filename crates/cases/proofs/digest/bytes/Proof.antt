@@ -4,13 +4,7 @@ use lib.ListN.{length}
 use Rattle.cases.proofs.digest.bytes.Statement.{statement}
 use Rattle.cases.proofs.digest.bytes.Tie as tie
 
-abbrev Inv-loop : tie.InvT-loop
-Inv-loop h xs h₀ i₀ h' i = Unit {0}
-
-abbrev μ-loop : tie.MeasureT-loop
-μ-loop h xs h₀ i₀ h' i = length xs - i
-
 pub bytes-spec : {M : Type 1} → statement M
 bytes-spec =
-    tie.close (tie.spec Inv-loop μ-loop (λ c. search needs) (λ c. search needs) (λ c κs. search needs) (λ c. search needs)
-    (λ c. search needs) (λ c. search needs) (λ c. search needs))
+    tie.close (tie.spec (λ h xs h₀ i₀ h' i. Unit {0}) (λ h xs h₀ i₀ h' i. length xs - i) (λ c. search needs) (λ c. search needs)
+    (λ c κs. search needs) (λ c. search needs) (λ c. search needs) (λ c. search needs) (λ c. search needs))

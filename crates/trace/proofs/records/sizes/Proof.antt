@@ -3,13 +3,7 @@ use Prim.Native.Nat.{_≤_, _-_}
 use Rattle.trace.proofs.records.sizes.Statement.{statement}
 use Rattle.trace.proofs.records.sizes.Tie as tie
 
-abbrev Inv-loop : tie.InvT-loop
-Inv-loop argsz i₀ i = i ≤ 8
-
-abbrev μ-loop : tie.MeasureT-loop
-μ-loop argsz i₀ i = 8 - i
-
 pub sizes-spec : {M : Type 1} → statement M
 sizes-spec =
-    tie.close (tie.spec Inv-loop μ-loop (λ c. search needs) (λ c. search needs) (λ c. search needs) (λ c κs. search needs)
-    (λ c. search needs) (λ c. search needs) (λ c. search needs) (λ c. search needs))
+    tie.close (tie.spec (λ argsz i₀ i. i ≤ 8) (λ argsz i₀ i. 8 - i) (λ c. search needs) (λ c. search needs) (λ c. search needs)
+    (λ c κs. search needs) (λ c. search needs) (λ c. search needs) (λ c. search needs) (λ c. search needs))
