@@ -12,6 +12,7 @@ use definition::RunAnswer;
 use progs::ExecutionContext;
 use progs::load;
 use server::Ran;
+use text::Line;
 
 // 0 past the end. (After an accepted load there are 36 cells or more.)
 fn cell_at(cells: &[u32], i: usize) -> u32
@@ -39,15 +40,17 @@ fn state_line(
     let c3 = cell_at(cells, 3);
     text::show_line(
         line,
-        answer,
-        count,
-        context.pc,
-        context.current_function,
-        context.depth,
-        context.saved,
-        c1,
-        c2,
-        c3,
+        Line {
+            answer,
+            count,
+            pc: context.pc,
+            function: context.current_function,
+            depth: context.depth,
+            saved: context.saved,
+            c1,
+            c2,
+            c3,
+        },
     )
 }
 
