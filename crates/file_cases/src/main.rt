@@ -17,9 +17,7 @@ fn show_case(
     requires { ⌜ 160 ≤ length (now line) ⌝ }
 {
     let size = cases::next_word(text, at);
-    let hex = cases::next_word(text, size);
-    let n = cases::count(text, size, file.len());
-    cases::bytes(text, hex, &mut file[..n]);
+    let n = cases::file(text, size, file);
     let end = shown::show(&file[..n], cells, saved, line);
     io::write_all(STDOUT_FILENO, &text[at..size]);
     io::write_all(STDOUT_FILENO, &line[..end]);

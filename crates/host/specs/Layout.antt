@@ -9,6 +9,8 @@ use Rattle.definition.specs.declared.StackFrame.{StackFrame}
 use Rattle.definition.specs.Machine.{zeroFrame}
 use Rattle.progs.specs.declared.ExecutionContext.{ExecutionContext}
 use Rattle.host.specs.declared.layout.Structs.{Structs}
+use Rattle.host.specs.declared.records.StatementReply.{StatementReply}
+use Rattle.host.specs.declared.records.FunctionReply.{FunctionReply}
 
 abbrev pub numberedLump : ℕ → ℕ → Lump
 numberedLump n m = record { offset = n; count = m }
@@ -45,26 +47,33 @@ numberedContext =
       frames = numberedFrames 31;
     }
 
+abbrev pub numberedStatement : StatementReply
+numberedStatement =
+    record { found = 100; refusal = 101; statement = record { opcode = 102; arg1 = 103; arg2 = 104; arg3 = 105 } }
+
+abbrev pub numberedFunction : FunctionReply
+numberedFunction =
+    record {
+      found = 106;
+      refusal = 107;
+      function =
+          record {
+            first = 108;
+            start = 109;
+            locals = 110;
+            name = 111;
+            srcfile = 112;
+            argc = 113;
+            argsz = 114 ∷ 115 ∷ 116 ∷ 117 ∷ 118 ∷ 119 ∷ 120 ∷ 121 ∷ [];
+          };
+    }
+
 abbrev pub numberedStructs : Structs
 numberedStructs =
     record {
       reply = record { context = numberedContext; word = 81; detail = 82; count = 83 };
       header = record { found = 84; refusal = 85; recorded = numberedFile 86 };
-      statement = record { found = 100; refusal = 101; statement = record { opcode = 102; arg1 = 103; arg2 = 104; arg3 = 105 } };
-      function =
-          record {
-            found = 106;
-            refusal = 107;
-            function =
-                record {
-                  first = 108;
-                  start = 109;
-                  locals = 110;
-                  name = 111;
-                  srcfile = 112;
-                  argc = 113;
-                  argsz = 114 ∷ 115 ∷ 116 ∷ 117 ∷ 118 ∷ 119 ∷ 120 ∷ 121 ∷ [];
-                };
-          };
+      statement = numberedStatement;
+      function = numberedFunction;
       definition = record { found = 122; refusal = 123; definition = record { kind = 124; offset = 125; name = 126 } };
     }

@@ -1,7 +1,7 @@
 // Where the fields of the structs lie. A host declares the structs again, and sees by a number of its own in each field whether its places are these.
 ghost use mathlib.Core.Path.{_≡_};
 ghost use Prim.Native.Nat.{_≤_};
-ghost use Rattle.host.specs.Layout.{numberedFile, numberedContext, numberedStructs};
+ghost use Rattle.host.specs.Layout.{numberedFile, numberedContext, numberedStatement, numberedFunction, numberedStructs};
 use crate::records::DefinitionReply;
 use crate::records::FunctionReply;
 use crate::records::HeaderReply;
@@ -87,13 +87,48 @@ fn numbered_context() -> ExecutionContext
     }
 }
 
+fn numbered_statement() -> StatementReply
+    ensures { λ r. ⌜ r ≡ numberedStatement ⌝ }
+{
+    StatementReply {
+        found: 100,
+        refusal: 101,
+        statement: Statement {
+            opcode: 102,
+            arg1: 103,
+            arg2: 104,
+            arg3: 105,
+        },
+    }
+}
+
+fn numbered_function() -> FunctionReply
+    ensures { λ r. ⌜ r ≡ numberedFunction ⌝ }
+{
+    let argsz = [114, 115, 116, 117, 118, 119, 120, 121];
+    FunctionReply {
+        found: 106,
+        refusal: 107,
+        function: FunctionDef {
+            first: 108,
+            start: 109,
+            locals: 110,
+            name: 111,
+            srcfile: 112,
+            argc: 113,
+            argsz,
+        },
+    }
+}
+
 #[no_mangle]
 pub extern "C" fn host_layout() -> Structs
     ensures { λ r. ⌜ r ≡ numberedStructs ⌝ }
 {
     let context = numbered_context();
     let recorded = numbered_file(86);
-    let argsz = [114, 115, 116, 117, 118, 119, 120, 121];
+    let statement = numbered_statement();
+    let function = numbered_function();
     Structs {
         reply: Replied {
             context,
@@ -106,29 +141,8 @@ pub extern "C" fn host_layout() -> Structs
             refusal: 85,
             recorded,
         },
-        statement: StatementReply {
-            found: 100,
-            refusal: 101,
-            statement: Statement {
-                opcode: 102,
-                arg1: 103,
-                arg2: 104,
-                arg3: 105,
-            },
-        },
-        function: FunctionReply {
-            found: 106,
-            refusal: 107,
-            function: FunctionDef {
-                first: 108,
-                start: 109,
-                locals: 110,
-                name: 111,
-                srcfile: 112,
-                argc: 113,
-                argsz,
-            },
-        },
+        statement,
+        function,
         definition: DefinitionReply {
             found: 122,
             refusal: 123,

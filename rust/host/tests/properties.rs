@@ -317,18 +317,40 @@ fn answer(
     }
 }
 
-#[derive(Default)]
+#[derive(Debug, Default)]
 struct Answers {
     handed: u32,
     panics: u32,
+    /// How deep the calls of hosts are at present.
     nested: u32,
     nested_calls: u32,
+    ended: u32,
+    failed: u32,
+    caught: u32,
+}
+
+/// One call on the machine, which is then as it was, however the call ended.
+fn call_and_compare(chance: &mut Chance, machine: &mut Machine, seen: &mut Answers) {
+    let before = *machine.context();
+    let (function, limit) = (chance.between(-1, 8), chance.between(1, 200));
+    seen.nested = 0;
+    let called = catch_unwind(AssertUnwindSafe(|| {
+        machine.call(function, limit, |_, machine| answer(chance, machine, seen))
+    }));
+    match called {
+        Ok(Ok(count)) => seen.ended += u32::from(count > 0),
+        Ok(Err(error)) => {
+            seen.failed += 1;
+            assert!(i64::from(error.count) <= limit);
+        }
+        Err(_panic) => seen.caught += 1,
+    }
+    assert_eq!(machine.context(), &before);
 }
 
 /// Calls leave the depth where it was, and the position, however they end.
 #[test]
 fn calls_leave_the_depth() {
-    let (mut ended, mut failed, mut caught) = (0, 0, 0);
     let mut seen = Answers::default();
     for seed in 0..3_000 {
         let mut chance = Chance::new(3_000_000 + seed);
@@ -340,36 +362,12 @@ fn calls_leave_the_depth() {
             if chance.one_in(3) {
                 machine.enter(chance.between(0, 7)).ok();
             }
-            let before = *machine.context();
-            let (function, limit) = (chance.between(-1, 8), chance.between(1, 200));
-            seen.nested = 0;
-            let called = catch_unwind(AssertUnwindSafe(|| {
-                machine.call(function, limit, |_, machine| {
-                    answer(&mut chance, machine, &mut seen)
-                })
-            }));
-            match called {
-                Ok(Ok(count)) => ended += u32::from(count > 0),
-                Ok(Err(error)) => {
-                    failed += 1;
-                    assert!(i64::from(error.count) <= limit);
-                }
-                Err(_panic) => caught += 1,
-            }
-            assert_eq!(machine.context(), &before);
+            call_and_compare(&mut chance, &mut machine, &mut seen);
         }
     }
-    assert!(
-        ended > 300 && failed > 3_000 && caught > 100,
-        "{ended} {failed} {caught}"
-    );
-    assert!(
-        seen.handed > 1_000 && seen.panics > 100 && seen.nested_calls > 50,
-        "{} {} {}",
-        seen.handed,
-        seen.panics,
-        seen.nested_calls
-    );
+    assert!(seen.ended > 300 && seen.failed > 3_000, "{seen:?}");
+    assert!(seen.caught > 100 && seen.handed > 1_000, "{seen:?}");
+    assert!(seen.panics > 100 && seen.nested_calls > 50, "{seen:?}");
 }
 
 /// What the assembler put in comes out again.

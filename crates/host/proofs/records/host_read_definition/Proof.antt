@@ -7,16 +7,10 @@ use borrow.Author.Needs.{needs}
 use Rattle.host.proofs.records.host_read_definition.Statement.{statement}
 use Rattle.host.proofs.records.host_read_definition.Tie as tie
 
-read-definition-requires : tie.Need-read-definition-requires
-read-definition-requires c κs = search needs
-
-reply-definition-requires : tie.Need-reply-definition-requires
-reply-definition-requires c κs = search needs
-
 returns : tie.Need-returns
 returns c =
     let fits : SFits w64 (c .before .before .before .args .index) = search needs in
     c .reply-definition .ensures ∙ ap definitionReply (rw (toZ-ofZ fits) at (c .before .read-definition .ensures))
 
 pub host-read-definition-spec : {M : Type 1} → statement M
-host-read-definition-spec = tie.close (tie.spec read-definition-requires reply-definition-requires returns)
+host-read-definition-spec = tie.close (tie.spec (λ c κs. search needs) (λ c κs. search needs) returns)

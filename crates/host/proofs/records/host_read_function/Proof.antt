@@ -7,16 +7,10 @@ use borrow.Author.Needs.{needs}
 use Rattle.host.proofs.records.host_read_function.Statement.{statement}
 use Rattle.host.proofs.records.host_read_function.Tie as tie
 
-read-function-requires : tie.Need-read-function-requires
-read-function-requires c κs = search needs
-
-reply-function-requires : tie.Need-reply-function-requires
-reply-function-requires c κs = search needs
-
 returns : tie.Need-returns
 returns c =
     let fits : SFits w64 (c .before .before .before .args .id) = search needs in
     c .reply-function .ensures ∙ ap functionReply (rw (toZ-ofZ fits) at (c .before .read-function .ensures))
 
 pub host-read-function-spec : {M : Type 1} → statement M
-host-read-function-spec = tie.close (tie.spec read-function-requires reply-function-requires returns)
+host-read-function-spec = tie.close (tie.spec (λ c κs. search needs) (λ c κs. search needs) returns)
