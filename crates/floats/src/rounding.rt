@@ -92,7 +92,10 @@ fn round_by(to: To, x: u32) -> u32
     }
     let p = split(x);
     let negative = x >= 0x8000_0000;
-    put_whole(negative, p.n + one_if(p.some & goes_up(to, negative, p.half)))
+    put_whole(
+        negative,
+        p.n + one_if(p.some & goes_up(to, negative, p.half)),
+    )
 }
 
 pub fn floor(x: u32) -> u32
