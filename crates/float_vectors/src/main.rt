@@ -1,8 +1,11 @@
 // Runs the cases on standard input through the compiled functions of `floats`, and compares each result with the case's own.
-// A case is a line of eight hexadecimal numbers: the opcode, three cells of the first operand, three of the second, the result.
+// A case is a line of eight hexadecimal numbers: the opcode, three cells of the first operand, three of the second, the result. A rounding builtin has its
+// number and 80 for an opcode.
 // tools/float_vectors.py writes them, from a model of its own.
 use libc::STDIN_FILENO;
 use libc::STDOUT_FILENO;
+
+const ROUNDINGS: u16 = 128;
 
 enum Outcome {
     Same,
@@ -14,6 +17,9 @@ enum Outcome {
 fn result(op: u16, a0: u32, a1: u32, a2: u32, b0: u32, b1: u32, b2: u32) -> u32 {
     if op == 45 {
         return floats::not_v(a0, a1, a2);
+    }
+    if op >= ROUNDINGS {
+        return floats::rounding::rounding((op - ROUNDINGS) as u32, a0);
     }
     let scalar = floats::float_op(op, a0, b0)
         | floats::component_op(op, a0, b0)
