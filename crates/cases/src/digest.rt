@@ -79,6 +79,6 @@ fn frames(frames: [StackFrame; 31]) -> u64 {
     h
 }
 
-pub fn digest(stack: [StackFrame; 31], cells: &[u32], saved: &[u32]) -> u64 {
-    words(words(frames(stack), cells), saved)
+pub fn digest(stack: [StackFrame; 31], cells: &[u32], store: &[u32]) -> u64 {
+    words(words(frames(stack), cells), store)
 }
