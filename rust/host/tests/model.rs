@@ -120,7 +120,7 @@ fn whole_files() {
         );
         count += 1;
     }
-    assert_eq!(count, 354);
+    assert_eq!(count, 373);
 }
 
 /// One vector of statements.txt on the file that holds.
