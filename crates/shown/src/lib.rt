@@ -8,11 +8,15 @@ ghost use Rattle.server.specs.Stepping.{ranOf};
 ghost use Rattle.text.specs.Output.{output, atFront};
 ghost use Rattle.shown.specs.Shown.{stateLine, enteredAndRun, shown, printed, atFrontOf};
 use definition::Answer;
+use definition::GREATEST_LIMIT;
 use definition::RunAnswer;
 use progs::ExecutionContext;
 use progs::load;
 use server::Ran;
 use text::Line;
+
+// "a file of at most 65,536 bytes"
+pub const LONGEST_INPUT: usize = 65_536;
 
 // 0 past the end. (After an accepted load there are 36 cells or more.)
 fn cell_at(cells: &[u32], i: usize) -> u32
@@ -74,7 +78,14 @@ fn enter_and_run(
                 count: 0,
             };
         }
-        Answer::Accepted => return server::run(context, file, 0, 99999, cells, saved),
+        Answer::Accepted => return server::run(
+            context,
+            file,
+            0,
+            GREATEST_LIMIT as i64,
+            cells,
+            saved,
+        ),
     }
 }
 
@@ -84,7 +95,7 @@ pub fn show(file: &[u8], cells: &mut [u32], saved: &mut [u32], line: &mut [u8]) 
     ensures { λ r. ⌜ printed (output (now (line .exit)) r) (now (cells .exit)) (now (saved .exit)) ≡ atFrontOf (now (line .entry)) (shown (now (file .entry)) (now (cells .entry)) (now (saved .entry))) ⌝ }
     ensures { λ r. ⌜ r ≤ 160 ⌝ }
 {
-    if 65536 < file.len() {
+    if LONGEST_INPUT < file.len() {
         return text::refused_line(line, 1);
     }
     let loaded = load::load(file, cells, saved);

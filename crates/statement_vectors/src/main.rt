@@ -1,6 +1,8 @@
 // Runs the statements on standard input through the compiled fetch and `execution::execute`, and compares the answer and all cells with those given.
 // tools/statement_vectors.py writes the lines, of a letter and two hexadecimal numbers, and says what they mean.
+use definition::HEADER_LENGTH;
 use definition::Handover;
+use definition::MOST_CELLS;
 use execution::Executed;
 use functions::fetch;
 use functions::fetch::Fetched;
@@ -8,10 +10,8 @@ use functions::header;
 use libc::STDIN_FILENO;
 use libc::STDOUT_FILENO;
 
-// The longest file of the cases has 131,801 bytes, and 32,768 cells.
+// The longest file of the cases has 131,801 bytes.
 const BYTES: usize = 140000;
-
-const CELLS: usize = 32768;
 
 // What a line does: it gives part of a case, or a file of a size; or a case is run.
 enum Step {
@@ -24,7 +24,7 @@ enum Step {
 
 // What the statement at position 0 does: refused 13 where the lumps don't lie in the file, or the cells are too few or the file's too many.
 fn executed(file: &[u8], cells: &mut [u32]) -> Executed {
-    if file.len() < 60 {
+    if file.len() < HEADER_LENGTH {
         return Executed::Refused(13);
     }
     let record = header::file_of(file);
@@ -38,7 +38,7 @@ fn executed(file: &[u8], cells: &mut [u32]) -> Executed {
     if cells.len() < globals.count {
         return Executed::Refused(13);
     }
-    if 32768 < globals.count {
+    if MOST_CELLS < globals.count {
         return Executed::Refused(13);
     }
     let fetched = fetch::fetch(file, statements.offset, statements.count, 0);
@@ -226,8 +226,8 @@ fn run_lines(file: &mut [u8], cells: &mut [u32], want: &mut [u32]) -> Counts {
 
 fn main() {
     let mut file = [0u8; BYTES];
-    let mut cells = [0u32; CELLS];
-    let mut want = [0u32; CELLS];
+    let mut cells = [0u32; MOST_CELLS];
+    let mut want = [0u32; MOST_CELLS];
     let c = run_lines(&mut file, &mut cells, &mut want);
     vectors::report(c.cases, c.differ);
 }
