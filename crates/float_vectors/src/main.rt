@@ -1,6 +1,7 @@
 // Runs the cases on standard input through the compiled functions of `floats`, and compares each result with the case's own.
 // A case is a line of eight hexadecimal numbers: the opcode, three cells of the first operand, three of the second, the result.
 // tools/float_vectors.py writes them, from a model of its own.
+use functions::ops;
 use libc::STDIN_FILENO;
 use libc::STDOUT_FILENO;
 
@@ -12,7 +13,7 @@ enum Outcome {
 
 // Each function by opcode gives 0 for the opcodes of the others. NotV is in none of them.
 fn result(op: u16, a0: u32, a1: u32, a2: u32, b0: u32, b1: u32, b2: u32) -> u32 {
-    if op == 45 {
+    if op == ops::NOT_V {
         return floats::not_v(a0, a1, a2);
     }
     let scalar = floats::float_op(op, a0, b0)
