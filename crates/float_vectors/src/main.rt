@@ -4,6 +4,8 @@
 use functions::ops;
 use libc::STDIN_FILENO;
 use libc::STDOUT_FILENO;
+use vectors::Counts;
+use vectors::MOST_LINES;
 
 enum Outcome {
     Same,
@@ -50,16 +52,10 @@ fn run_case() -> Outcome {
     Outcome::Differs
 }
 
-struct Counts {
-    cases: u64,
-    differ: u64,
-}
-
-// A proved loop has to end, and nothing says that the input does: it ends after a million cases.
 fn run_cases() -> Counts {
     let mut cases: u64 = 0;
     let mut differ: u64 = 0;
-    while cases < 1000000 {
+    while cases < MOST_LINES {
         match run_case() {
             Outcome::Same => cases += 1,
             Outcome::Differs => {
@@ -73,6 +69,5 @@ fn run_cases() -> Counts {
 }
 
 fn main() {
-    let c = run_cases();
-    vectors::report(c.cases, c.differ);
+    vectors::report(run_cases());
 }
