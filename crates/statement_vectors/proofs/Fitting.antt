@@ -1,6 +1,6 @@
 -- What a header whose lumps lie in the file gives to fetch and execution. Assumes nothing.
 use Prim.Native.Nat.{ℕ, zero, suc, _*_, _-_, _≤_, _<_}
-use mathlib.Core.Path.{_≡_, refl, ap, subst, sym, _∙_}
+use mathlib.Core.Path.{_≡_, refl, ap, subst, sym}
 use mathlib.Core.List.{List}
 use mathlib.Core.Bool.{Bool, true, false, not}
 use native.Mathlib.Omega.{arith}
