@@ -44,7 +44,7 @@ def floats_with_definitions(turns):
 
 
 def branches(turns):
-    """The statements of tools/instructions.py's first row, within the counted loop."""
+    """Floats, comparisons and jumps, within the counted loop."""
     body = [("AddF", SUM, ONE, SUM), ("MulF", SUM, PRODUCT, 47), ("Lt", 47, SUM, 48), ("IfNot", 48, 1), ("Goto", 1), ("SubF", 47, SUM, 49),
             ("EqF", 49, ONE, 50), ("If", 50, 1)]
     return loop(body, turns)
@@ -87,3 +87,31 @@ PROGRAMS = [
     ("floats, comparisons and jumps", branches, 700, 9000),
     ("a rule file of fteqcc, 220 definitions", rule_file, 50, 1000),
 ]
+
+
+
+def function_of(*statements):
+    """A file whose function 1 has these statements, and function 2 is builtin 7; cell 28 names it."""
+    functions = [model.function(), model.function(first=1), model.function(first=-7, arguments=-1)]
+    return bytes(model.Assembly(statements=[("Done",), *statements], functions=functions, cells={28: 2}).bytes())
+
+
+def returning():
+    return function_of(("Return", 28))
+
+
+def calling_a_builtin():
+    return function_of(("Call0", 28), ("Return", 1))
+
+
+# name, what rust/host/examples/bench.rs is told to do, file, what it must print for a number of times
+OPERATIONS = [
+    ("a call of a function that returns at once", "call", returning, lambda times: times),
+    ("a call of a function that calls one builtin", "call", calling_a_builtin, lambda times: 2 * times),
+    ("a raw read", "read", returning, lambda times: 2 * times),
+    ("a raw write", "write", returning, lambda times: times - 1),
+]
+
+# how many times, to count instructions and to take the time
+FEW = (1_000, 11_000)
+MANY = (20_000, 320_000)

@@ -29,7 +29,7 @@ def main():
         with tempfile.TemporaryDirectory() as folder:
             runs = [prepared(engine, folder, make, turns) for turns in (short, long)]
             each = measure.instructions(engine, *runs)
-        print(f"{name}: {each:.1f} instructions a statement ({runs[0].statements} and {runs[1].statements} statements)", flush=True)
+        print(f"{name}: {each:.1f} instructions a statement ({runs[0].count} and {runs[1].count} statements)", flush=True)
 
 
 if __name__ == "__main__":

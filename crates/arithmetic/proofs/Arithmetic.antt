@@ -4,13 +4,13 @@ use mathlib.Core.Path.{_≡_, refl, sym}
 use mathlib.Core.List.{List, []}
 use mathlib.Core.Bool.{Bool, true, false, true≢false, _&&_, cond}
 use native.Mathlib.Omega.{arith}
-use lib.ListN.{getD, set}
+use lib.ListN.{length, getD, set}
 use lib.Dec.{eqb, ltb}
 use borrow.Author.Tests.{eqb-true, lt-ltb, ltb-true}
 use Rattle.definition.specs.Checks.{judge}
 use Rattle.definition.specs.File.{records}
 use Rattle.definition.specs.Cells.{Typing, cellOf, lookup, passes, cellAccess, access}
-use Rattle.definition.specs.Statements.{floatsEffect, vectorsEffect, dotsEffect, vectorResult}
+use Rattle.definition.specs.Statements.{floatsEffect, vectorsEffect, vectorsToFloatEffect, vectorResult}
 use Rattle.typed.specs.Typing.{typing}
 use Rattle.typed.specs.Checking.{first, threeRefusal, Reaches}
 use Rattle.typed.specs.Laws.{neither, judge-three, reach}
@@ -25,11 +25,11 @@ module _ (g : Typing) (a b c : ℕ) (cells : List ℕ) where
   unfolding vectorsEffect
   vectors-is ta tb f = record { refusal-is = judge-three (access g ta a) (access g tb b) (access g 3 c); cells-are = refl }
 
-  pub dots-is : (f : ℕ → ℕ → ℕ → ℕ → ℕ → ℕ → ℕ)
-      → Is (dotsEffect f g a b c cells) (threeRefusal g 3 a 3 b 2 c)
+  pub vectors-to-float-is : (f : ℕ → ℕ → ℕ → ℕ → ℕ → ℕ → ℕ)
+      → Is (vectorsToFloatEffect f g a b c cells) (threeRefusal g 3 a 3 b 2 c)
       (set cells c (f (getD cells a 0) (getD cells (a + 1) 0) (getD cells (a + 2) 0) (getD cells b 0) (getD cells (b + 1) 0) (getD cells (b + 2) 0)))
-  unfolding dotsEffect
-  dots-is f = record { refusal-is = judge-three (access g 3 a) (access g 3 b) (access g 2 c); cells-are = refl }
+  unfolding vectorsToFloatEffect
+  vectors-to-float-is f = record { refusal-is = judge-three (access g 3 a) (access g 3 b) (access g 2 c); cells-are = refl }
 
 pub reach-three : (g : Typing) (ta a tb b tc c : ℕ) → threeRefusal g ta a tb b tc c ≡ 0
     → Reaches ta a (g .count) × Reaches tb b (g .count) × Reaches tc c (g .count)
@@ -62,29 +62,29 @@ and-both : (a b : Bool) → a && b ≡ true → (a ≡ true) × (b ≡ true)
 and-both true b e = (refl, e)
 and-both false b e = absurd (true≢false (sym e))
 
-pub untyped-three : (file : List ℕ) (defs ndefs count x y z : ℕ) → count ≤ 32768
-    → ((eqb ndefs 0 && ltb x count) && ltb y count) && ltb z count ≡ true
-    → 0 ≡ threeRefusal (typing file defs ndefs count) 2 (cellOf x) 2 (cellOf y) 2 (cellOf z)
+pub untyped-three : (defs : List ℕ) (count x y z : ℕ) → count ≤ 32768
+    → ((eqb (length defs) 0 && ltb x count) && ltb y count) && ltb z count ≡ true
+    → 0 ≡ threeRefusal (typing defs count) 2 (cellOf x) 2 (cellOf y) 2 (cellOf z)
 unfolding first records
-untyped-three file defs ndefs count x y z most e =
+untyped-three defs count x y z most e =
     let h = and-both _ _ e in
     let k = and-both _ _ (h .0) in
     let l = and-both _ _ (k .0) in
     let p = ltb-true x count (l .1) in
     let q = ltb-true y count (k .1) in
     let r = ltb-true z count (h .1) in
-    rw (eqb-true ndefs 0 (l .0), own-cell count most x p, own-cell count most y q, own-cell count most z r, untyped count x p, untyped count y q, untyped count z r)
+    rw (eqb-true (length defs) 0 (l .0), own-cell count most x p, own-cell count most y q, own-cell count most z r, untyped count x p, untyped count y q, untyped count z r)
 
 -- operands that pass name their own cells, below the count
-pub record Own (count x : ℕ) : Type 0 where
+pub record OwnCell (count x : ℕ) : Type 0 where
   pub own : cellOf x ≡ x
   pub below : x < count
 
-own-at : (count x : ℕ) → count ≤ 32768 → cellOf x < count → Own count x
+own-at : (count x : ℕ) → count ≤ 32768 → cellOf x < count → OwnCell count x
 own-at count x most h = let e = cell-own count most x h in record { own = e; below = rw e at h }
 
 pub own-three : (g : Typing) (x y z : ℕ) → g .count ≤ 32768 → threeRefusal g 2 (cellOf x) 2 (cellOf y) 2 (cellOf z) ≡ 0
-    → Own (g .count) x × Own (g .count) y × Own (g .count) z
+    → OwnCell (g .count) x × OwnCell (g .count) y × OwnCell (g .count) z
 own-three g x y z most e =
     let h = reach-three g 2 (cellOf x) 2 (cellOf y) 2 (cellOf z) e in
     (own-at (g .count) x most (h .0 .first-below), own-at (g .count) y most (h .1 .first-below), own-at (g .count) z most (h .2 .first-below))

@@ -5,56 +5,41 @@ ghost use mathlib.Core.Path.{_≡_};
 ghost use Prim.Native.Nat.{_+_, _-_, _*_, _≤_, _<_};
 ghost use lib.ListN.{length, getD, set};
 ghost use Rattle.definition.specs.Cells.{float, cellOf};
-ghost use Rattle.definition.specs.Statements.{floatsEffect, vectorsEffect, dotsEffect, component, vectorResult};
-ghost use Rattle.floats.specs.Opcodes.{floatOp, componentOp, dotOp};
+ghost use Rattle.definition.specs.Statements.{floatsEffect, vectorsEffect, vectorsToFloatEffect, component, vectorResult};
+ghost use Rattle.floats.specs.Opcodes.{floatOp, componentOp, vectorsToFloatOp};
 ghost use Rattle.typed.specs.Typing.{typing};
 ghost use Rattle.typed.specs.Checking.{threeRefusal, Reaches};
 ghost use Rattle.globals.specs.Effects.{after, effectOn};
 
 // The commonest accesses: three cells, each as a float.
-fn check_floats(
-    file: &[u8],
-    defs: usize,
-    ndefs: usize,
-    count: usize,
-    a: usize,
-    b: usize,
-    c: usize,
-) -> u8
-    requires { ⌜ 8 * ndefs ≤ length (now file) - defs ⌝ }
-    ensures { λ r. ⌜ r ≡ threeRefusal (typing (now (file .entry)) defs ndefs count) float a float b float c ⌝ }
+fn check_floats(defs: &[u8], count: usize, a: usize, b: usize, c: usize) -> u8
+    ensures { λ r. ⌜ r ≡ threeRefusal (typing (now (defs .entry)) count) float a float b float c ⌝ }
 {
-    let x = typed::check_cell(file, defs, ndefs, count, typed::FLOAT, a);
+    let x = typed::check_cell(defs, count, typed::FLOAT, a);
     if x != 0 {
         return x;
     }
-    let y = typed::check_cell(file, defs, ndefs, count, typed::FLOAT, b);
+    let y = typed::check_cell(defs, count, typed::FLOAT, b);
     if y != 0 {
         return y;
     }
-    typed::check_cell(file, defs, ndefs, count, typed::FLOAT, c)
+    typed::check_cell(defs, count, typed::FLOAT, c)
 }
 
 // The same of operands. Where there are no definitions, one below the count passes and is its own cell.
-fn check_operands(
-    file: &[u8],
-    defs: usize,
-    ndefs: usize,
-    count: usize,
-    x: u16,
-    y: u16,
-    z: u16,
-) -> u8
-    requires { ⌜ (8 * ndefs ≤ length (now file) - defs) × (count ≤ 32768) ⌝ }
-    ensures { λ r. ⌜ r ≡ threeRefusal (typing (now (file .entry)) defs ndefs count) float (cellOf x) float (cellOf y) float (cellOf z) ⌝ }
+fn check_operands(defs: &[u8], count: usize, x: u16, y: u16, z: u16) -> u8
+    requires { ⌜ (count ≤ 32768) ⌝ }
+    ensures { λ r. ⌜ r ≡ threeRefusal (typing (now (defs .entry)) count) float (cellOf x) float (cellOf y) float (cellOf z) ⌝ }
 {
-    if (ndefs == 0) & ((x as usize) < count) & ((y as usize) < count) & ((z as usize) < count) {
+    if (defs.len() == 0)
+        & ((x as usize) < count)
+        & ((y as usize) < count)
+        & ((z as usize) < count)
+    {
         return 0;
     }
     check_floats(
-        file,
         defs,
-        ndefs,
         count,
         fetch::cell_of(x),
         fetch::cell_of(y),
@@ -71,9 +56,7 @@ fn apply_floats(cells: &mut [u32], op: u16, a: usize, b: usize, c: usize)
 
 // op_mul_f, op_div, op_add_f, op_sub_f, op_eq_f, op_ne_f, op_le, op_ge, op_lt, op_gt, op_and, op_or, op_bit_and, op_bit_or.
 pub fn op_floats(
-    file: &[u8],
-    defs: usize,
-    ndefs: usize,
+    defs: &[u8],
     count: usize,
     cells: &mut [u32],
     op: u16,
@@ -81,10 +64,10 @@ pub fn op_floats(
     y: u16,
     z: u16,
 ) -> Answer
-    requires { ⌜ (8 * ndefs ≤ length (now file) - defs) × (count ≤ length (now cells)) × (count ≤ 32768) ⌝ }
-    ensures { λ r. ⌜ after r (now (cells .exit)) ≡ effectOn (floatsEffect (floatOp op) (typing (now (file .entry)) defs ndefs count) (cellOf x) (cellOf y) (cellOf z) (now (cells .entry))) (now (cells .entry)) ⌝ }
+    requires { ⌜ (count ≤ length (now cells)) × (count ≤ 32768) ⌝ }
+    ensures { λ r. ⌜ after r (now (cells .exit)) ≡ effectOn (floatsEffect (floatOp op) (typing (now (defs .entry)) count) (cellOf x) (cellOf y) (cellOf z) (now (cells .entry))) (now (cells .entry)) ⌝ }
 {
-    let refusal = check_operands(file, defs, ndefs, count, x, y, z);
+    let refusal = check_operands(defs, count, x, y, z);
     if refusal != 0 {
         return Answer::Refused(refusal);
     }
@@ -118,9 +101,7 @@ fn apply_vectors(cells: &mut [u32], op: u16, ta: u16, a: usize, tb: u16, b: usiz
 
 // op_mul_fv, op_mul_vf, op_add_v, op_sub_v; ta and tb are the operands' types.
 pub fn op_vectors(
-    file: &[u8],
-    defs: usize,
-    ndefs: usize,
+    defs: &[u8],
     count: usize,
     cells: &mut [u32],
     op: u16,
@@ -130,10 +111,10 @@ pub fn op_vectors(
     b: usize,
     c: usize,
 ) -> Answer
-    requires { ⌜ (8 * ndefs ≤ length (now file) - defs) × (count ≤ length (now cells)) ⌝ }
-    ensures { λ r. ⌜ after r (now (cells .exit)) ≡ effectOn (vectorsEffect ta tb (componentOp op) (typing (now (file .entry)) defs ndefs count) a b c (now (cells .entry))) (now (cells .entry)) ⌝ }
+    requires { ⌜ count ≤ length (now cells) ⌝ }
+    ensures { λ r. ⌜ after r (now (cells .exit)) ≡ effectOn (vectorsEffect ta tb (componentOp op) (typing (now (defs .entry)) count) a b c (now (cells .entry))) (now (cells .entry)) ⌝ }
 {
-    let refusal = typed::check_three(file, defs, ndefs, count, ta, a, tb, b, typed::VECTOR, c);
+    let refusal = typed::check_three(defs, count, ta, a, tb, b, typed::VECTOR, c);
     if refusal != 0 {
         return Answer::Refused(refusal);
     }
@@ -141,11 +122,11 @@ pub fn op_vectors(
     Answer::Accepted
 }
 
-fn apply_dots(cells: &mut [u32], op: u16, a: usize, b: usize, c: usize)
+fn apply_vectors_to_float(cells: &mut [u32], op: u16, a: usize, b: usize, c: usize)
     requires { ⌜ (a + 2 < length (now cells)) × (b + 2 < length (now cells)) × (c < length (now cells)) ⌝ }
-    ensures { λ _. ⌜ now (cells .exit) ≡ set (now (cells .entry)) c (dotOp op (getD (now (cells .entry)) a 0) (getD (now (cells .entry)) (a + 1) 0) (getD (now (cells .entry)) (a + 2) 0) (getD (now (cells .entry)) b 0) (getD (now (cells .entry)) (b + 1) 0) (getD (now (cells .entry)) (b + 2) 0)) ⌝ }
+    ensures { λ _. ⌜ now (cells .exit) ≡ set (now (cells .entry)) c (vectorsToFloatOp op (getD (now (cells .entry)) a 0) (getD (now (cells .entry)) (a + 1) 0) (getD (now (cells .entry)) (a + 2) 0) (getD (now (cells .entry)) b 0) (getD (now (cells .entry)) (b + 1) 0) (getD (now (cells .entry)) (b + 2) 0)) ⌝ }
 {
-    cells[c] = floats::dot_op(
+    cells[c] = floats::vectors_to_float_op(
         op,
         cells[a],
         cells[a + 1],
@@ -157,10 +138,8 @@ fn apply_dots(cells: &mut [u32], op: u16, a: usize, b: usize, c: usize)
 }
 
 // op_mul_v, op_eq_v, op_ne_v.
-pub fn op_dots(
-    file: &[u8],
-    defs: usize,
-    ndefs: usize,
+pub fn op_vectors_to_float(
+    defs: &[u8],
     count: usize,
     cells: &mut [u32],
     op: u16,
@@ -168,13 +147,11 @@ pub fn op_dots(
     b: usize,
     c: usize,
 ) -> Answer
-    requires { ⌜ (8 * ndefs ≤ length (now file) - defs) × (count ≤ length (now cells)) ⌝ }
-    ensures { λ r. ⌜ after r (now (cells .exit)) ≡ effectOn (dotsEffect (dotOp op) (typing (now (file .entry)) defs ndefs count) a b c (now (cells .entry))) (now (cells .entry)) ⌝ }
+    requires { ⌜ count ≤ length (now cells) ⌝ }
+    ensures { λ r. ⌜ after r (now (cells .exit)) ≡ effectOn (vectorsToFloatEffect (vectorsToFloatOp op) (typing (now (defs .entry)) count) a b c (now (cells .entry))) (now (cells .entry)) ⌝ }
 {
     let refusal = typed::check_three(
-        file,
         defs,
-        ndefs,
         count,
         typed::VECTOR,
         a,
@@ -186,6 +163,6 @@ pub fn op_dots(
     if refusal != 0 {
         return Answer::Refused(refusal);
     }
-    apply_dots(cells, op, a, b, c);
+    apply_vectors_to_float(cells, op, a, b, c);
     Answer::Accepted
 }

@@ -11,27 +11,27 @@ use Rattle.definition.specs.Machine.{Config}
 use Rattle.definition.specs.Load.{load, programOf}
 use Rattle.definition.specs.Calls.{Call, after, smallSteps}
 use Rattle.definition.specs.Log.{Log}
-use Rattle.definition.specs.Along.{StepClaim, logAlong, Through}
-use Rattle.definition.specs.Returns.{Standing, Holds, Demand3}
-use Rattle.definition.specs.ReturnsHold.{demand3}
+use Rattle.definition.specs.Trace.{StepProperty, logAfterSteps, Always}
+use Rattle.definition.specs.Returns.{DepthsMatch, StepCorrect, Demand3}
+use Rattle.definition.specs.ReturnsProof.{demand3}
 use Rattle.call_list.specs.Encoding.{wellFormed, decoded, afterAll, Outcome, performed}
 
 -- the log after all of a list
 unfoldable pub logAll : List ℕ → List Call → Config → Log → Log
 logAll file [] c l = l
-logAll file (k ∷ ks) c l = logAll file ks (after (programOf file) k c) (logAlong file k c l (smallSteps (programOf file) k c))
+logAll file (k ∷ ks) c l = logAll file ks (after (programOf file) k c) (logAfterSteps file k c l (smallSteps (programOf file) k c))
 
 -- what holds after each call holds after the last
-last : (file : List ℕ) (Step : StepClaim) (At : Config → Log → Type 0) (c : Config) (l : Log) (ks : List Call) → Through file Step At c l ks → At (afterAll (programOf file) ks c) (logAll file ks c l)
+last : (file : List ℕ) (Step : StepProperty) (At : Config → Log → Type 0) (c : Config) (l : Log) (ks : List Call) → Always file Step At c l ks → At (afterAll (programOf file) ks c) (logAll file ks c l)
 unfolding afterAll logAll
 last file Step At c l [] t = t
-last file Step At c l (k ∷ ks) t = last file Step At (after (programOf file) k c) (logAlong file k c l (smallSteps (programOf file) k c)) ks (t .3)
+last file Step At c l (k ∷ ks) t = last file Step At (after (programOf file) k c) (logAfterSteps file k c l (smallSteps (programOf file) k c)) ks (t .3)
 
 -- "for every list of calls after one accepted load": of the configuration that performing the list leaves
 pub list-returns : (file cells saved : List ℕ) (c : Config) → load file cells saved ≡ accepted c
     → (list : List ℤ) (answers : List ℕ) (o : Outcome) → wellFormed list (length answers) ≡ true → o ≡ performed (programOf file) list c answers
-    → Through file (Holds file) (Standing file) c [] (decoded list) × Standing file (o .config) (logAll file (decoded list) c [])
+    → Always file (StepCorrect file) (DepthsMatch file) c [] (decoded list) × DepthsMatch file (o .config) (logAll file (decoded list) c [])
 unfolding performed Demand3
 list-returns file cells saved c e list answers o w p =
-    let through = demand3 file cells saved c e (decoded list) in
-    (through, rw (p, w) (last file (Holds file) (Standing file) c [] (decoded list) through))
+    let always = demand3 file cells saved c e (decoded list) in
+    (always, rw (p, w) (last file (StepCorrect file) (DepthsMatch file) c [] (decoded list) always))

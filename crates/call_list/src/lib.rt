@@ -54,28 +54,25 @@ pub struct Listed {
     pub answer: ListAnswer,
 }
 
+fn reply(context: ExecutionContext, word: u32, detail: u32, count: u32) -> Replied
+    ensures { λ r. ⌜ r ≡ answering context (record { word = word; detail = detail; count = count }) ⌝ }
+{
+    Replied {
+        context,
+        word,
+        detail,
+        count,
+    }
+}
+
 pub fn reply_answer(a: Answered) -> Replied
     ensures { λ r. ⌜ r ≡ answering (a .context) (answerReply (a .answer)) ⌝ }
 {
     let context = a.context;
     let answer = a.answer;
     match answer {
-        Answer::Accepted => {
-            return Replied {
-                context,
-                word: ACCEPTED,
-                detail: 0,
-                count: 0,
-            };
-        }
-        Answer::Refused(n) => {
-            return Replied {
-                context,
-                word: REFUSED,
-                detail: n as u32,
-                count: 0,
-            };
-        }
+        Answer::Accepted => return reply(context, ACCEPTED, 0, 0),
+        Answer::Refused(n) => return reply(context, REFUSED, n as u32, 0),
     }
 }
 
@@ -83,22 +80,8 @@ pub fn reply_read(context: ExecutionContext, answer: ReadAnswer) -> Replied
     ensures { λ r. ⌜ r ≡ answering context (readReply answer) ⌝ }
 {
     match answer {
-        ReadAnswer::Value(v) => {
-            return Replied {
-                context,
-                word: ACCEPTED,
-                detail: v,
-                count: 0,
-            };
-        }
-        ReadAnswer::Refused(n) => {
-            return Replied {
-                context,
-                word: REFUSED,
-                detail: n as u32,
-                count: 0,
-            };
-        }
+        ReadAnswer::Value(v) => return reply(context, ACCEPTED, v, 0),
+        ReadAnswer::Refused(n) => return reply(context, REFUSED, n as u32, 0),
     }
 }
 
@@ -106,22 +89,8 @@ fn reply_handover(context: ExecutionContext, handed: Handover, count: u32) -> Re
     ensures { λ r. ⌜ r ≡ answering context (handoverReply handed count) ⌝ }
 {
     match handed {
-        Handover::Builtin(n) => {
-            return Replied {
-                context,
-                word: BUILTIN,
-                detail: n,
-                count,
-            };
-        }
-        Handover::Opcode(n) => {
-            return Replied {
-                context,
-                word: OPCODE,
-                detail: n,
-                count,
-            };
-        }
+        Handover::Builtin(n) => return reply(context, BUILTIN, n, count),
+        Handover::Opcode(n) => return reply(context, OPCODE, n, count),
     }
 }
 
@@ -131,22 +100,8 @@ pub fn reply_statement(s: Stepped) -> Replied
     let context = s.context;
     let answer = s.answer;
     match answer {
-        StatementAnswer::Completed => {
-            return Replied {
-                context,
-                word: ACCEPTED,
-                detail: 0,
-                count: 0,
-            };
-        }
-        StatementAnswer::Refused(n) => {
-            return Replied {
-                context,
-                word: REFUSED,
-                detail: n as u32,
-                count: 0,
-            };
-        }
+        StatementAnswer::Completed => return reply(context, ACCEPTED, 0, 0),
+        StatementAnswer::Refused(n) => return reply(context, REFUSED, n as u32, 0),
         StatementAnswer::HandedOver(h) => return reply_handover(context, h, 0),
     }
 }
@@ -158,30 +113,9 @@ pub fn reply_run(ran: Ran) -> Replied
     let answer = ran.answer;
     let count = ran.count;
     match answer {
-        RunAnswer::Ended => {
-            return Replied {
-                context,
-                word: ENDED,
-                detail: 0,
-                count,
-            };
-        }
-        RunAnswer::Spent => {
-            return Replied {
-                context,
-                word: SPENT,
-                detail: 0,
-                count,
-            };
-        }
-        RunAnswer::Refused(n) => {
-            return Replied {
-                context,
-                word: REFUSED,
-                detail: n as u32,
-                count,
-            };
-        }
+        RunAnswer::Ended => return reply(context, ENDED, 0, count),
+        RunAnswer::Spent => return reply(context, SPENT, 0, count),
+        RunAnswer::Refused(n) => return reply(context, REFUSED, n as u32, count),
         RunAnswer::HandedOver(h) => return reply_handover(context, h, count),
     }
 }
@@ -194,37 +128,37 @@ fn perform_call(
     a: i64,
     b: i64,
     cells: &mut [u32],
-    saved: &mut [u32],
+    store: &mut [u32],
 ) -> Replied
     requires { ⌜ (ltb kind 6 || below b 4294967296) ≡ true ⌝ }
-    ensures { λ r. ⌜ repliedOf r (now (cells .exit)) (now (saved .exit)) ≡ afterCall (programOf (now (file .entry))) (callNumbered kind a b) (config context (now (cells .entry)) (now (saved .entry))) ⌝ }
+    ensures { λ r. ⌜ repliedOf r (now (cells .exit)) (now (store .exit)) ≡ afterCall (programOf (now (file .entry))) (callNumbered kind a b) (config context (now (cells .entry)) (now (store .entry))) ⌝ }
 {
     if kind == 0 {
-        let entered = context.enter(file, a, cells, saved);
+        let entered = context.enter(file, a, cells, store);
         return reply_answer(entered);
     }
     if kind == 1 {
-        let stepped = server::statement(context, file, cells, saved);
+        let stepped = server::statement(context, file, cells, store);
         return reply_statement(stepped);
     }
     if kind == 2 {
-        let ran = server::run(context, file, a, b, cells, saved);
+        let ran = server::run(context, file, a, b, cells, store);
         return reply_run(ran);
     }
     if kind == 3 {
-        let carried = context.carry_on(file, cells, saved);
+        let carried = context.carry_on(file, cells, store);
         return reply_answer(carried);
     }
     if kind == 4 {
-        let abandoned = context.abandon(file, a, cells, saved);
+        let abandoned = context.abandon(file, a, cells, store);
         return reply_answer(abandoned);
     }
     if kind == 5 {
-        let read = context.read(file, a, cells, saved);
+        let read = context.read(file, a, cells, store);
         return reply_read(context, read);
     }
     let value = fetch::place_of(0, b) as u32;
-    let written = context.write(file, a, value, cells, saved);
+    let written = context.write(file, a, value, cells, store);
     reply_answer(written)
 }
 
@@ -265,19 +199,19 @@ fn perform_all(
     n: usize,
     answers: &mut [u32],
     cells: &mut [u32],
-    saved: &mut [u32],
+    store: &mut [u32],
 ) -> ExecutionContext
     requires { ⌜ (3 * n ≤ length (now calls)) × (3 * n ≤ length (now answers)) ⌝ }
     requires { ⌜ allTrue (records (formedAt (now calls)) 3 n 0) ≡ true ⌝ }
-    ensures { λ r. ⌜ config r (now (cells .exit)) (now (saved .exit)) ≡ afterAll (programOf (now (file .entry))) (records (callIn (now (calls .entry))) 3 n 0) (config context (now (cells .entry)) (now (saved .entry))) ⌝ }
-    ensures { λ r. ⌜ now (answers .exit) ≡ sets (now (answers .entry)) 0 (replies (programOf (now (file .entry))) (records (callIn (now (calls .entry))) 3 n 0) (config context (now (cells .entry)) (now (saved .entry)))) ⌝ }
+    ensures { λ r. ⌜ config r (now (cells .exit)) (now (store .exit)) ≡ afterAll (programOf (now (file .entry))) (records (callIn (now (calls .entry))) 3 n 0) (config context (now (cells .entry)) (now (store .entry))) ⌝ }
+    ensures { λ r. ⌜ now (answers .exit) ≡ sets (now (answers .entry)) 0 (replies (programOf (now (file .entry))) (records (callIn (now (calls .entry))) 3 n 0) (config context (now (cells .entry)) (now (store .entry)))) ⌝ }
 {
     let mut now = context;
     let mut i = 0;
     while i < n {
         let at = 3 * i;
         let kind = fetch::place_of(7, calls[at]);
-        let done = perform_call(now, file, kind, calls[at + 1], calls[at + 2], cells, saved);
+        let done = perform_call(now, file, kind, calls[at + 1], calls[at + 2], cells, store);
         answers[at] = done.word;
         answers[at + 1] = done.detail;
         answers[at + 2] = done.count;
@@ -294,9 +228,9 @@ pub fn perform_calls(
     calls: &[i64],
     answers: &mut [u32],
     cells: &mut [u32],
-    saved: &mut [u32],
+    store: &mut [u32],
 ) -> Listed
-    ensures { λ r. ⌜ outcomeOf r (now (answers .exit)) (now (cells .exit)) (now (saved .exit)) ≡ performed (programOf (now (file .entry))) (now (calls .entry)) (config context (now (cells .entry)) (now (saved .entry))) (now (answers .entry)) ⌝ }
+    ensures { λ r. ⌜ outcomeOf r (now (answers .exit)) (now (cells .exit)) (now (store .exit)) ≡ performed (programOf (now (file .entry))) (now (calls .entry)) (config context (now (cells .entry)) (now (store .entry))) (now (answers .entry)) ⌝ }
 {
     let malformed = Listed {
         context,
@@ -313,7 +247,7 @@ pub fn perform_calls(
         return malformed;
     }
     Listed {
-        context: perform_all(context, file, calls, n, answers, cells, saved),
+        context: perform_all(context, file, calls, n, answers, cells, store),
         answer: ListAnswer::Performed,
     }
 }

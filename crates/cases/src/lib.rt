@@ -3,7 +3,9 @@
 ghost use Prim.Native.Nat.{_+_, _*_, _≤_, _<_};
 ghost use lib.ListN.{length};
 
+pub mod answers;
 pub mod digest;
+pub mod print;
 
 // The place of the first `b` from `at` on, or the length.
 fn find(s: &[u8], at: usize, b: u8) -> usize
@@ -80,15 +82,38 @@ pub fn signed(s: &[u8], at: usize) -> i64 {
     (unsigned(s, at) % 0x8000_0000_0000_0000) as i64
 }
 
+pub fn least(a: usize, b: usize) -> usize
+    ensures { λ r. ⌜ r ≤ b ⌝ }
+{
+    if b < a { b } else { a }
+}
+
 // A count that is at most `most`.
 pub fn count(s: &[u8], at: usize, most: usize) -> usize
     ensures { λ r. ⌜ r ≤ most ⌝ }
 {
-    let n = unsigned(s, at) as usize;
-    if most < n {
-        return most;
+    least(unsigned(s, at) as usize, most)
+}
+
+// The two numbers after a line's first word; the first as a place and the second as a value, where they have no sign.
+pub struct Numbers {
+    pub first: i64,
+    pub second: i64,
+    pub place: usize,
+    pub value: u64,
+}
+
+pub fn numbers_at(s: &[u8], at: usize) -> Numbers
+    requires { ⌜ at ≤ length (now s) ⌝ }
+{
+    let first = next_word(s, at);
+    let second = next_word(s, first);
+    Numbers {
+        first: signed(s, first),
+        second: signed(s, second),
+        place: unsigned(s, first) as usize,
+        value: unsigned(s, second),
     }
-    n
 }
 
 // A hexadecimal digit in lower case.
@@ -138,5 +163,22 @@ pub fn bytes(s: &[u8], at: usize, to: &mut [u8])
     while i < to.len() {
         to[i] = byte_of(s, at, n, i);
         i += 1;
+    }
+}
+
+// The file that the words `LENGTH HEX` at `at` spell goes to the front of `file`. The result is its length.
+pub fn file(s: &[u8], at: usize, file: &mut [u8]) -> usize
+    requires { ⌜ at ≤ length (now s) ⌝ }
+    ensures { λ r. ⌜ r ≤ length (now (file .exit)) ⌝ }
+{
+    let hex = next_word(s, at);
+    let n = count(s, at, file.len());
+    bytes(s, hex, &mut file[..n]);
+    n
+}
+
+pub fn set_byte(file: &mut [u8], at: usize, b: u8) {
+    if at < file.len() {
+        file[at] = b;
     }
 }

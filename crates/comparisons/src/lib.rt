@@ -16,9 +16,7 @@ ghost use Rattle.globals.specs.Effects.{after, effectOn};
 ghost use Rattle.comparisons.specs.Refusals.{pairRefusal, stringsRefusal};
 
 fn check_values(
-    file: &[u8],
-    defs: usize,
-    ndefs: usize,
+    defs: &[u8],
     count: usize,
     cells: &[u32],
     t: u16,
@@ -26,26 +24,15 @@ fn check_values(
     b: usize,
     c: usize,
 ) -> u8
-    requires { ⌜ (8 * ndefs ≤ length (now file) - defs) × (count ≤ length (now cells)) ⌝ }
-    ensures { λ r. ⌜ r ≡ first (judge (readAccess (typing (now (file .entry)) defs ndefs count) (mustBeNatural t) t a (now (cells .entry)))) (moveRefusal (typing (now (file .entry)) defs ndefs count) (mustBeNatural t) t b float c (now (cells .entry))) ⌝ }
+    requires { ⌜ count ≤ length (now cells) ⌝ }
+    ensures { λ r. ⌜ r ≡ first (judge (readAccess (typing (now (defs .entry)) count) (mustBeNatural t) t a (now (cells .entry)))) (moveRefusal (typing (now (defs .entry)) count) (mustBeNatural t) t b float c (now (cells .entry))) ⌝ }
 {
     let natural = typed::must_be_natural(t);
-    let r = typed::check_read(file, defs, ndefs, count, cells, natural, t, a);
+    let r = typed::check_read(defs, count, cells, natural, t, a);
     if r != 0 {
         return r;
     }
-    typed::check_move(
-        file,
-        defs,
-        ndefs,
-        count,
-        cells,
-        natural,
-        t,
-        b,
-        typed::FLOAT,
-        c,
-    )
+    typed::check_move(defs, count, cells, natural, t, b, typed::FLOAT, c)
 }
 
 fn apply_values(cells: &mut [u32], op: u16, a: usize, b: usize, c: usize)
@@ -57,9 +44,7 @@ fn apply_values(cells: &mut [u32], op: u16, a: usize, b: usize, c: usize)
 
 // op_eq_ent, op_eq_fnc, op_ne_ent, op_ne_fnc; t is the operands' type.
 pub fn op_values(
-    file: &[u8],
-    defs: usize,
-    ndefs: usize,
+    defs: &[u8],
     count: usize,
     cells: &mut [u32],
     op: u16,
@@ -68,10 +53,10 @@ pub fn op_values(
     b: usize,
     c: usize,
 ) -> Answer
-    requires { ⌜ (8 * ndefs ≤ length (now file) - defs) × (count ≤ length (now cells)) ⌝ }
-    ensures { λ r. ⌜ after r (now (cells .exit)) ≡ effectOn (valuesEffect t (valueOp op) (typing (now (file .entry)) defs ndefs count) a b c (now (cells .entry))) (now (cells .entry)) ⌝ }
+    requires { ⌜ count ≤ length (now cells) ⌝ }
+    ensures { λ r. ⌜ after r (now (cells .exit)) ≡ effectOn (valuesEffect t (valueOp op) (typing (now (defs .entry)) count) a b c (now (cells .entry))) (now (cells .entry)) ⌝ }
 {
-    let refusal = check_values(file, defs, ndefs, count, cells, t, a, b, c);
+    let refusal = check_values(defs, count, cells, t, a, b, c);
     if refusal != 0 {
         return Answer::Refused(refusal);
     }
@@ -87,31 +72,21 @@ fn check_operand(cell: usize) -> u8
 }
 
 // Equal operands are neither read nor checked further.
-fn check_strings(file: &[u8], defs: usize, ndefs: usize, count: usize, a: usize, b: usize) -> u8
-    requires { ⌜ 8 * ndefs ≤ length (now file) - defs ⌝ }
-    ensures { λ r. ⌜ r ≡ pairRefusal (typing (now (file .entry)) defs ndefs count) a b ⌝ }
+fn check_strings(defs: &[u8], count: usize, a: usize, b: usize) -> u8
+    ensures { λ r. ⌜ r ≡ pairRefusal (typing (now (defs .entry)) count) a b ⌝ }
 {
     if a == b {
         return 0;
     }
-    let r = typed::check_cell(file, defs, ndefs, count, typed::STRING, a);
+    let r = typed::check_cell(defs, count, typed::STRING, a);
     if r != 0 {
         return r;
     }
-    typed::check_cell(file, defs, ndefs, count, typed::STRING, b)
+    typed::check_cell(defs, count, typed::STRING, b)
 }
 
-fn check_eq_s(
-    file: &[u8],
-    defs: usize,
-    ndefs: usize,
-    count: usize,
-    a: usize,
-    b: usize,
-    c: usize,
-) -> u8
-    requires { ⌜ 8 * ndefs ≤ length (now file) - defs ⌝ }
-    ensures { λ r. ⌜ r ≡ stringsRefusal (typing (now (file .entry)) defs ndefs count) a b c ⌝ }
+fn check_eq_s(defs: &[u8], count: usize, a: usize, b: usize, c: usize) -> u8
+    ensures { λ r. ⌜ r ≡ stringsRefusal (typing (now (defs .entry)) count) a b c ⌝ }
 {
     let x = check_operand(a);
     if x != 0 {
@@ -121,11 +96,11 @@ fn check_eq_s(
     if y != 0 {
         return y;
     }
-    let z = check_strings(file, defs, ndefs, count, a, b);
+    let z = check_strings(defs, count, a, b);
     if z != 0 {
         return z;
     }
-    typed::check_cell(file, defs, ndefs, count, typed::FLOAT, c)
+    typed::check_cell(defs, count, typed::FLOAT, c)
 }
 
 fn apply_strings(cells: &mut [u32], op: u16, a: usize, b: usize, c: usize)
@@ -141,9 +116,7 @@ fn apply_strings(cells: &mut [u32], op: u16, a: usize, b: usize, c: usize)
 
 // op_eq_s, op_ne_s.
 pub fn op_strings(
-    file: &[u8],
-    defs: usize,
-    ndefs: usize,
+    defs: &[u8],
     count: usize,
     cells: &mut [u32],
     op: u16,
@@ -151,10 +124,10 @@ pub fn op_strings(
     b: usize,
     c: usize,
 ) -> Answer
-    requires { ⌜ (8 * ndefs ≤ length (now file) - defs) × (count ≤ length (now cells)) ⌝ }
-    ensures { λ r. ⌜ after r (now (cells .exit)) ≡ effectOn (stringsEffect (valueOp op) (typing (now (file .entry)) defs ndefs count) a b c (now (cells .entry))) (now (cells .entry)) ⌝ }
+    requires { ⌜ count ≤ length (now cells) ⌝ }
+    ensures { λ r. ⌜ after r (now (cells .exit)) ≡ effectOn (stringsEffect (valueOp op) (typing (now (defs .entry)) count) a b c (now (cells .entry))) (now (cells .entry)) ⌝ }
 {
-    let refusal = check_eq_s(file, defs, ndefs, count, a, b, c);
+    let refusal = check_eq_s(defs, count, a, b, c);
     if refusal != 0 {
         return Answer::Refused(refusal);
     }
@@ -171,9 +144,7 @@ fn apply_nots(cells: &mut [u32], op: u16, a: usize, c: usize)
 
 // op_not_f, op_not_ent, op_not_fnc; t is the operand's type.
 pub fn op_nots(
-    file: &[u8],
-    defs: usize,
-    ndefs: usize,
+    defs: &[u8],
     count: usize,
     cells: &mut [u32],
     op: u16,
@@ -182,23 +153,11 @@ pub fn op_nots(
     b: usize,
     c: usize,
 ) -> Answer
-    requires { ⌜ (8 * ndefs ≤ length (now file) - defs) × (count ≤ length (now cells)) ⌝ }
-    ensures { λ r. ⌜ after r (now (cells .exit)) ≡ effectOn (negatesEffect t (notOp op) (typing (now (file .entry)) defs ndefs count) a b c (now (cells .entry))) (now (cells .entry)) ⌝ }
+    requires { ⌜ count ≤ length (now cells) ⌝ }
+    ensures { λ r. ⌜ after r (now (cells .exit)) ≡ effectOn (negatesEffect t (notOp op) (typing (now (defs .entry)) count) a b c (now (cells .entry))) (now (cells .entry)) ⌝ }
 {
     let natural = typed::must_be_natural(t);
-    let refusal = globals::check_unary(
-        file,
-        defs,
-        ndefs,
-        count,
-        cells,
-        b,
-        natural,
-        t,
-        a,
-        typed::FLOAT,
-        c,
-    );
+    let refusal = globals::check_unary(defs, count, cells, b, natural, t, a, typed::FLOAT, c);
     if refusal != 0 {
         return Answer::Refused(refusal);
     }
@@ -215,22 +174,18 @@ fn apply_not_v(cells: &mut [u32], a: usize, c: usize)
 
 // One float is written, as in pr_exec.c.
 pub fn op_not_v(
-    file: &[u8],
-    defs: usize,
-    ndefs: usize,
+    defs: &[u8],
     count: usize,
     cells: &mut [u32],
     a: usize,
     b: usize,
     c: usize,
 ) -> Answer
-    requires { ⌜ (8 * ndefs ≤ length (now file) - defs) × (count ≤ length (now cells)) ⌝ }
-    ensures { λ r. ⌜ after r (now (cells .exit)) ≡ effectOn (negatesVEffect (typing (now (file .entry)) defs ndefs count) a b c (now (cells .entry))) (now (cells .entry)) ⌝ }
+    requires { ⌜ count ≤ length (now cells) ⌝ }
+    ensures { λ r. ⌜ after r (now (cells .exit)) ≡ effectOn (negatesVEffect (typing (now (defs .entry)) count) a b c (now (cells .entry))) (now (cells .entry)) ⌝ }
 {
     let refusal = globals::check_unary(
-        file,
         defs,
-        ndefs,
         count,
         cells,
         b,
@@ -247,18 +202,9 @@ pub fn op_not_v(
     Answer::Accepted
 }
 
-fn check_not_s(
-    file: &[u8],
-    defs: usize,
-    ndefs: usize,
-    count: usize,
-    cells: &[u32],
-    a: usize,
-    b: usize,
-    c: usize,
-) -> u8
-    requires { ⌜ (8 * ndefs ≤ length (now file) - defs) × (count ≤ length (now cells)) ⌝ }
-    ensures { λ r. ⌜ r ≡ first (judge (unused b)) (first (judge (operandGiven a)) (moveRefusal (typing (now (file .entry)) defs ndefs count) false string a float c (now (cells .entry)))) ⌝ }
+fn check_not_s(defs: &[u8], count: usize, cells: &[u32], a: usize, b: usize, c: usize) -> u8
+    requires { ⌜ count ≤ length (now cells) ⌝ }
+    ensures { λ r. ⌜ r ≡ first (judge (unused b)) (first (judge (operandGiven a)) (moveRefusal (typing (now (defs .entry)) count) false string a float c (now (cells .entry)))) ⌝ }
 {
     let x = globals::check_unused(b);
     if x != 0 {
@@ -268,18 +214,7 @@ fn check_not_s(
     if y != 0 {
         return y;
     }
-    typed::check_move(
-        file,
-        defs,
-        ndefs,
-        count,
-        cells,
-        false,
-        typed::STRING,
-        a,
-        typed::FLOAT,
-        c,
-    )
+    typed::check_move(defs, count, cells, false, typed::STRING, a, typed::FLOAT, c)
 }
 
 fn apply_not_s(cells: &mut [u32], a: usize, c: usize)
@@ -290,19 +225,17 @@ fn apply_not_s(cells: &mut [u32], a: usize, c: usize)
 }
 
 pub fn op_not_s(
-    file: &[u8],
-    defs: usize,
-    ndefs: usize,
+    defs: &[u8],
     count: usize,
     cells: &mut [u32],
     a: usize,
     b: usize,
     c: usize,
 ) -> Answer
-    requires { ⌜ (8 * ndefs ≤ length (now file) - defs) × (count ≤ length (now cells)) ⌝ }
-    ensures { λ r. ⌜ after r (now (cells .exit)) ≡ effectOn (negatesSEffect (typing (now (file .entry)) defs ndefs count) a b c (now (cells .entry))) (now (cells .entry)) ⌝ }
+    requires { ⌜ count ≤ length (now cells) ⌝ }
+    ensures { λ r. ⌜ after r (now (cells .exit)) ≡ effectOn (negatesSEffect (typing (now (defs .entry)) count) a b c (now (cells .entry))) (now (cells .entry)) ⌝ }
 {
-    let refusal = check_not_s(file, defs, ndefs, count, cells, a, b, c);
+    let refusal = check_not_s(defs, count, cells, a, b, c);
     if refusal != 0 {
         return Answer::Refused(refusal);
     }

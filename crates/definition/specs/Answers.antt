@@ -37,20 +37,23 @@ outcome c x = record { answer = answerOf x; config = kept c x }
 abbrev pub noLump : Lump
 noLump = record { offset = 0; count = 0 }
 
--- a refused load gives a state of zeros, which every operation refuses 13, and leaves the buffers
-abbrev pub noState : State
-noState =
-    startState
-    (record {
+-- the record of a file of which nothing is known but its number of cells
+abbrev pub cellsAlone : ℕ → FileRecord
+cellsAlone n =
+    record {
       length = 0;
       statements = noLump;
       globaldefs = noLump;
       fielddefs = noLump;
       functions = noLump;
       strings = noLump;
-      globals = noLump;
+      globals = record { offset = 0; count = n };
       entityfields = 0;
-    })
+    }
+
+-- a refused load gives a state of zeros, which every operation refuses 13, and leaves the buffers
+abbrev pub noState : State
+noState = startState (cellsAlone 0)
 
 abbrev pub loadOutcome : List ℕ → List ℕ → Checked Config → Outcome
 loadOutcome cells saved x = outcome (record { state = noState; cells = cells; saved = saved }) x

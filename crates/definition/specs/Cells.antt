@@ -7,7 +7,7 @@ use lib.Dec.{leb, ltb, eqb}
 use lib.IntN.{ℤ, pos, negsuc}
 use Rattle.definition.specs.declared.Definition.{Definition}
 use Rattle.definition.specs.Checks.{Condition, Conditions, _otherwise_}
-use Rattle.definition.specs.File.{Contents, negative}
+use Rattle.definition.specs.File.{Contents, negative, saveFlag}
 
 -- ---- types: "0 void, 1 string, 2 float, 3 vector, 4 entity, 5 field, 6 function, 7 pointer"
 
@@ -31,11 +31,11 @@ function = 6
 
 -- what a lookup gives for a cell without a definition: no type, since bit 15 of a definition's type is its save flag
 abbrev pub untyped : ℕ
-untyped = 32768
+untyped = saveFlag
 
 -- "Bit 15 of the type is the save flag"
 abbrev pub typeOf : Definition → ℕ
-typeOf d = d .kind % 32768
+typeOf d = d .kind % saveFlag
 
 -- "Type lookup takes the first global definition, in file order, with that cell"
 unfoldable pub lookup : List Definition → ℕ → ℕ

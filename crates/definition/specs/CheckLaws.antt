@@ -83,6 +83,10 @@ pub all-back : (cs ds : Conditions) → All (cs ++ ds) → All ds
 all-back [] ds h = h
 all-back (c ∷ cs) ds (h, hs) = all-back cs ds hs
 
+pub all-both : (cs ds : Conditions) → All cs → All ds → All (cs ++ ds)
+all-both [] ds h k = k
+all-both (c ∷ cs) ds (h, hs) k = (h, all-both cs ds hs k)
+
 -- ---- what holds of a result, if there is one
 
 abbrev pub WhenAccepted : {A : Type 0} → (A → Type 0) → Checked A → Type 0

@@ -10,7 +10,75 @@ use Rattle.definition.specs.declared.Statement.{Statement}
 use Rattle.definition.specs.declared.Definition.{Definition}
 use Rattle.definition.specs.declared.FunctionDef.{FunctionDef}
 
--- ---- numbers: little-endian; past the end of the file a byte reads as 0, and nothing accepted reads there
+-- ---- the numbers of 01, once: wherever one is meant it is named. The code has the same, by the same names, in src/lib.rt
+
+-- "Version 6; check number 5927"
+abbrev pub version : ℕ
+version = 6
+
+abbrev pub checkNumber : ℕ
+checkNumber = 5927
+
+-- "Record sizes: 8, 8, 8, 36, 1, 4 bytes"
+abbrev pub statementSize : ℕ
+statementSize = 8
+
+abbrev pub definitionSize : ℕ
+definitionSize = 8
+
+abbrev pub functionSize : ℕ
+functionSize = 36
+
+abbrev pub cellSize : ℕ
+cellSize = 4
+
+-- "1: length under 60 or over 1,048,576"
+abbrev pub headerLength : ℕ
+headerLength = 60
+
+abbrev pub longestFile : ℕ
+longestFile = 1048576
+
+-- 7: "opcodes 0 to 65"
+abbrev pub opcodeCount : ℕ
+opcodeCount = 66
+
+-- "8: type over 7, flag apart"
+abbrev pub greatestType : ℕ
+greatestType = 7
+
+-- "Bit 15 of the type is the save flag"
+abbrev pub saveFlag : ℕ
+saveFlag = 32768
+
+-- "10: under 36 or over 32,768"; R-7 raises the least number
+abbrev pub leastCells : ℕ
+leastCells = 36
+
+abbrev pub mostCells : ℕ
+mostCells = 32768
+
+-- "11: entity cells under 105"
+abbrev pub leastEntityCells : ℕ
+leastEntityCells = 105
+
+-- "saved store under 2,048" (12, 13), "saved over 2,048" (13, 23)
+abbrev pub savedStore : ℕ
+savedStore = 2048
+
+-- "depth over 31" (13), "depth is 31" (22)
+abbrev pub greatestDepth : ℕ
+greatestDepth = 31
+
+-- "24: argument count outside 0 to 8", and a function record's "eight argument sizes"
+abbrev pub mostArguments : ℕ
+mostArguments = 8
+
+-- "28: limit outside 1 to 99,999"
+abbrev pub greatestLimit : ℕ
+greatestLimit = 99999
+
+-- ---- numbers in the file: little-endian; past the end of the file a byte reads as 0, and nothing accepted reads there
 
 unfoldable pub byteAt : List ℕ → ℕ → ℕ
 byteAt file at = getD file at 0
@@ -53,7 +121,7 @@ fileOf file =
 -- ---- what the header may say: the conditions of refusals 1, 4, 10 and 11
 
 abbrev pub lengthFits : FileRecord → Bool
-lengthFits r = leb 60 (r .length) && leb (r .length) 1048576
+lengthFits r = leb headerLength (r .length) && leb (r .length) longestFile
 
 -- neither number is negative, and the records end in the file; "an empty lump may have any non-negative offset"
 abbrev pub lumpFits : ℕ → ℕ → Lump → Bool
@@ -63,22 +131,19 @@ lumpFits size end l =
 -- "Record sizes: 8, 8, 8, 36, 1, 4 bytes. Lumps may overlap"
 unfoldable pub lumpsFit : FileRecord → Bool
 lumpsFit r =
-    lumpFits 8 (r .length) (r .statements)
-    && lumpFits 8 (r .length) (r .globaldefs)
-    && lumpFits 8 (r .length) (r .fielddefs)
-    && lumpFits 36 (r .length) (r .functions)
+    lumpFits statementSize (r .length) (r .statements)
+    && lumpFits definitionSize (r .length) (r .globaldefs)
+    && lumpFits definitionSize (r .length) (r .fielddefs)
+    && lumpFits functionSize (r .length) (r .functions)
     && lumpFits 1 (r .length) (r .strings)
-    && lumpFits 4 (r .length) (r .globals)
+    && lumpFits cellSize (r .length) (r .globals)
 
--- "10: under 36 or over 32,768"; R-7 raises the least number
-abbrev pub leastCells : ℕ
-leastCells = 36
-
+-- 10, with `least` for the least number of cells
 abbrev pub cellsFit : ℕ → FileRecord → Bool
-cellsFit least r = leb least (r .globals .count) && leb (r .globals .count) 32768
+cellsFit least r = leb least (r .globals .count) && leb (r .globals .count) mostCells
 
 abbrev pub entityFits : FileRecord → Bool
-entityFits r = leb 105 (r .entityfields) && not (negative (r .entityfields))
+entityFits r = leb leastEntityCells (r .entityfields) && not (negative (r .entityfields))
 
 -- ---- records
 
@@ -110,7 +175,7 @@ readFunction file at =
       name = u32At file (at + 16);
       srcfile = u32At file (at + 20);
       argc = u32At file (at + 24);
-      argsz = records (byteAt file) 1 8 (at + 28);
+      argsz = records (byteAt file) 1 mostArguments (at + 28);
     }
 
 -- ---- contents: all that a file says, wherever its lumps stand
@@ -129,12 +194,12 @@ pub record Contents : Type 0 where
 unfoldable pub contentsAt : FileRecord → List ℕ → Contents
 contentsAt r file =
     record {
-      statements = recordsIn (readStatement file) 8 (r .statements);
-      globaldefs = recordsIn (readDefinition file) 8 (r .globaldefs);
-      fielddefs = recordsIn (readDefinition file) 8 (r .fielddefs);
-      functions = recordsIn (readFunction file) 36 (r .functions);
+      statements = recordsIn (readStatement file) statementSize (r .statements);
+      globaldefs = recordsIn (readDefinition file) definitionSize (r .globaldefs);
+      fielddefs = recordsIn (readDefinition file) definitionSize (r .fielddefs);
+      functions = recordsIn (readFunction file) functionSize (r .functions);
       strings = recordsIn (byteAt file) 1 (r .strings);
-      globals = recordsIn (u32At file) 4 (r .globals);
+      globals = recordsIn (u32At file) cellSize (r .globals);
       entityfields = r .entityfields;
     }
 
@@ -144,7 +209,7 @@ contentsOf file = contentsAt (fileOf file) file
 -- ---- functions and builtins
 
 abbrev pub noFunction : FunctionDef
-noFunction = record { first = 0; start = 0; locals = 0; name = 0; srcfile = 0; argc = 0; argsz = replicate 8 0 }
+noFunction = record { first = 0; start = 0; locals = 0; name = 0; srcfile = 0; argc = 0; argsz = replicate mostArguments 0 }
 
 abbrev pub between : ℕ → ℕ → ℕ → Bool
 between low high n = leb low n && leb n high

@@ -33,11 +33,12 @@ mulF = onCells (Ieee.mul binary32)
 abbrev pub divF : ℕ → ℕ → ℕ
 divF = onCells (Ieee.div binary32)
 
--- 1.0 or 0.0
+-- "Comparisons give 1.0 or 0.0"
 abbrev pub flag : Bool → ℕ
 flag b = cond b 0x3f800000 0
 
--- a comparison of floats as one on cells
+-- a comparison of floats as one on cells. "Floats are IEEE 754 single": +0 and -0 are equal, and of a NaN only Ne is true. Which opcode compares how
+-- is globals.rs's and pr_exec.c's
 abbrev pub onFlags : (Float → Float → Bool) → ℕ → ℕ → ℕ
 onFlags test a b = flag (test (value a) (value b))
 
@@ -59,10 +60,11 @@ ltF = onFlags Ieee.lt
 abbrev pub gtF : ℕ → ℕ → ℕ
 gtF a b = ltF b a
 
--- +0 or -0
+-- "the float is +0 or -0 (so on NaN)": a NaN is not zero
 abbrev pub isZero : ℕ → Bool
 isZero x = Ieee.eq (value x) (value 0)
 
+-- And, Or and NotF compare with zero (globals.rs, pr_exec.c)
 abbrev pub andF : ℕ → ℕ → ℕ
 andF a b = flag (not (isZero a) && not (isZero b))
 
@@ -96,6 +98,7 @@ mulV a0 a1 a2 b0 b1 b2 =
     (Ieee.add binary32 (Ieee.add binary32 (value 0) (Ieee.mul binary32 (value a0) (value b0))) (Ieee.mul binary32 (value a1) (value b1)))
     (Ieee.mul binary32 (value a2) (value b2)))
 
+-- EqV, NeV: all three components (globals.rs, pr_exec.c)
 abbrev pub sameV : ℕ → ℕ → ℕ → ℕ → ℕ → ℕ → Bool
 sameV a0 a1 a2 b0 b1 b2 = Ieee.eq (value a0) (value b0) && Ieee.eq (value a1) (value b1) && Ieee.eq (value a2) (value b2)
 
@@ -105,10 +108,11 @@ eqV a0 a1 a2 b0 b1 b2 = flag (sameV a0 a1 a2 b0 b1 b2)
 abbrev pub neV : ℕ → ℕ → ℕ → ℕ → ℕ → ℕ → ℕ
 neV a0 a1 a2 b0 b1 b2 = flag (not (sameV a0 a1 a2 b0 b1 b2))
 
+-- NotV: of a vector of three zeros 1.0 (globals.rs, pr_exec.c)
 abbrev pub notV : ℕ → ℕ → ℕ → ℕ
 notV a0 a1 a2 = flag (isZero a0 && isZero a1 && isZero a2)
 
--- ---- entity, string and function numbers
+-- ---- entity, string and function numbers: "compare string numbers", "string number 0"; of entities and functions likewise (globals.rs, pr_exec.c)
 
 abbrev pub eqN : ℕ → ℕ → ℕ
 eqN a b = flag (eqb a b)

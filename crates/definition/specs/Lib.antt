@@ -11,11 +11,12 @@ pub mod Answers
 pub mod Starred
 pub mod Calls
 pub mod Log
-pub mod Along
+pub mod Trace
 pub mod Returns
 pub mod CheckLaws
 pub mod Parts
 pub mod StatementLaws
-pub mod Walk
+pub mod Invariant
 pub mod RecordLaws
-pub mod ReturnsHold
+pub mod LoadLaws
+pub mod ReturnsProof

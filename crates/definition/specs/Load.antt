@@ -10,7 +10,7 @@ use Rattle.definition.specs.declared.Statement.{Statement}
 use Rattle.definition.specs.declared.Definition.{Definition}
 use Rattle.definition.specs.declared.FunctionDef.{FunctionDef}
 use Rattle.definition.specs.Checks.{Condition, Conditions, _otherwise_, Checked, guard}
-use Rattle.definition.specs.File.{versionOf, checkNumberOf, fileOf, lengthFits, lumpsFit, leastCells, cellsFit, entityFits}
+use Rattle.definition.specs.File.{version, checkNumber, opcodeCount, greatestType, saveFlag, leastCells, savedStore, versionOf, checkNumberOf, fileOf, lengthFits, lumpsFit, cellsFit, entityFits}
 use Rattle.definition.specs.File.{Contents, contentsAt, contentsOf, builtinKnown}
 use Rattle.definition.specs.Cells.{typeOf}
 use Rattle.definition.specs.Statements.{fetchConditions, doesAt}
@@ -26,17 +26,17 @@ abbrev pub functionConditions : ℕ → FunctionDef → Conditions
 functionConditions strings d = (builtinKnown d otherwise 5) ∷ named strings (d .name) ∷ named strings (d .srcfile) ∷ []
 
 abbrev pub statementConditions : Statement → Conditions
-statementConditions st = (ltb (st .opcode) 66 otherwise 7) ∷ []
+statementConditions st = (ltb (st .opcode) opcodeCount otherwise 7) ∷ []
 
 abbrev pub typeKnown : Definition → Condition
-typeKnown d = leb (typeOf d) 7 otherwise 8
+typeKnown d = leb (typeOf d) greatestType otherwise 8
 
 abbrev pub globaldefConditions : ℕ → Definition → Conditions
 globaldefConditions strings d = named strings (d .name) ∷ typeKnown d ∷ []
 
 -- "9: save flag in a field definition"
 abbrev pub fielddefConditions : ℕ → Definition → Conditions
-fielddefConditions strings d = named strings (d .name) ∷ (ltb (d .kind) 32768 otherwise 9) ∷ typeKnown d ∷ []
+fielddefConditions strings d = named strings (d .name) ∷ (ltb (d .kind) saveFlag otherwise 9) ∷ typeKnown d ∷ []
 
 -- "load takes records in order"
 unfoldable pub each : {A : Type 0} → (A → Conditions) → List A → Conditions
@@ -49,8 +49,8 @@ each conditions (x ∷ xs) = conditions x ++ each conditions xs
 unfoldable pub headerConditions : List ℕ → Conditions
 headerConditions file =
     (lengthFits (fileOf file) otherwise 1)
-    ∷ (eqb (versionOf file) 6 otherwise 2)
-    ∷ (eqb (checkNumberOf file) 5927 otherwise 3)
+    ∷ (eqb (versionOf file) version otherwise 2)
+    ∷ (eqb (checkNumberOf file) checkNumber otherwise 3)
     ∷ (lumpsFit (fileOf file) otherwise 4)
     ∷ []
 
@@ -67,7 +67,7 @@ unfoldable pub cellConditions : ℕ → FileRecord → ℕ → ℕ → Condition
 cellConditions least r lent store =
     (cellsFit least r otherwise 10)
     ∷ (entityFits r otherwise 11)
-    ∷ (leb (r .globals .count) lent && leb 2048 store otherwise 12)
+    ∷ (leb (r .globals .count) lent && leb savedStore store otherwise 12)
     ∷ []
 
 abbrev pub loadConditions : ℕ → List ℕ → ℕ → ℕ → Conditions

@@ -14,7 +14,7 @@ use Rattle.definition.specs.declared.Handover.{Handover}
 use Rattle.definition.specs.declared.RunAnswer.{RunAnswer}
 use Rattle.definition.specs.declared.RunAnswer.the-variants.{Ended, Spent, Refused, HandedOver}
 use Rattle.definition.specs.Checks.{Condition, Conditions, _otherwise_, Checked, refused, accepted, guard}
-use Rattle.definition.specs.File.{negative, noFunction, isBuiltin}
+use Rattle.definition.specs.File.{savedStore, greatestDepth, mostArguments, greatestLimit, negative, noFunction, isBuiltin}
 use Rattle.definition.specs.Statements.{Does, next, calls, returns, refuses, handsOver}
 
 -- ---- the program
@@ -57,14 +57,14 @@ pub record Limits : Type 0 where
 
 -- the greatest depth, saved count and run limit; R-11 makes them settings that a load records
 unfoldable pub limits : FileRecord → Limits
-limits r = record { depth = 31; saved = 2048; run = 99999 }
+limits r = record { depth = greatestDepth; saved = savedStore; run = greatestLimit }
 
 abbrev pub zeroFrame : StackFrame
 zeroFrame = record { «instr_id» = pos 0; «func_id» = 0 }
 
 -- "Position, function and depths start at 0. Frames start as zeros"
 abbrev pub startState : FileRecord → State
-startState r = record { file = r; pc = pos 0; function = 0; depth = 0; saved = 0; frames = replicate 31 zeroFrame }
+startState r = record { file = r; pc = pos 0; function = 0; depth = 0; saved = 0; frames = replicate greatestDepth zeroFrame }
 
 -- the n cells from a on are below the count: of no cells none is missing, and the bits of a negative cell number are above every count
 unfoldable pub present : ℕ → ℕ → ℕ → Bool
@@ -109,7 +109,7 @@ entryConditions P f c =
     ∷ (ltb (c .state .depth) (limits (c .state .file) .depth) otherwise 22)
     ∷ (not (negative (d .locals)) && leb (c .state .saved + d .locals) (limits (c .state .file) .saved) otherwise 23)
     ∷ (present (d .start) (d .locals) (countOf c) otherwise 15)
-    ∷ (leb (d .argc) 8 otherwise 24)
+    ∷ (leb (d .argc) mostArguments otherwise 24)
     ∷ (copiesPresent (countOf c) (argumentsOf d) otherwise 15)
     ∷ (not (isBuiltin d) otherwise 21)
     ∷ []

@@ -9,7 +9,7 @@ use lib.Dec.{leb, ltb, eqb}
 use Rattle.definition.specs.declared.StackFrame.{StackFrame}
 use Rattle.definition.specs.declared.RunAnswer.the-variants.{Refused}
 use Rattle.definition.specs.Checks.{Condition, Conditions, _otherwise_, judge, Checked, refused, accepted, guard}
-use Rattle.definition.specs.File.{negative, between}
+use Rattle.definition.specs.File.{savedStore, negative, between}
 use Rattle.definition.specs.Statements.{Does, next, calls, returns, refuses, handsOver, placeOf}
 use Rattle.definition.specs.Machine.{Program, functionOf, State, Config, countOf, limits, zeroFrame, withCells, advanced}
 use Rattle.definition.specs.Machine.{entryConditions, entered, leaveConditions, left, Stepped, refusedStep, step, Ran, runFor}
@@ -42,7 +42,7 @@ localsOf P (f ∷ fs) = functionOf P f .locals + localsOf P fs
 unfoldable pub sound : Program → Config → Bool
 sound P c =
     P .recorded (c .state .file) (length (c .cells))
-    && leb 2048 (length (c .saved))
+    && leb savedStore (length (c .saved))
     && leb (c .state .depth) (limits (c .state .file) .depth)
     && allPresent P (enteredFunctions (c .state))
     && leb (c .state .saved) (limits (c .state .file) .saved)

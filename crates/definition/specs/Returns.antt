@@ -1,49 +1,55 @@
--- DEMAND 3, stated: no function comes back astray. Beside the definition goes a log of notes; at each leaving the machine is compared with the newest.
+-- DEMAND 3, stated: each return restores what its entry found. Beside the machine goes a log, which has a note of each function entered and not yet left
+-- (Log); at each leaving the machine is compared with the newest note.
 use Prim.Native.Nat.{ℕ, _+_, _≤_}
 use mathlib.Core.Path.{_≡_}
 use mathlib.Core.List.{List, [], _∷_}
 use lib.ListN.{length}
 use Rattle.definition.specs.Checks.{accepted}
+use Rattle.definition.specs.File.{savedStore, greatestDepth}
 use Rattle.definition.specs.Machine.{Config}
 use Rattle.definition.specs.Load.{load}
 use Rattle.definition.specs.Calls.{Call}
 use Rattle.definition.specs.Log.{Note, Log, functionIn, localCells, Kind, entry, leaving, other}
-use Rattle.definition.specs.Along.{logAfter, Through}
+use Rattle.definition.specs.Trace.{StepProperty, StateProperty, logAfter, Always}
 
--- "the call depth is the number of functions entered and not yet left, at most 31, and the saved cells number the sum of their local counts, at most 2,048"
+-- the sum of the local counts of the functions that have a note
 unfoldable pub localsNoted : List ℕ → Log → ℕ
 localsNoted file [] = 0
 localsNoted file (n ∷ l) = functionIn file (n .entered) .locals + localsNoted file l
 
-pub record Standing (file : List ℕ) (c : Config) (l : Log) : Type 0 where
+-- the machine's two depths are those of the log: "the call depth is the number of functions entered and not yet left, at most 31, and the saved cells
+-- number the sum of their local counts, at most 2,048"
+pub record DepthsMatch (file : List ℕ) (c : Config) (l : Log) : Type 0 where
   pub depth-is : c .state .depth ≡ length l
-  pub depth-most : c .state .depth ≤ 31
+  pub depth-most : c .state .depth ≤ greatestDepth
   pub saved-is : c .state .saved ≡ localsNoted file l
-  pub saved-most : c .state .saved ≤ 2048
+  pub saved-most : c .state .saved ≤ savedStore
 
--- "position, current function and local cells now equal the note's"; the note is that of the function left
-pub record Back (file : List ℕ) (left : ℕ) (n : Note) (c′ : Config) : Type 0 where
-  pub its-own : n .entered ≡ left
+-- c′, in which the function `left` has just been left, has what the note says was there at the entry: "position, current function and local cells now
+-- equal the note's"; and the note is of that function
+pub record Restored (file : List ℕ) (left : ℕ) (n : Note) (c′ : Config) : Type 0 where
+  pub same-function : n .entered ≡ left
   pub position : c′ .state .pc ≡ n .position
   pub current : c′ .state .function ≡ n .current
   pub cells : localCells file left (c′ .cells) ≡ n .cells
 
--- at a leaving there is a newest note, and it is gone back to
-abbrev pub Right : List ℕ → Kind → Config → Log → Config → Type 0
-Right file (entry f p) c l c′ = Unit {0}
-Right file leaving c [] c′ = ⊥
-Right file leaving c (n ∷ l) c′ = Back file (c .state .function) n c′
-Right file other c l c′ = Unit {0}
+-- of a small step that is a leaving: there is a newest note, and what it says is restored
+abbrev pub LeavingRestores : List ℕ → StepProperty
+LeavingRestores file (entry f p) c l c′ = Unit {0}
+LeavingRestores file leaving c [] c′ = ⊥
+LeavingRestores file leaving c (n ∷ l) c′ = Restored file (c .state .function) n c′
+LeavingRestores file other c l c′ = Unit {0}
 
--- if the step is a leaving it goes back rightly, and after it the depths stand
-pub record Holds (file : List ℕ) (k : Kind) (c : Config) (l : Log) (c′ : Config) : Type 0 where
-  pub right : Right file k c l c′
-  pub standing : Standing file c′ (logAfter file k c l)
+-- what demand 3 asks of every small step
+pub record StepCorrect (file : List ℕ) (k : Kind) (c : Config) (l : Log) (c′ : Config) : Type 0 where
+  pub restores : LeavingRestores file k c l c′
+  pub depths : DepthsMatch file c′ (logAfter file k c l)
 
--- of every file, every accepted load of it and every list of calls after that
+-- for every file, every accepted load of it and every list of calls after that, from an empty log: every small step is correct, and between the calls
+-- the depths match
 unfoldable pub Demand3 : Type 0
 Demand3 =
     (file cells saved : List ℕ) (c : Config)
     → load file cells saved ≡ accepted c
     → (calls : List Call)
-    → Through file (Holds file) (Standing file) c [] calls
+    → Always file (StepCorrect file) (DepthsMatch file) c [] calls

@@ -16,7 +16,7 @@ use Rattle.definition.specs.declared.StackFrame.{StackFrame}
 use Rattle.definition.specs.Checks.{judge, Checked, refused, accepted, guard}
 use Rattle.definition.specs.File.{byteAt, u16At, u32At, fileOf, lumpsFit, records, Contents, contentsAt, builtinNumber, noFunction}
 use Rattle.definition.specs.Cells.{float, entity, lookup, scalar, passes, signed, cellOf, cellAccess, vectorAccess, access, readAccess}
-use Rattle.definition.specs.Statements.{shapeOf, floatsEffect, vectorResult, vectorsEffect, dotsEffect, negatesVEffect, storesEffect, storesVEffect, branchesDo, callOf, callDoes}
+use Rattle.definition.specs.Statements.{shapeOf, floatsEffect, vectorResult, vectorsEffect, vectorsToFloatEffect, negatesVEffect, storesEffect, storesVEffect, branchesDo, callOf, callDoes}
 use Rattle.definition.specs.Statements.{fetchConditions, execute, doesAt}
 use Rattle.definition.specs.Machine.{Program, Config, limits, zeroFrame, present, copied, successive, arguments, copiesPresent}
 use Rattle.definition.specs.Machine.{entryConditions, entered, leaveConditions, left, Stepped, completed, refusedStep, handedStep, stepAs, step, runFor}
@@ -430,7 +430,7 @@ own = accepted (20 ∷ 15 ∷ 28 ∷ 27 ∷ 29 ∷ 15 ∷ 15 ∷ [])
 pub data Row : Type 0 where
   row : String → Seen → Seen → Row
 
-abbrev sameNumbers : List ℕ → List ℕ → Bool
+abbrev pub sameNumbers : List ℕ → List ℕ → Bool
 sameNumbers [] [] = true
 sameNumbers [] (y ∷ ys) = false
 sameNumbers (x ∷ xs) [] = false
@@ -673,7 +673,7 @@ unfolding judge guard
     byteAt u16At u32At fileOf lumpsFit records contentsAt builtinNumber
     Ieee.ofBits Ieee.toBits Ieee.add Ieee.mul Ieee.div Ieee.eq Ieee.toSigned Ieee.ofInt
     lookup scalar passes signed cellOf cellAccess vectorAccess access readAccess
-    shapeOf floatsEffect vectorResult vectorsEffect dotsEffect negatesVEffect storesEffect storesVEffect branchesDo callOf callDoes fetchConditions execute doesAt
+    shapeOf floatsEffect vectorResult vectorsEffect vectorsToFloatEffect negatesVEffect storesEffect storesVEffect branchesDo callOf callDoes fetchConditions execute doesAt
     limits present copied successive arguments copiesPresent entryConditions entered leaveConditions left stepAs step runFor
     each headerConditions recordConditions cellConditions loaded load sameFile recordedIn programAt
     frameFunctions enteredFunctions allPresent localsOf sound hostEnter statement runConditions run carryOnConditions carryOn leftTimes leavingsConditions abandonConditions abandon rawRead rawWrite

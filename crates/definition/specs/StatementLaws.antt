@@ -15,12 +15,12 @@ use Rattle.definition.specs.declared.Statement.{Statement}
 use Rattle.definition.specs.declared.FunctionDef.{FunctionDef}
 use Rattle.definition.specs.declared.Handover.the-variants.{Builtin, Opcode}
 use Rattle.definition.specs.Checks.{Condition, Conditions, judge}
-use Rattle.definition.specs.File.{Contents, contentsOf, fileOf, noFunction, negative, between, isBuiltin, builtinOf, builtinKnown}
+use Rattle.definition.specs.File.{opcodeCount, Contents, contentsOf, fileOf, noFunction, negative, between, isBuiltin, builtinOf, builtinKnown}
 use Rattle.definition.specs.Floats.{flag, notV, isZero}
 use Rattle.definition.specs.Cells.{float, vector, string, function, cellOf, signed, Typing, typingOf, typeIs, addressed, cellAccess, vectorAccess, access, mustBeNatural, readAccess}
 use Rattle.definition.specs.Statements.{Does, next, calls, returns, refuses, handsOver, orRefused, provided, moved}
-use Rattle.definition.specs.Statements.{Shape, floats, values, vectors, dots, strings, negates, negatesV, negatesS, stores, storesV, branches, jumps, call, return, host, opcodes, shapeOf}
-use Rattle.definition.specs.Statements.{floatsEffect, valuesEffect, vectorResult, vectorsEffect, dotsEffect, operandGiven, stringAccess, stringResult, stringsEffect, unused, negatesEffect, negatesVEffect, negatesSEffect}
+use Rattle.definition.specs.Statements.{Shape, floats, values, vectors, vectorsToFloat, strings, negates, negatesV, negatesS, stores, storesV, branches, jumps, call, return, host, opcodes, shapeOf}
+use Rattle.definition.specs.Statements.{floatsEffect, valuesEffect, vectorResult, vectorsEffect, vectorsToFloatEffect, operandGiven, stringAccess, stringResult, stringsEffect, unused, negatesEffect, negatesVEffect, negatesSEffect}
 use Rattle.definition.specs.Statements.{storedNatural, storesEffect, reservedCell, moveAccess, storesVEffect, branchesDo, callOf, callDoes, statementAt, fetchConditions, executeAs, execute, doesAt}
 use Rattle.definition.specs.Machine.{Program}
 use Rattle.definition.specs.Load.{programAt, programOf}
@@ -29,39 +29,29 @@ use Rattle.definition.specs.CheckLaws.{All, judge-passed, all-front, all
 
 -- ---- the table of opcodes
 
+-- whether a shape is a Call's, and whether it is that of Return and Done
+abbrev transfers : Shape → Bool × Bool
+transfers (floats f) = (false, false)
+transfers (values t f) = (false, false)
+transfers (vectors ta tb f) = (false, false)
+transfers (vectorsToFloat f) = (false, false)
+transfers (strings f) = (false, false)
+transfers (negates t f) = (false, false)
+transfers negatesV = (false, false)
+transfers negatesS = (false, false)
+transfers (stores t) = (false, false)
+transfers storesV = (false, false)
+transfers (branches when) = (false, false)
+transfers jumps = (false, false)
+transfers call = (true, false)
+transfers return = (false, true)
+transfers host = (false, false)
+
 abbrev isCall : Shape → Bool
-isCall (floats f) = false
-isCall (values t f) = false
-isCall (vectors ta tb f) = false
-isCall (dots f) = false
-isCall (strings f) = false
-isCall (negates t f) = false
-isCall negatesV = false
-isCall negatesS = false
-isCall (stores t) = false
-isCall storesV = false
-isCall (branches when) = false
-isCall jumps = false
-isCall call = true
-isCall return = false
-isCall host = false
+isCall s = transfers s .0
 
 abbrev isReturn : Shape → Bool
-isReturn (floats f) = false
-isReturn (values t f) = false
-isReturn (vectors ta tb f) = false
-isReturn (dots f) = false
-isReturn (strings f) = false
-isReturn (negates t f) = false
-isReturn negatesV = false
-isReturn negatesS = false
-isReturn (stores t) = false
-isReturn storesV = false
-isReturn (branches when) = false
-isReturn jumps = false
-isReturn call = false
-isReturn return = true
-isReturn host = false
+isReturn s = transfers s .1
 
 abbrev callOpcode : ℕ → Bool
 callOpcode op = between 51 59 op
@@ -98,7 +88,7 @@ record Named (op : ℕ) (s : Shape) : Type 0 where
   as-call : isCall s ≡ callOpcode op
   as-return : isReturn s ≡ returnOpcode op
 
-named : (op : ℕ) → op < 66 → Named op (shapeOf op)
+named : (op : ℕ) → op < opcodeCount → Named op (shapeOf op)
 unfolding shapeOf opcodes asOpcode
 named op h =
     let e : asOpcode (0 + op) (shapeOf op) ≡ true = every-at asOpcode host opcodes 0 table op h in
@@ -151,20 +141,20 @@ unfolding cellAccess
 move-below g true a b h = ltb-true b (g .count) (h .1 .0)
 move-below g false a b h = ltb-true b (g .count) (h .1 .1 .1 .0)
 
--- ---- what a statement is
+-- ---- the kind of a statement
 
--- by the kind that the log takes it for, at the position p
-abbrev pub Is : ℕ → ℤ → List ℕ → Kind → Does → Type 0
-Is count p cells κ (next p′ cells′) = (κ ≡ other) × Keeps count cells cells′
-Is count p cells κ (calls f) = κ ≡ entry f (p +ℤ pos 1)
-Is count p cells κ (returns a) = κ ≡ leaving
-Is count p cells κ (refuses n) = Unit {0}
-Is count p cells κ (handsOver h) = Unit {0}
+-- what a statement at the position p does agrees with the kind that the log takes it for
+abbrev pub HasKind : ℕ → ℤ → List ℕ → Kind → Does → Type 0
+HasKind count p cells κ (next p′ cells′) = (κ ≡ other) × Keeps count cells cells′
+HasKind count p cells κ (calls f) = κ ≡ entry f (p +ℤ pos 1)
+HasKind count p cells κ (returns a) = κ ≡ leaving
+HasKind count p cells κ (refuses n) = Unit {0}
+HasKind count p cells κ (handsOver h) = Unit {0}
 
-provided-is : (count : ℕ) (p : ℤ) (cells : List ℕ) (κ : Kind) (cs : Conditions) (d : Does) → (All cs → Is count p cells κ d) → Is count p cells κ (provided cs d)
-provided-is count p cells κ cs d is = go (judge cs) refl
+provided-has-kind : (count : ℕ) (p : ℤ) (cells : List ℕ) (κ : Kind) (cs : Conditions) (d : Does) → (All cs → HasKind count p cells κ d) → HasKind count p cells κ (provided cs d)
+provided-has-kind count p cells κ cs d is = go (judge cs) refl
   where
-    go : (n : ℕ) → judge cs ≡ n → Is count p cells κ (orRefused n d)
+    go : (n : ℕ) → judge cs ≡ n → HasKind count p cells κ (orRefused n d)
     go zero e = is (judge-passed cs e)
     go (suc n) e = tt
 
@@ -172,12 +162,12 @@ provided-is count p cells κ cs d is = go (judge cs) refl
 record Called (functions : List FunctionDef) (p : ℤ) (f : ℕ) (κ : Kind) : Type 0 where
   enters : isBuiltin (getD functions f noFunction) ≡ false → κ ≡ entry f (p +ℤ pos 1)
 
-call-is : (functions : List FunctionDef) (count : ℕ) (p : ℤ) (cells : List ℕ) (f : ℕ) (κ : Kind) → Called functions p f κ → Is count p cells κ (callOf functions f)
+call-has-kind : (functions : List FunctionDef) (count : ℕ) (p : ℤ) (cells : List ℕ) (f : ℕ) (κ : Kind) → Called functions p f κ → HasKind count p cells κ (callOf functions f)
 unfolding callOf
-call-is functions count p cells f κ called = provided-is count p cells κ _ _ λ h. go (isBuiltin (getD functions f noFunction)) refl
+call-has-kind functions count p cells f κ called = provided-has-kind count p cells κ _ _ λ h. go (isBuiltin (getD functions f noFunction)) refl
   where
     go : (b : Bool) → isBuiltin (getD functions f noFunction) ≡ b
-        → Is count p cells κ (cond b (handsOver (Builtin (builtinOf (getD functions f noFunction)))) (calls f))
+        → HasKind count p cells κ (cond b (handsOver (Builtin (builtinOf (getD functions f noFunction)))) (calls f))
     go true e = tt
     go false e = called .enters e
 
@@ -191,46 +181,46 @@ module _ (k : Contents) (p : ℤ) (st : Statement) (cells : List ℕ) (κ : Kind
     as-leaving : isCall s ≡ false → isReturn s ≡ true → κ ≡ leaving
     as-call : isCall s ≡ true → Called (k .functions) p (getD cells a 0) κ
 
-  executed : (s : Shape) → Expected s → Is count p cells κ (executeAs s k (typingOf k) p st a b c cells)
-  unfolding floatsEffect valuesEffect vectorsEffect vectorResult dotsEffect stringsEffect negatesEffect negatesVEffect negatesSEffect storesEffect storesVEffect branchesDo callDoes
-  executed (floats f) e = provided-is count p cells κ _ _ λ h. (
+  executed : (s : Shape) → Expected s → HasKind count p cells κ (executeAs s k (typingOf k) p st a b c cells)
+  unfolding floatsEffect valuesEffect vectorsEffect vectorResult vectorsToFloatEffect stringsEffect negatesEffect negatesVEffect negatesSEffect storesEffect storesVEffect branchesDo callDoes
+  executed (floats f) e = provided-has-kind count p cells κ _ _ λ h. (
     e .as-other refl refl,
     keeps-one count cells c _ (access-below (typingOf k) float c (all-back (access (typingOf k) float a ++ access (typingOf k) float b) _ h)),
   )
-  executed (values t f) e = provided-is count p cells κ _ _ λ h. (
+  executed (values t f) e = provided-has-kind count p cells κ _ _ λ h. (
     e .as-other refl refl,
     keeps-one count cells c _ (access-below (typingOf k) float c (all-back (readAccess (typingOf k) (mustBeNatural t) t a cells ++ readAccess (typingOf k) (mustBeNatural t) t b cells) _ h)),
   )
-  executed (vectors ta tb f) e = provided-is count p cells κ _ _ λ h.
+  executed (vectors ta tb f) e = provided-has-kind count p cells κ _ _ λ h.
       let below : c + 2 < count = vector-last (typingOf k) c (all-back (access (typingOf k) ta a ++ access (typingOf k) tb b) _ h) in (
         e .as-other refl refl,
         keeps-set count cells _ (c + 2) _ below (keeps-set count cells _ (c + 1) _ (omega arith) (keeps-one count cells c _ (omega arith))),
       )
-  executed (dots f) e = provided-is count p cells κ _ _ λ h. (
+  executed (vectorsToFloat f) e = provided-has-kind count p cells κ _ _ λ h. (
     e .as-other refl refl,
     keeps-one count cells c _ (access-below (typingOf k) float c (all-back (access (typingOf k) vector a ++ access (typingOf k) vector b) _ h)),
   )
-  executed (strings f) e = provided-is count p cells κ _ _ λ h. (
+  executed (strings f) e = provided-has-kind count p cells κ _ _ λ h. (
     e .as-other refl refl,
     keeps-one count cells c _ (access-below (typingOf k) float c (all-back (operandGiven a ++ operandGiven b ++ stringAccess (typingOf k) a b) _ h)),
   )
-  executed (negates t f) e = provided-is count p cells κ _ _ λ h. (
+  executed (negates t f) e = provided-has-kind count p cells κ _ _ λ h. (
     e .as-other refl refl,
     keeps-one count cells c _ (access-below (typingOf k) float c (all-back (unused b ++ readAccess (typingOf k) (mustBeNatural t) t a cells) _ h)),
   )
-  executed negatesV e = provided-is count p cells κ _ _ λ h. (
+  executed negatesV e = provided-has-kind count p cells κ _ _ λ h. (
     e .as-other refl refl,
     keeps-one count cells c _ (access-below (typingOf k) float c (all-back (unused b ++ access (typingOf k) vector a) _ h)),
   )
-  executed negatesS e = provided-is count p cells κ _ _ λ h. (
+  executed negatesS e = provided-has-kind count p cells κ _ _ λ h. (
     e .as-other refl refl,
     keeps-one count cells c _ (access-below (typingOf k) float c (all-back (unused b ++ operandGiven a ++ access (typingOf k) string a) _ h)),
   )
-  executed (stores t) e = provided-is count p cells κ _ _ λ h. (
+  executed (stores t) e = provided-has-kind count p cells κ _ _ λ h. (
     e .as-other refl refl,
     keeps-one count cells b _ (access-below (typingOf k) t b (all-back (unused c ++ readAccess (typingOf k) (storedNatural t) t a cells) _ h)),
   )
-  executed storesV e = provided-is count p cells κ _ _ λ h.
+  executed storesV e = provided-has-kind count p cells κ _ _ λ h.
       let raw = reservedCell b in
       let third : b + 2 < count = move-below (typingOf k) raw (a + 2) (b + 2)
       (all-back (unused c ++ moveAccess (typingOf k) raw a b ++ moveAccess (typingOf k) raw (a + 1) (b + 1)) (moveAccess (typingOf k) raw (a + 2) (b + 2)) h)
@@ -238,13 +228,13 @@ module _ (k : Contents) (p : ℤ) (st : Statement) (cells : List ℕ) (κ : Kind
         e .as-other refl refl,
         keeps-set count cells _ (b + 2) _ third (keeps-set count cells _ (b + 1) _ (omega arith) (keeps-one count cells b _ (omega arith))),
       )
-  executed (branches when) e = provided-is count p cells κ _ _ λ h. (e .as-other refl refl, keeps-all count cells)
+  executed (branches when) e = provided-has-kind count p cells κ _ _ λ h. (e .as-other refl refl, keeps-all count cells)
   executed jumps e = (e .as-other refl refl, keeps-all count cells)
-  executed call e = provided-is count p cells κ _ _ λ h. call-is (k .functions) count p cells (getD cells a 0) κ (e .as-call refl)
+  executed call e = provided-has-kind count p cells κ _ _ λ h. call-has-kind (k .functions) count p cells (getD cells a 0) κ (e .as-call refl)
   executed return e = e .as-leaving refl refl
   executed host e = tt
 
--- ---- what the statement at a position is
+-- ---- the kind of the statement at a position
 
 kind-of : (file : List ℕ) (p : ℤ) (cells : List ℕ) → (s : Shape) → Named (statementAt (contentsOf file .statements) p .opcode) s
     → Expected (contentsOf file) p (statementAt (contentsOf file .statements) p) cells (statementKind file p cells)
@@ -260,11 +250,11 @@ kind-of file p cells s n =
       as-call = λ c. record { enters = λ b. rw (sym (n .as-call) ∙ c, b) };
     }
 
-pub statement-is : (file : List ℕ) (p : ℤ) (cells : List ℕ)
-    → Is (length (contentsOf file .globals)) p cells (statementKind file p cells) (programOf file .does p cells)
+pub statement-has-kind : (file : List ℕ) (p : ℤ) (cells : List ℕ)
+    → HasKind (length (contentsOf file .globals)) p cells (statementKind file p cells) (programOf file .does p cells)
 unfolding programAt doesAt execute fetchConditions
-statement-is file p cells =
-    provided-is _ p cells _ _ _ λ h.
+statement-has-kind file p cells =
+    provided-has-kind _ p cells _ _ _ λ h.
     let st = statementAt (contentsOf file .statements) p in
     executed (contentsOf file) p st cells (statementKind file p cells) (cellOf (st .arg1)) (cellOf (st .arg2)) (cellOf (st .arg3)) (shapeOf (st .opcode))
     (kind-of file p cells (shapeOf (st .opcode)) (named (st .opcode) (ltb-true _ _ (h .1 .0))))

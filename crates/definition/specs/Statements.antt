@@ -10,7 +10,7 @@ use Rattle.definition.specs.declared.FunctionDef.{FunctionDef}
 use Rattle.definition.specs.declared.Handover.{Handover}
 use Rattle.definition.specs.declared.Handover.the-variants.{Builtin, Opcode}
 use Rattle.definition.specs.Checks.{Condition, Conditions, _otherwise_, judge}
-use Rattle.definition.specs.File.{Contents, noFunction, isBuiltin, builtinOf, builtinKnown}
+use Rattle.definition.specs.File.{opcodeCount, Contents, noFunction, isBuiltin, builtinOf, builtinKnown}
 use Rattle.definition.specs.Floats.{addF, subF, mulF, divF, eqF, neF, leF, geF, ltF, gtF, andF, orF, notF, bitAndF, bitOrF, isZero, flag}
 use Rattle.definition.specs.Floats.{mulV, eqV, neV, notV, eqN, neN, notN}
 use Rattle.definition.specs.Cells.{string, float, vector, entity, field, function, cellOf, signed, Typing, typingOf}
@@ -45,7 +45,7 @@ pub data Shape : Type 0 where
   -- two operands, each a vector or a float for each component, to a vector
   vectors : ℕ → ℕ → (ℕ → ℕ → ℕ) → Shape
   -- two vectors to a float
-  dots : (ℕ → ℕ → ℕ → ℕ → ℕ → ℕ → ℕ) → Shape
+  vectorsToFloat : (ℕ → ℕ → ℕ → ℕ → ℕ → ℕ → ℕ) → Shape
   -- two strings to a float, by number
   strings : (ℕ → ℕ → ℕ) → Shape
   -- a Not: a value of a type to a float; NotV and NotS go their own ways
@@ -67,12 +67,12 @@ pub data Shape : Type 0 where
 unfoldable pub opcodes : List Shape
 opcodes =
     -- 0: Done, MulF, MulV, MulFV, MulVF, Div
-    (return ∷ floats mulF ∷ dots mulV ∷ vectors float vector mulF ∷ vectors vector float mulF ∷ floats divF ∷ [])
+    (return ∷ floats mulF ∷ vectorsToFloat mulV ∷ vectors float vector mulF ∷ vectors vector float mulF ∷ floats divF ∷ [])
     -- 6: AddF, AddV, SubF, SubV
     ++ (floats addF ∷ vectors vector vector addF ∷ floats subF ∷ vectors vector vector subF ∷ [])
     -- 10: EqF, EqV, EqS, EqEnt, EqFnc; NeF, NeV, NeS, NeEnt, NeFnc
-    ++ (floats eqF ∷ dots eqV ∷ strings eqN ∷ values entity eqN ∷ values function eqN ∷ [])
-    ++ (floats neF ∷ dots neV ∷ strings neN ∷ values entity neN ∷ values function neN ∷ [])
+    ++ (floats eqF ∷ vectorsToFloat eqV ∷ strings eqN ∷ values entity eqN ∷ values function eqN ∷ [])
+    ++ (floats neF ∷ vectorsToFloat neV ∷ strings neN ∷ values entity neN ∷ values function neN ∷ [])
     -- 20: Le, Ge, Lt, Gt
     ++ (floats leF ∷ floats geF ∷ floats ltF ∷ floats gtF ∷ [])
     -- 24: LoadF, LoadV, LoadS, LoadEnt, LoadFld, LoadFnc, Address
@@ -137,8 +137,8 @@ vectorsEffect ta tb f g a b c cells =
       cells = vectorResult ta tb f a b c cells;
     }
 
-unfoldable pub dotsEffect : (ℕ → ℕ → ℕ → ℕ → ℕ → ℕ → ℕ) → Typing → ℕ → ℕ → ℕ → List ℕ → Effect
-dotsEffect f g a b c cells =
+unfoldable pub vectorsToFloatEffect : (ℕ → ℕ → ℕ → ℕ → ℕ → ℕ → ℕ) → Typing → ℕ → ℕ → ℕ → List ℕ → Effect
+vectorsToFloatEffect f g a b c cells =
     record {
       conditions = access g vector a ++ access g vector b ++ access g float c;
       cells = set cells c (f (getD cells a 0) (getD cells (a + 1) 0) (getD cells (a + 2) 0) (getD cells b 0) (getD cells (b + 1) 0) (getD cells (b + 2) 0));
@@ -253,7 +253,7 @@ statementAt statements p = getD statements (placeOf (length statements) p) noSta
 unfoldable pub fetchConditions : List Statement → ℤ → Conditions
 fetchConditions statements p =
     (ltb (placeOf (length statements) p) (length statements) otherwise 14)
-    ∷ (ltb (statementAt statements p .opcode) 66 otherwise 7)
+    ∷ (ltb (statementAt statements p .opcode) opcodeCount otherwise 7)
     ∷ []
 
 -- a statement of a shape at the position p, whose operands name the cells a, b and c
@@ -261,7 +261,7 @@ abbrev pub executeAs : Shape → Contents → Typing → ℤ → Statement → �
 executeAs (floats f) k g p st a b c cells = effectDoes p (floatsEffect f g a b c cells)
 executeAs (values t f) k g p st a b c cells = effectDoes p (valuesEffect t f g a b c cells)
 executeAs (vectors ta tb f) k g p st a b c cells = effectDoes p (vectorsEffect ta tb f g a b c cells)
-executeAs (dots f) k g p st a b c cells = effectDoes p (dotsEffect f g a b c cells)
+executeAs (vectorsToFloat f) k g p st a b c cells = effectDoes p (vectorsToFloatEffect f g a b c cells)
 executeAs (strings f) k g p st a b c cells = effectDoes p (stringsEffect f g a b c cells)
 executeAs (negates t f) k g p st a b c cells = effectDoes p (negatesEffect t f g a b c cells)
 executeAs negatesV k g p st a b c cells = effectDoes p (negatesVEffect g a b c cells)

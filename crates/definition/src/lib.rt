@@ -1,6 +1,58 @@
 // The plain data that the definition, the code and the answers share. Nothing is computed here: what the machine does is in specs/.
 // A number of the file is kept as its unsigned bits; a signed one is negative where its top bit is set.
 
+// ---- the numbers of document 01, of which the definition has the same, in specs/File.antt (`longestFile` and so on)
+
+// "Version 6; check number 5927"
+pub const VERSION: u32 = 6;
+
+pub const CHECK_NUMBER: u32 = 5927;
+
+// "Record sizes: 8, 8, 8, 36, 1, 4 bytes": of a statement, a definition of either kind, a function, a byte of the strings, a cell.
+pub const STATEMENT_SIZE: usize = 8;
+
+pub const DEFINITION_SIZE: usize = 8;
+
+pub const FUNCTION_SIZE: usize = 36;
+
+pub const CELL_SIZE: usize = 4;
+
+// "1: length under 60 or over 1,048,576"
+pub const HEADER_LENGTH: usize = 60;
+
+pub const LONGEST_FILE: usize = 1_048_576;
+
+// 7: the opcodes are 0 to 65.
+pub const OPCODE_COUNT: u16 = 66;
+
+// "8: type over 7, flag apart"
+pub const GREATEST_TYPE: u16 = 7;
+
+// "Bit 15 of the type is the save flag"
+pub const SAVE_FLAG: u16 = 32_768;
+
+// "10: under 36 or over 32,768"
+pub const LEAST_CELLS: usize = 36;
+
+pub const MOST_CELLS: usize = 32_768;
+
+// "11: entity cells under 105"
+pub const LEAST_ENTITY_CELLS: usize = 105;
+
+// "12: .. saved store under 2,048", "23: .. saved over 2,048"
+pub const SAVED_STORE: usize = 2_048;
+
+// "13: .. depth over 31", "22: depth is 31"
+pub const GREATEST_DEPTH: usize = 31;
+
+// "24: argument count outside 0 to 8"
+pub const MOST_ARGUMENTS: usize = 8;
+
+// "28: limit outside 1 to 99,999"
+pub const GREATEST_LIMIT: usize = 99_999;
+
+// ---- records
+
 // A lump of the header: where its records start, and how many there are.
 #[repr(C)]
 pub struct Lump {
@@ -56,6 +108,8 @@ pub struct StackFrame {
     pub instr_id: i64,
     pub func_id: usize,
 }
+
+// ---- answers
 
 // What is handed to the host: a builtin or an opcode, with its number.
 pub enum Handover {

@@ -10,7 +10,12 @@ use Rattle.definition.specs.declared.Statement.{Statement}
 use Rattle.definition.specs.declared.FunctionDef.{FunctionDef}
 use Rattle.definition.specs.Checks.{Conditions, judge}
 use Rattle.definition.specs.Cells.{Typing, cellOf}
-use Rattle.definition.specs.Statements.{Does, refuses, orRefused, provided, fetchConditions, statementAt, branchesDo, effectDoes, callDoes, shapeOf}
+use Rattle.definition.specs.declared.FileRecord.{FileRecord}
+use Rattle.definition.specs.File.{Contents, contentsAt}
+use Rattle.functions.specs.Parts.{partOf, functionsIn}
+use Rattle.functions.specs.Laws.{AllFit}
+use Rattle.typed.specs.Typing.{typing}
+use Rattle.definition.specs.Statements.{Does, orRefused, provided, fetchConditions, statementAt, execute, doesAt, branchesDo, callDoes, shapeOf}
 use Rattle.definition.specs.Operations.{isHandedOver}
 use Rattle.functions.specs.declared.fetch.Fetched.the-variants.{At, Refused}
 use Rattle.functions.specs.Answers.{fetched}
@@ -21,27 +26,27 @@ use Rattle.execution.specs.declared.shapes.CellOp.{CellOp}
 use Rattle.execution.specs.declared.shapes.Shape as code
 use Rattle.execution.specs.declared.shapes.Shape.the-variants.{Cells, Branch, Goto, Call, Return, Host}
 use Rattle.execution.specs.Shapes.{isFloats, shapeAs, effectAs}
-use Rattle.execution.specs.Execution.{statement, executeWith, doesWith, doesOf, executed, execution}
+use Rattle.execution.specs.Execution.{statement, executeWith, doesOf, executed, execution, on-parts}
 use Rattle.execution.proofs.Transfers.{does-is, effect-does, floats-does}
 
-module _ (statements : List Statement) (functions : List FunctionDef) (g : Typing) (p : ℤ) (cells : List ℕ) where
+module _ (k : Contents) (p : ℤ) (cells : List ℕ) where
   refused-as : (n m : ℕ) (d : Does) → n ≡ m → 0 < n → executed (does.Refused n) cells ≡ execution (orRefused m d) cells
   unfolding executed execution
   refused-as n zero d e h = absurd (omega arith)
-  refused-as n (suc m) d e h = ap (λ (k : ℕ). executed (does.Refused k) cells) e
+  refused-as n (suc m) d e h = ap (λ (i : ℕ). executed (does.Refused i) cells) e
 
-  pub not-fetched : (n : ℕ) → Refused n ≡ fetched statements p → executed (does.Refused n) cells ≡ execution (doesWith statements functions g p cells) cells
-  unfolding doesWith
+  pub not-fetched : (n : ℕ) → Refused n ≡ fetched (k .statements) p → executed (does.Refused n) cells ≡ execution (doesAt k p cells) cells
+  unfolding doesAt
   not-fetched n e =
-      let r = fetch-refuses statements p n e in
-      refused-as n (judge (fetchConditions statements p)) (executeWith functions g p (statementAt statements p) cells) (r .0) (r .1)
+      let r = fetch-refuses (k .statements) p n e in
+      refused-as n (judge (fetchConditions (k .statements) p)) (execute k p (statementAt (k .statements) p) cells) (r .0) (r .1)
 
-  pub is-fetched : (k : ℕ) (st : Statement) (r : Executed) (cells′ : List ℕ) → At k st ≡ fetched statements p
-      → executed r cells′ ≡ execution (executeWith functions g (pos k) st cells) cells
-      → executed r cells′ ≡ execution (doesWith statements functions g p cells) cells
-  unfolding doesWith
-  is-fetched k st r cells′ e h =
-      let a : FetchedAt statements p k st = fetch-accepts statements p k st e in
+  pub is-fetched : (i : ℕ) (st : Statement) (r : Executed) (cells′ : List ℕ) → At i st ≡ fetched (k .statements) p
+      → executed r cells′ ≡ execution (execute k (pos i) st cells) cells
+      → executed r cells′ ≡ execution (doesAt k p cells) cells
+  unfolding doesAt
+  is-fetched i st r cells′ e h =
+      let a : FetchedAt (k .statements) p i st = fetch-accepts (k .statements) p i st e in
       h ∙ rw (a .conditions, a .statement, a .position)
 
 -- ---- handed over or not, by shape
@@ -89,3 +94,9 @@ floats-not-handed fs g p op x y z cells is = sym (not-handed _ _ refl) ∙ ap is
 
 pub handed-known : (done known : Executed) (b : Bool) → done ≡ known → ((cells : List ℕ) → b ≡ isHandedOver (doesOf known cells)) → (cells : List ℕ) → b ≡ isHandedOver (doesOf done cells)
 handed-known done known b e h cells = h cells ∙ ap (λ (d : Executed). isHandedOver (doesOf d cells)) (sym e)
+
+pub handed-here : (r : FileRecord) (file : List ℕ) → AllFit (length file) r → (defs functions : List ℕ) → defs ≡ partOf 8 (r .globaldefs) file → functions ≡ partOf 36 (r .functions) file
+    → (p : ℤ) (st : Statement) (cells : List ℕ) (b : Bool)
+    → b ≡ isHandedOver (executeWith (functionsIn functions) (typing defs (r .globals .count)) p st cells)
+    → b ≡ isHandedOver (execute (contentsAt r file) p st cells)
+handed-here r file fit defs functions d f p st cells b h = h ∙ ap isHandedOver (on-parts r file fit defs functions d f p st cells)

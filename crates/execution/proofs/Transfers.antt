@@ -23,7 +23,7 @@ use Rattle.functions.specs.Laws.{function-found, function-missing}
 use Rattle.execution.specs.declared.Executed.{Executed}
 use Rattle.execution.specs.declared.Executed.the-variants.{Next, Calls, Returns, Refused, HandedOver}
 use Rattle.execution.specs.declared.shapes.CellOp.{CellOp}
-use Rattle.execution.specs.declared.shapes.CellOp.the-variants.{Values, Vectors, Dots, Strings, Nots, NotV, NotS, Stores, StoreV}
+use Rattle.execution.specs.declared.shapes.CellOp.the-variants.{Values, Vectors, VectorsToFloat, Strings, Nots, NotV, NotS, Stores, StoreV}
 use Rattle.execution.specs.declared.shapes.Shape as code
 use Rattle.execution.specs.declared.shapes.Shape.the-variants.{Cells}
 use Rattle.floats.specs.Opcodes.{floatOp}
@@ -154,7 +154,7 @@ pub effect-does : (what : CellOp) (fs : List FunctionDef) (g : Typing) (p : ℤ)
 unfolding effectAs
 effect-does (Values t) fs g p op x y z cells = refl
 effect-does (Vectors ta tb) fs g p op x y z cells = refl
-effect-does Dots fs g p op x y z cells = refl
+effect-does VectorsToFloat fs g p op x y z cells = refl
 effect-does Strings fs g p op x y z cells = refl
 effect-does (Nots t) fs g p op x y z cells = refl
 effect-does NotV fs g p op x y z cells = refl

@@ -1,22 +1,32 @@
--- EXECUTION OF A FETCHED STATEMENT by the numbers that the code takes, and what it answers.
-use Prim.Native.Nat.{ℕ}
-use mathlib.Core.Path.{_≡_, refl, ap}
+-- EXECUTION OF A FETCHED STATEMENT by the parts of the file that the code takes, and what it answers.
+use Prim.Native.Nat.{ℕ, _≤_}
+use mathlib.Core.Path.{_≡_, refl, ap, _∙_}
 use mathlib.Core.List.{List, []}
 use lib.IntN.{ℤ, pos, _+ℤ_}
 use Rattle.definition.specs.declared.Answer.{Answer}
 use Rattle.definition.specs.declared.Answer.the-variants as answer
 use Rattle.definition.specs.declared.Statement.{Statement}
 use Rattle.definition.specs.declared.FunctionDef.{FunctionDef}
-use Rattle.definition.specs.File.{Contents, records, readStatement, readFunction}
+use Rattle.definition.specs.declared.FileRecord.{FileRecord}
+use lib.ListN.{length}
+use Rattle.definition.specs.File.{Contents, contentsAt, u32At}
+use Rattle.definition.specs.RecordLaws.{length-records}
+use Rattle.functions.specs.Laws.{AllFit}
+use Rattle.functions.specs.Parts.{partOf, functionsIn}
+use Rattle.functions.specs.PartLaws.{part-globaldefs, part-functions}
+use Rattle.typed.specs.Typing.{typing}
 use Rattle.definition.specs.Cells.{cellOf, Typing, typingOf}
 use Rattle.definition.specs.Statements.{Does, next, calls, returns, refuses, handsOver}
-use Rattle.definition.specs.Statements.{Shape, floats, values, vectors, dots, strings, negates, negatesV, negatesS, stores, storesV, branches, jumps, call, return, host, shapeOf}
-use Rattle.definition.specs.Statements.{executeAs, execute, provided, fetchConditions, statementAt, doesAt}
+use Rattle.definition.specs.Statements.{Shape, floats, values, vectors, vectorsToFloat, strings, negates, negatesV, negatesS, stores, storesV, branches, jumps, call, return, host, shapeOf}
+use Rattle.definition.specs.Statements.{executeAs, execute}
 use Rattle.execution.specs.declared.Executed.{Executed}
 use Rattle.execution.specs.declared.Executed.the-variants.{Next, Calls, Returns, Refused, HandedOver}
 
-abbrev pub functionsIn : List ℕ → ℕ → ℕ → List FunctionDef
-functionsIn file functions nfunctions = records (readFunction file) 36 nfunctions functions
+-- what execution asks of a file, of what a state records of it, and of the lent cells
+pub record Usable (end : ℕ) (r : FileRecord) (lent : ℕ) : Type 0 where
+  pub lumps : AllFit end r
+  pub most : r .globals .count ≤ 32768
+  pub lends : r .globals .count ≤ lent
 
 abbrev pub statement : ℕ → ℕ → ℕ → ℕ → Statement
 statement opcode arg1 arg2 arg3 = record { opcode = opcode; arg1 = arg1; arg2 = arg2; arg3 = arg3 }
@@ -40,7 +50,7 @@ execute-with k p st cells = go (shapeOf (st .opcode))
     go (floats f) = refl
     go (values t f) = refl
     go (vectors ta tb f) = refl
-    go (dots f) = refl
+    go (vectorsToFloat f) = refl
     go (strings f) = refl
     go (negates t f) = refl
     go negatesV = refl
@@ -53,16 +63,19 @@ execute-with k p st cells = go (shapeOf (st .opcode))
     go return = refl
     go host = refl
 
-abbrev pub statementsIn : List ℕ → ℕ → ℕ → List Statement
-statementsIn file statements nstatements = records (readStatement file) 8 nstatements statements
+-- ---- on the parts of a file
 
--- the statement at a position, by what execution looks at
-unfoldable pub doesWith : List Statement → List FunctionDef → Typing → ℤ → List ℕ → Does
-doesWith statements functions g p cells = provided (fetchConditions statements p) (executeWith functions g p (statementAt statements p) cells)
+module _ (r : FileRecord) (file : List ℕ) (fit : AllFit (length file) r) where
+  pub typing-here : typing (partOf 8 (r .globaldefs) file) (r .globals .count) ≡ typingOf (contentsAt r file)
+  unfolding contentsAt
+  typing-here =
+      let definitions = part-globaldefs r file fit in
+      let count = length-records (u32At file) 4 (r .globals .count) (r .globals .offset) in
+      cc
 
-pub does-with : (k : Contents) (p : ℤ) (cells : List ℕ) → doesWith (k .statements) (k .functions) (typingOf k) p cells ≡ doesAt k p cells
-unfolding doesWith doesAt
-does-with k p cells = ap (provided (fetchConditions (k .statements) p)) (execute-with k p (statementAt (k .statements) p) cells)
+  pub execute-here : (p : ℤ) (st : Statement) (cells : List ℕ)
+      → executeWith (functionsIn (partOf 36 (r .functions) file)) (typing (partOf 8 (r .globaldefs) file) (r .globals .count)) p st cells ≡ execute (contentsAt r file) p st cells
+  execute-here p st cells = rw (part-functions r file fit, typing-here) (execute-with (contentsAt r file) p st cells)
 
 -- ---- what it answers
 
@@ -99,6 +112,15 @@ module _ (answer : Executed) (cells′ : List ℕ) (d : Does) (cells : List ℕ)
   pub executed-cells : cells′ ≡ cellsAfter (doesOf answer cells′) cells
   unfolding executed execution
   executed-cells = rw executed-does (ap (λ (x : Execution). x .cells) e)
+
+-- what was found on the parts of a file holds of its contents
+module _ (r : FileRecord) (file : List ℕ) (fit : AllFit (length file) r) (defs functions : List ℕ) (d : defs ≡ partOf 8 (r .globaldefs) file) (f : functions ≡ partOf 36 (r .functions) file) (p : ℤ) (st : Statement) (cells : List ℕ) where
+  pub on-parts : executeWith (functionsIn functions) (typing defs (r .globals .count)) p st cells ≡ execute (contentsAt r file) p st cells
+  on-parts = rw (d, f) (execute-here r file fit p st cells)
+
+  pub executed-here : (x : Execution) → x ≡ execution (executeWith (functionsIn functions) (typing defs (r .globals .count)) p st cells) cells
+      → x ≡ execution (execute (contentsAt r file) p st cells) cells
+  executed-here x e = e ∙ ap (λ (d : Does). execution d cells) on-parts
 
 -- a statement that writes cells, at the position p
 unfoldable pub completedAs : ℤ → Answer → Executed

@@ -3,11 +3,11 @@ use Prim.Native.Nat.{ℕ}
 use mathlib.Core.List.{List}
 use mathlib.Core.Bool.{Bool, true, false}
 use Rattle.definition.specs.Cells.{Typing}
-use Rattle.definition.specs.Statements.{Shape, values, vectors, dots, strings, negates, negatesV, negatesS, stores, storesV, branches, jumps, call, return, host}
-use Rattle.definition.specs.Statements.{Effect, valuesEffect, vectorsEffect, dotsEffect, stringsEffect, negatesEffect, negatesVEffect, negatesSEffect, storesEffect, storesVEffect}
-use Rattle.floats.specs.Opcodes.{byShape, valueOp, componentOp, dotOp, notOp}
+use Rattle.definition.specs.Statements.{Shape, values, vectors, vectorsToFloat, strings, negates, negatesV, negatesS, stores, storesV, branches, jumps, call, return, host}
+use Rattle.definition.specs.Statements.{Effect, valuesEffect, vectorsEffect, vectorsToFloatEffect, stringsEffect, negatesEffect, negatesVEffect, negatesSEffect, storesEffect, storesVEffect}
+use Rattle.floats.specs.Opcodes.{byShape, valueOp, componentOp, vectorsToFloatOp, notOp}
 use Rattle.execution.specs.declared.shapes.CellOp.{CellOp}
-use Rattle.execution.specs.declared.shapes.CellOp.the-variants.{Values, Vectors, Dots, Strings, Nots, NotV, NotS, Stores, StoreV}
+use Rattle.execution.specs.declared.shapes.CellOp.the-variants.{Values, Vectors, VectorsToFloat, Strings, Nots, NotV, NotS, Stores, StoreV}
 use Rattle.execution.specs.declared.shapes.Shape as code
 use Rattle.execution.specs.declared.shapes.Shape.the-variants.{Cells, Branch, Goto, Call, Return, Host}
 
@@ -17,7 +17,7 @@ isFloats = byShape (λ g. true) (λ g. false) (λ g. false) (λ g. false) (λ g.
 abbrev pub cellShape : CellOp → ℕ → Shape
 cellShape (Values t) op = values t (valueOp op)
 cellShape (Vectors ta tb) op = vectors ta tb (componentOp op)
-cellShape Dots op = dots (dotOp op)
+cellShape VectorsToFloat op = vectorsToFloat (vectorsToFloatOp op)
 cellShape Strings op = strings (valueOp op)
 cellShape (Nots t) op = negates t (notOp op)
 cellShape NotV op = negatesV
@@ -37,7 +37,7 @@ shapeAs Host op = host
 unfoldable pub effectAs : CellOp → ℕ → Typing → ℕ → ℕ → ℕ → List ℕ → Effect
 effectAs (Values t) op = valuesEffect t (valueOp op)
 effectAs (Vectors ta tb) op = vectorsEffect ta tb (componentOp op)
-effectAs Dots op = dotsEffect (dotOp op)
+effectAs VectorsToFloat op = vectorsToFloatEffect (vectorsToFloatOp op)
 effectAs Strings op = stringsEffect (valueOp op)
 effectAs (Nots t) op = negatesEffect t (notOp op)
 effectAs NotV op = negatesVEffect

@@ -2,24 +2,29 @@
 use crate::shapes::CellOp;
 use crate::shapes::Shape;
 use definition::Answer;
+use definition::DEFINITION_SIZE;
+use definition::FUNCTION_SIZE;
+use definition::FileRecord;
 use definition::Handover;
+use definition::STATEMENT_SIZE;
+use definition::Statement;
 use functions::fetch;
 use functions::fetch::Fetched;
+use functions::parts;
 ghost use mathlib.Core.Path.{_≡_};
-ghost use mathlib.Core.Bool.{true};
 ghost use mathlib.Core.List.{List};
-ghost use Prim.Native.Nat.{ℕ, _-_, _*_, _≤_, _<_};
+ghost use Prim.Native.Nat.{ℕ, _≤_, _<_};
 ghost use lib.IntN.{ℤ, pos};
-ghost use lib.ListN.{length, getD};
-ghost use Rattle.definition.specs.File.{lumpFits};
+ghost use lib.ListN.{length};
+ghost use Rattle.definition.specs.File.{contentsAt};
 ghost use Rattle.definition.specs.Cells.{signed, cellOf};
-ghost use Rattle.definition.specs.Statements.{branchesDo, callOf, callDoes};
+ghost use Rattle.definition.specs.Statements.{branchesDo, callOf, callDoes, execute, doesAt};
 ghost use Rattle.definition.specs.Operations.{isHandedOver};
-ghost use Rattle.functions.specs.Answers.{lump};
+ghost use Rattle.functions.specs.Parts.{functionsIn};
 ghost use Rattle.typed.specs.Typing.{typing};
 ghost use Rattle.globals.specs.Effects.{after, effectOn};
 ghost use Rattle.execution.specs.Shapes.{effectAs};
-ghost use Rattle.execution.specs.Execution.{functionsIn, statementsIn, statement, executeWith, doesWith, completedAs, doesOf, executed, execution};
+ghost use Rattle.execution.specs.Execution.{completedAs, doesOf, executed, execution, Usable};
 
 pub mod shapes;
 
@@ -34,9 +39,7 @@ pub enum Executed {
 
 // A statement that writes cells.
 fn write(
-    file: &[u8],
-    defs: usize,
-    ndefs: usize,
+    defs: &[u8],
     count: usize,
     cells: &mut [u32],
     what: CellOp,
@@ -45,40 +48,16 @@ fn write(
     b: usize,
     c: usize,
 ) -> Answer
-    requires { ⌜ (8 * ndefs ≤ length (now file) - defs) × (count ≤ length (now cells)) ⌝ }
-    ensures { λ r. ⌜ after r (now (cells .exit)) ≡ effectOn (effectAs what op (typing (now (file .entry)) defs ndefs count) a b c (now (cells .entry))) (now (cells .entry)) ⌝ }
+    requires { ⌜ count ≤ length (now cells) ⌝ }
+    ensures { λ r. ⌜ after r (now (cells .exit)) ≡ effectOn (effectAs what op (typing (now (defs .entry)) count) a b c (now (cells .entry))) (now (cells .entry)) ⌝ }
 {
     match what {
-        CellOp::Values(t) => return comparisons::op_values(
-            file,
+        CellOp::Values(t) => return comparisons::op_values(defs, count, cells, op, t, a, b, c),
+        CellOp::Vectors(ta, tb) => {
+            return arithmetic::op_vectors(defs, count, cells, op, ta, a, tb, b, c);
+        }
+        CellOp::VectorsToFloat => return arithmetic::op_vectors_to_float(
             defs,
-            ndefs,
-            count,
-            cells,
-            op,
-            t,
-            a,
-            b,
-            c,
-        ),
-        CellOp::Vectors(ta, tb) => return arithmetic::op_vectors(
-            file,
-            defs,
-            ndefs,
-            count,
-            cells,
-            op,
-            ta,
-            a,
-            tb,
-            b,
-            c,
-        ),
-        CellOp::Dots => return arithmetic::op_dots(file, defs, ndefs, count, cells, op, a, b, c),
-        CellOp::Strings => return comparisons::op_strings(
-            file,
-            defs,
-            ndefs,
             count,
             cells,
             op,
@@ -86,22 +65,12 @@ fn write(
             b,
             c,
         ),
-        CellOp::Nots(t) => return comparisons::op_nots(
-            file,
-            defs,
-            ndefs,
-            count,
-            cells,
-            op,
-            t,
-            a,
-            b,
-            c,
-        ),
-        CellOp::NotV => return comparisons::op_not_v(file, defs, ndefs, count, cells, a, b, c),
-        CellOp::NotS => return comparisons::op_not_s(file, defs, ndefs, count, cells, a, b, c),
-        CellOp::Stores(t) => return stores::op_stores(file, defs, ndefs, count, cells, t, a, b, c),
-        CellOp::StoreV => return stores::op_store_v(file, defs, ndefs, count, cells, a, b, c),
+        CellOp::Strings => return comparisons::op_strings(defs, count, cells, op, a, b, c),
+        CellOp::Nots(t) => return comparisons::op_nots(defs, count, cells, op, t, a, b, c),
+        CellOp::NotV => return comparisons::op_not_v(defs, count, cells, a, b, c),
+        CellOp::NotS => return comparisons::op_not_s(defs, count, cells, a, b, c),
+        CellOp::Stores(t) => return stores::op_stores(defs, count, cells, t, a, b, c),
+        CellOp::StoreV => return stores::op_store_v(defs, count, cells, a, b, c),
     }
 }
 
@@ -117,9 +86,7 @@ fn completed(k: usize, answer: Answer) -> Executed
 
 // If jumps where the float isn't zero, IfNot where it is.
 fn branch(
-    file: &[u8],
-    defs: usize,
-    ndefs: usize,
+    defs: &[u8],
     count: usize,
     cells: &[u32],
     k: usize,
@@ -127,10 +94,10 @@ fn branch(
     a: usize,
     by: u16,
 ) -> Executed
-    requires { ⌜ (8 * ndefs ≤ length (now file) - defs) × (count ≤ length (now cells)) × (k < 2147483648) ⌝ }
-    ensures { λ r. ⌜ doesOf r (now (cells .entry)) ≡ branchesDo when (typing (now (file .entry)) defs ndefs count) (pos k) a (signed by) (now (cells .entry)) ⌝ }
+    requires { ⌜ (count ≤ length (now cells)) × (k < 2147483648) ⌝ }
+    ensures { λ r. ⌜ doesOf r (now (cells .entry)) ≡ branchesDo when (typing (now (defs .entry)) count) (pos k) a (signed by) (now (cells .entry)) ⌝ }
 {
-    let r = typed::check_cell(file, defs, ndefs, count, typed::FLOAT, a);
+    let r = typed::check_cell(defs, count, typed::FLOAT, a);
     if r != 0 {
         return Executed::Refused(r);
     }
@@ -141,17 +108,19 @@ fn branch(
 }
 
 // A Call of the function with a number.
-fn callee(file: &[u8], functions: usize, nfunctions: usize, value: u32) -> Executed
-    requires { ⌜ lumpFits 36 (length (now file)) (lump functions nfunctions) ≡ true ⌝ }
-    ensures { λ r. ⌜ ((cells : List ℕ) → doesOf r cells ≡ callOf (functionsIn (now (file .entry)) functions nfunctions) value) ⌝ }
+fn callee(functions: &[u8], value: u32) -> Executed
+    ensures { λ r. ⌜ ((cells : List ℕ) → doesOf r cells ≡ callOf (functionsIn (now (functions .entry))) value) ⌝ }
 {
     if value == 0 {
         return Executed::Refused(19);
     }
-    let functions::FunctionId::Id(f) = functions::id_from_i32(value, nfunctions) else {
+    let functions::FunctionId::Id(f) = functions::id_from_i32(
+        value,
+        functions.len() / FUNCTION_SIZE,
+    ) else {
         return Executed::Refused(20);
     };
-    let def = functions::get_def(file, functions, nfunctions, f);
+    let def = functions::get_def(functions, f);
     if functions::is_builtin(def) {
         if functions::builtin_known(def) {
             return Executed::HandedOver(Handover::Builtin(functions::builtin_of(def)));
@@ -161,71 +130,52 @@ fn callee(file: &[u8], functions: usize, nfunctions: usize, value: u32) -> Execu
     Executed::Calls(f)
 }
 
-fn call(
-    file: &[u8],
-    defs: usize,
-    ndefs: usize,
-    functions: usize,
-    nfunctions: usize,
-    count: usize,
-    cells: &[u32],
-    a: usize,
-) -> Executed
-    requires { ⌜ (8 * ndefs ≤ length (now file) - defs) × (lumpFits 36 (length (now file)) (lump functions nfunctions) ≡ true) × (count ≤ length (now cells)) ⌝ }
-    ensures { λ r. ⌜ doesOf r (now (cells .entry)) ≡ callDoes (functionsIn (now (file .entry)) functions nfunctions) (typing (now (file .entry)) defs ndefs count) a (now (cells .entry)) ⌝ }
+fn call(defs: &[u8], functions: &[u8], count: usize, cells: &[u32], a: usize) -> Executed
+    requires { ⌜ count ≤ length (now cells) ⌝ }
+    ensures { λ r. ⌜ doesOf r (now (cells .entry)) ≡ callDoes (functionsIn (now (functions .entry))) (typing (now (defs .entry)) count) a (now (cells .entry)) ⌝ }
 {
-    let r = typed::check_cell(file, defs, ndefs, count, typed::FUNCTION, a);
+    let r = typed::check_cell(defs, count, typed::FUNCTION, a);
     if r != 0 {
         return Executed::Refused(r);
     }
-    callee(file, functions, nfunctions, cells[a])
+    callee(functions, cells[a])
 }
 
-// The statement k, whose opcode is op and whose operands are x, y and z.
+// The statement k.
 pub fn execute(
     file: &[u8],
-    defs: usize,
-    ndefs: usize,
-    functions: usize,
-    nfunctions: usize,
-    count: usize,
+    recorded: FileRecord,
     cells: &mut [u32],
     k: usize,
-    op: u16,
-    x: u16,
-    y: u16,
-    z: u16,
+    s: Statement,
 ) -> Executed
-    requires { ⌜ (8 * ndefs ≤ length (now file) - defs) × (lumpFits 36 (length (now file)) (lump functions nfunctions) ≡ true) × (count ≤ length (now cells)) × (count ≤ 32768) × (k < 2147483648) × (op < 66) ⌝ }
-    ensures { λ r. ⌜ executed r (now (cells .exit)) ≡ execution (executeWith (functionsIn (now (file .entry)) functions nfunctions) (typing (now (file .entry)) defs ndefs count) (pos k) (statement op x y z) (now (cells .entry))) (now (cells .entry)) ⌝ }
+    requires { ⌜ Usable (length (now file)) recorded (length (now cells)) ⌝ }
+    requires { ⌜ (k < 2147483648) × (s .opcode < 66) ⌝ }
+    ensures { λ r. ⌜ executed r (now (cells .exit)) ≡ execution (execute (contentsAt recorded (now (file .entry))) (pos k) s (now (cells .entry))) (now (cells .entry)) ⌝ }
 {
-    if shapes::is_floats(op) {
-        let answer = arithmetic::op_floats(file, defs, ndefs, count, cells, op, x, y, z);
+    let defs = parts::part(file, DEFINITION_SIZE, recorded.globaldefs);
+    let count = recorded.globals.count;
+    if shapes::is_floats(s.opcode) {
+        let answer = arithmetic::op_floats(defs, count, cells, s.opcode, s.arg1, s.arg2, s.arg3);
         return completed(k, answer);
     }
-    let a = fetch::cell_of(x);
-    let shape = shapes::shape_of(op);
+    let a = fetch::cell_of(s.arg1);
+    let shape = shapes::shape_of(s.opcode);
     match shape {
         Shape::Cells(what) => {
-            let answer = write(
-                file,
-                defs,
-                ndefs,
-                count,
-                cells,
-                what,
-                op,
-                a,
-                fetch::cell_of(y),
-                fetch::cell_of(z),
-            );
+            let b = fetch::cell_of(s.arg2);
+            let c = fetch::cell_of(s.arg3);
+            let answer = write(defs, count, cells, what, s.opcode, a, b, c);
             return completed(k, answer);
         }
-        Shape::Branch(when) => return branch(file, defs, ndefs, count, cells, k, when, a, y),
-        Shape::Goto => return Executed::Next(fetch::jump(k, x)),
-        Shape::Call => return call(file, defs, ndefs, functions, nfunctions, count, cells, a),
+        Shape::Branch(when) => return branch(defs, count, cells, k, when, a, s.arg2),
+        Shape::Goto => return Executed::Next(fetch::jump(k, s.arg1)),
+        Shape::Call => {
+            let functions = parts::part(file, FUNCTION_SIZE, recorded.functions);
+            return call(defs, functions, count, cells, a);
+        }
         Shape::Return => return Executed::Returns(a),
-        Shape::Host => return Executed::HandedOver(Handover::Opcode(op as u32)),
+        Shape::Host => return Executed::HandedOver(Handover::Opcode(s.opcode as u32)),
     }
 }
 
@@ -241,32 +191,25 @@ fn is_handed_over(done: Executed) -> bool
     }
 }
 
-// Whether a statement, with the cells as they are, would be handed over.
-pub fn hands_over(
-    file: &[u8],
-    defs: usize,
-    ndefs: usize,
-    functions: usize,
-    nfunctions: usize,
-    count: usize,
-    cells: &[u32],
-    op: u16,
-    x: u16,
-) -> bool
-    requires { ⌜ (8 * ndefs ≤ length (now file) - defs) × (lumpFits 36 (length (now file)) (lump functions nfunctions) ≡ true) × (count ≤ length (now cells)) × (op < 66) ⌝ }
-    ensures { λ r. ⌜ ((p : ℤ) (y z : ℕ) → r ≡ isHandedOver (executeWith (functionsIn (now (file .entry)) functions nfunctions) (typing (now (file .entry)) defs ndefs count) p (statement op x y z) (now (cells .entry)))) ⌝ }
+// Whether a statement, with the cells as they are, would be handed over: only a Call and what is the host's can be.
+pub fn hands_over(file: &[u8], recorded: FileRecord, cells: &[u32], s: Statement) -> bool
+    requires { ⌜ Usable (length (now file)) recorded (length (now cells)) ⌝ }
+    requires { ⌜ s .opcode < 66 ⌝ }
+    ensures { λ r. ⌜ ((p : ℤ) → r ≡ isHandedOver (execute (contentsAt recorded (now (file .entry))) p s (now (cells .entry)))) ⌝ }
 {
-    if shapes::is_floats(op) {
+    if shapes::is_floats(s.opcode) {
         return false;
     }
-    let shape = shapes::shape_of(op);
+    let shape = shapes::shape_of(s.opcode);
     match shape {
         Shape::Cells(_what) => return false,
         Shape::Branch(_when) => return false,
         Shape::Goto => return false,
         Shape::Call => {
-            let a = fetch::cell_of(x);
-            let done = call(file, defs, ndefs, functions, nfunctions, count, cells, a);
+            let defs = parts::part(file, DEFINITION_SIZE, recorded.globaldefs);
+            let functions = parts::part(file, FUNCTION_SIZE, recorded.functions);
+            let count = recorded.globals.count;
+            let done = call(defs, functions, count, cells, fetch::cell_of(s.arg1));
             return is_handed_over(done);
         }
         Shape::Return => return false,
@@ -275,37 +218,13 @@ pub fn hands_over(
 }
 
 // What the statement at a position does; one that writes cells has done so.
-pub fn does(
-    file: &[u8],
-    statements: usize,
-    nstatements: usize,
-    defs: usize,
-    ndefs: usize,
-    functions: usize,
-    nfunctions: usize,
-    count: usize,
-    cells: &mut [u32],
-    pc: i64,
-) -> Executed
-    requires { ⌜ (lumpFits 8 (length (now file)) (lump statements nstatements) ≡ true) × (8 * ndefs ≤ length (now file) - defs) × (lumpFits 36 (length (now file)) (lump functions nfunctions) ≡ true) × (count ≤ length (now cells)) × (count ≤ 32768) ⌝ }
-    ensures { λ r. ⌜ executed r (now (cells .exit)) ≡ execution (doesWith (statementsIn (now (file .entry)) statements nstatements) (functionsIn (now (file .entry)) functions nfunctions) (typing (now (file .entry)) defs ndefs count) pc (now (cells .entry))) (now (cells .entry)) ⌝ }
+pub fn does(file: &[u8], recorded: FileRecord, cells: &mut [u32], pc: i64) -> Executed
+    requires { ⌜ Usable (length (now file)) recorded (length (now cells)) ⌝ }
+    ensures { λ r. ⌜ executed r (now (cells .exit)) ≡ execution (doesAt (contentsAt recorded (now (file .entry))) pc (now (cells .entry))) (now (cells .entry)) ⌝ }
 {
-    let fetched = fetch::fetch(file, statements, nstatements, pc);
+    let fetched = fetch::fetch(parts::part(file, STATEMENT_SIZE, recorded.statements), pc);
     match fetched {
         Fetched::Refused(n) => return Executed::Refused(n),
-        Fetched::At(k, s) => return execute(
-            file,
-            defs,
-            ndefs,
-            functions,
-            nfunctions,
-            count,
-            cells,
-            k,
-            s.opcode,
-            s.arg1,
-            s.arg2,
-            s.arg3,
-        ),
+        Fetched::At(k, s) => return execute(file, recorded, cells, k, s),
     }
 }

@@ -16,7 +16,7 @@ ghost use Rattle.execution.specs.Shapes.{isFloats, shapeAs};
 pub enum CellOp {
     Values(u16),
     Vectors(u16, u16),
-    Dots,
+    VectorsToFloat,
     Strings,
     Nots(u16),
     NotV,
@@ -54,18 +54,21 @@ pub fn shape_of(op: u16) -> Shape
     requires { ⌜ (op < 66) × (isFloats (shapeOf op) ≡ false) ⌝ }
     ensures { λ r. ⌜ shapeAs r op ≡ shapeOf op ⌝ }
 {
+    if (ops::CALL_0 <= op) & (op <= ops::CALL_8) {
+        return Shape::Call;
+    }
     match op {
         ops::DONE => return Shape::Return,
-        ops::MUL_V => return Shape::Cells(CellOp::Dots),
+        ops::MUL_V => return Shape::Cells(CellOp::VectorsToFloat),
         ops::MUL_FV => return Shape::Cells(CellOp::Vectors(FLOAT, VECTOR)),
         ops::MUL_VF => return Shape::Cells(CellOp::Vectors(VECTOR, FLOAT)),
         ops::ADD_V => return Shape::Cells(CellOp::Vectors(VECTOR, VECTOR)),
         ops::SUB_V => return Shape::Cells(CellOp::Vectors(VECTOR, VECTOR)),
-        ops::EQ_V => return Shape::Cells(CellOp::Dots),
+        ops::EQ_V => return Shape::Cells(CellOp::VectorsToFloat),
         ops::EQ_S => return Shape::Cells(CellOp::Strings),
         ops::EQ_ENT => return Shape::Cells(CellOp::Values(ENTITY)),
         ops::EQ_FNC => return Shape::Cells(CellOp::Values(FUNCTION)),
-        ops::NE_V => return Shape::Cells(CellOp::Dots),
+        ops::NE_V => return Shape::Cells(CellOp::VectorsToFloat),
         ops::NE_S => return Shape::Cells(CellOp::Strings),
         ops::NE_ENT => return Shape::Cells(CellOp::Values(ENTITY)),
         ops::NE_FNC => return Shape::Cells(CellOp::Values(FUNCTION)),
@@ -83,15 +86,6 @@ pub fn shape_of(op: u16) -> Shape
         ops::NOT_FNC => return Shape::Cells(CellOp::Nots(FUNCTION)),
         ops::IF => return Shape::Branch(false),
         ops::IF_NOT => return Shape::Branch(true),
-        ops::CALL_0 => return Shape::Call,
-        ops::CALL_1 => return Shape::Call,
-        ops::CALL_2 => return Shape::Call,
-        ops::CALL_3 => return Shape::Call,
-        ops::CALL_4 => return Shape::Call,
-        ops::CALL_5 => return Shape::Call,
-        ops::CALL_6 => return Shape::Call,
-        ops::CALL_7 => return Shape::Call,
-        ops::CALL_8 => return Shape::Call,
         ops::GOTO => return Shape::Goto,
         _ => return Shape::Host,
     }

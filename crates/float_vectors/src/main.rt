@@ -18,7 +18,7 @@ fn result(op: u16, a0: u32, a1: u32, a2: u32, b0: u32, b1: u32, b2: u32) -> u32 
     let scalar = floats::float_op(op, a0, b0)
         | floats::component_op(op, a0, b0)
         | floats::value_op(op, a0, b0);
-    scalar | floats::not_op(op, a0) | floats::dot_op(op, a0, a1, a2, b0, b1, b2)
+    scalar | floats::not_op(op, a0) | floats::vectors_to_float_op(op, a0, a1, a2, b0, b1, b2)
 }
 
 fn report(got: u32, line: &[u8; 66]) {

@@ -2,7 +2,7 @@
 use Prim.Native.Nat.{ℕ}
 use mathlib.Core.Path.{_≡_, ap}
 use mathlib.Core.Option.{Option, none, some, Option·getD}
-use Rattle.definition.specs.Statements.{Shape, floats, values, vectors, dots, strings, negates, negatesV, negatesS, stores, storesV, branches, jumps, call, return, host, shapeOf}
+use Rattle.definition.specs.Statements.{Shape, floats, values, vectors, vectorsToFloat, strings, negates, negatesV, negatesS, stores, storesV, branches, jumps, call, return, host, shapeOf}
 
 abbrev pub Unary : Type 0
 Unary = ℕ → ℕ
@@ -20,7 +20,7 @@ byShape f v c d n z (floats g) = f g
 byShape f v c d n z (values t g) = v g
 byShape f v c d n z (strings g) = v g
 byShape f v c d n z (vectors ta tb g) = c g
-byShape f v c d n z (dots g) = d g
+byShape f v c d n z (vectorsToFloat g) = d g
 byShape f v c d n z (negates t g) = n g
 byShape f v c d n z negatesV = z
 byShape f v c d n z negatesS = z
@@ -41,8 +41,8 @@ valuesOf = byShape (λ g. none) some (λ g. none) (λ g. none) (λ g. none) none
 abbrev pub vectorsOf : Shape → Option Binary
 vectorsOf = byShape (λ g. none) (λ g. none) some (λ g. none) (λ g. none) none
 
-abbrev pub dotsOf : Shape → Option Pairing
-dotsOf = byShape (λ g. none) (λ g. none) (λ g. none) some (λ g. none) none
+abbrev pub vectorsToFloatOf : Shape → Option Pairing
+vectorsToFloatOf = byShape (λ g. none) (λ g. none) (λ g. none) some (λ g. none) none
 
 abbrev pub negatesOf : Shape → Option Unary
 negatesOf = byShape (λ g. none) (λ g. none) (λ g. none) (λ g. none) some none
@@ -56,8 +56,8 @@ valueOp op = Option·getD (valuesOf (shapeOf op)) (λ a b. 0)
 unfoldable pub componentOp : ℕ → ℕ → ℕ → ℕ
 componentOp op = Option·getD (vectorsOf (shapeOf op)) (λ a b. 0)
 
-unfoldable pub dotOp : ℕ → ℕ → ℕ → ℕ → ℕ → ℕ → ℕ → ℕ
-dotOp op = Option·getD (dotsOf (shapeOf op)) (λ a0 a1 a2 b0 b1 b2. 0)
+unfoldable pub vectorsToFloatOp : ℕ → ℕ → ℕ → ℕ → ℕ → ℕ → ℕ → ℕ
+vectorsToFloatOp op = Option·getD (vectorsToFloatOf (shapeOf op)) (λ a0 a1 a2 b0 b1 b2. 0)
 
 unfoldable pub notOp : ℕ → ℕ → ℕ
 notOp op = Option·getD (negatesOf (shapeOf op)) (λ a. 0)
@@ -80,9 +80,9 @@ pub component-op : (op : ℕ) {ta tb : ℕ} {f : Binary} → shapeOf op ≡ vect
 unfolding componentOp
 component-op op h = ap (λ (s : Shape). Option·getD (vectorsOf s) (λ a b. 0)) h
 
-pub dot-op : (op : ℕ) {f : Pairing} → shapeOf op ≡ dots f → dotOp op ≡ f
-unfolding dotOp
-dot-op op h = ap (λ (s : Shape). Option·getD (dotsOf s) (λ a0 a1 a2 b0 b1 b2. 0)) h
+pub vectors-to-float-op : (op : ℕ) {f : Pairing} → shapeOf op ≡ vectorsToFloat f → vectorsToFloatOp op ≡ f
+unfolding vectorsToFloatOp
+vectors-to-float-op op h = ap (λ (s : Shape). Option·getD (vectorsToFloatOf s) (λ a0 a1 a2 b0 b1 b2. 0)) h
 
 pub not-op : (op : ℕ) {t : ℕ} {f : Unary} → shapeOf op ≡ negates t f → notOp op ≡ f
 unfolding notOp

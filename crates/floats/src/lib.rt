@@ -4,7 +4,8 @@ ghost use Prim.Native.Nat.{_≤_, _<_, _%_, _/_};
 ghost use Rattle.definition.specs.Floats.{value, cell, addF, subF, mulF, divF, flag, isZero, eqF, neF, leF, geF, ltF, gtF, andF, orF, notF, whole, bitAndF, bitOrF};
 ghost use Rattle.definition.specs.Floats.{mulV, sameV, eqV, neV, notV, eqN, neN, notN};
 ghost use Rattle.floats.specs.Scaled.{scaled};
-ghost use Rattle.floats.specs.Opcodes.{floatOp, componentOp, dotOp, valueOp, notOp};
+ghost use Rattle.floats.specs.Opcodes.{floatOp, componentOp, vectorsToFloatOp, valueOp, notOp};
+use functions::ops;
 
 // The float of a cell. `from_bits` takes no NaN's pattern, so a NaN is made by a division.
 pub fn of_cell(x: u32) -> f32
@@ -227,20 +228,20 @@ pub fn float_op(op: u16, a: u32, b: u32) -> u32
     ensures { λ r. ⌜ r ≡ floatOp op a b ⌝ }
 {
     match op {
-        1 => return mul_f(a, b),
-        5 => return div_f(a, b),
-        6 => return add_f(a, b),
-        8 => return sub_f(a, b),
-        10 => return eq_f(a, b),
-        15 => return ne_f(a, b),
-        20 => return le_f(a, b),
-        21 => return ge_f(a, b),
-        22 => return lt_f(a, b),
-        23 => return gt_f(a, b),
-        62 => return and_f(a, b),
-        63 => return or_f(a, b),
-        64 => return bit_and_f(a, b),
-        65 => return bit_or_f(a, b),
+        ops::MUL_F => return mul_f(a, b),
+        ops::DIV => return div_f(a, b),
+        ops::ADD_F => return add_f(a, b),
+        ops::SUB_F => return sub_f(a, b),
+        ops::EQ_F => return eq_f(a, b),
+        ops::NE_F => return ne_f(a, b),
+        ops::LE => return le_f(a, b),
+        ops::GE => return ge_f(a, b),
+        ops::LT => return lt_f(a, b),
+        ops::GT => return gt_f(a, b),
+        ops::AND => return and_f(a, b),
+        ops::OR => return or_f(a, b),
+        ops::BIT_AND => return bit_and_f(a, b),
+        ops::BIT_OR => return bit_or_f(a, b),
         _ => return 0,
     }
 }
@@ -250,22 +251,22 @@ pub fn component_op(op: u16, x: u32, y: u32) -> u32
     ensures { λ r. ⌜ r ≡ componentOp op x y ⌝ }
 {
     match op {
-        3 => return mul_f(x, y),
-        4 => return mul_f(x, y),
-        7 => return add_f(x, y),
-        9 => return sub_f(x, y),
+        ops::MUL_FV => return mul_f(x, y),
+        ops::MUL_VF => return mul_f(x, y),
+        ops::ADD_V => return add_f(x, y),
+        ops::SUB_V => return sub_f(x, y),
         _ => return 0,
     }
 }
 
 // Two vectors: the result of MulV, EqV, NeV.
-pub fn dot_op(op: u16, a0: u32, a1: u32, a2: u32, b0: u32, b1: u32, b2: u32) -> u32
-    ensures { λ r. ⌜ r ≡ dotOp op a0 a1 a2 b0 b1 b2 ⌝ }
+pub fn vectors_to_float_op(op: u16, a0: u32, a1: u32, a2: u32, b0: u32, b1: u32, b2: u32) -> u32
+    ensures { λ r. ⌜ r ≡ vectorsToFloatOp op a0 a1 a2 b0 b1 b2 ⌝ }
 {
     match op {
-        2 => return mul_v(a0, a1, a2, b0, b1, b2),
-        11 => return eq_v(a0, a1, a2, b0, b1, b2),
-        16 => return ne_v(a0, a1, a2, b0, b1, b2),
+        ops::MUL_V => return mul_v(a0, a1, a2, b0, b1, b2),
+        ops::EQ_V => return eq_v(a0, a1, a2, b0, b1, b2),
+        ops::NE_V => return ne_v(a0, a1, a2, b0, b1, b2),
         _ => return 0,
     }
 }
@@ -275,12 +276,12 @@ pub fn value_op(op: u16, a: u32, b: u32) -> u32
     ensures { λ r. ⌜ r ≡ valueOp op a b ⌝ }
 {
     match op {
-        12 => return eq_n(a, b),
-        13 => return eq_n(a, b),
-        14 => return eq_n(a, b),
-        17 => return ne_n(a, b),
-        18 => return ne_n(a, b),
-        19 => return ne_n(a, b),
+        ops::EQ_S => return eq_n(a, b),
+        ops::EQ_ENT => return eq_n(a, b),
+        ops::EQ_FNC => return eq_n(a, b),
+        ops::NE_S => return ne_n(a, b),
+        ops::NE_ENT => return ne_n(a, b),
+        ops::NE_FNC => return ne_n(a, b),
         _ => return 0,
     }
 }
@@ -290,9 +291,9 @@ pub fn not_op(op: u16, a: u32) -> u32
     ensures { λ r. ⌜ r ≡ notOp op a ⌝ }
 {
     match op {
-        44 => return not_f(a),
-        47 => return not_n(a),
-        48 => return not_n(a),
+        ops::NOT_F => return not_f(a),
+        ops::NOT_ENT => return not_n(a),
+        ops::NOT_FNC => return not_n(a),
         _ => return 0,
     }
 }

@@ -1,6 +1,6 @@
 -- Signed numbers, by cases on the sign. Assumes nothing.
 use Prim.Native.Nat.{ℕ, suc, _+_, _-_, _^_, _≤_, _<_}
-use mathlib.Core.Path.{_≡_, refl, sym, ap, _∙_}
+use mathlib.Core.Path.{_≡_, refl}
 use mathlib.Core.Bool.{Bool, true, false, true≢false, cond}
 use native.Mathlib.Omega.{arith}
 use lib.Dec.{T, ltb}

@@ -1,23 +1,23 @@
 -- LAWS of the definition's records, header and fetch, for this crate and those above. Assumes nothing.
 use Prim.Native.Nat.{ℕ, zero, suc, _+_, _*_, _≤_, _<_}
-use mathlib.Core.Path.{_≡_, refl, sym, ap, _∙_}
-use mathlib.Core.List.{List, [], _∷_}
+use mathlib.Core.Path.{_≡_, refl, sym, ap}
+use mathlib.Core.List.{List, _∷_}
 use mathlib.Core.Bool.{Bool, true, false, true≢false, not, _&&_, _||_, cond}
 use native.Mathlib.Nat.{mul-le-mul-left}
 use native.Mathlib.Omega.{arith}
 use lib.ListN.{length, getD}
-use lib.Dec.{leb, ltb, eqb}
+use lib.Dec.{leb, ltb}
 use lib.IntN.{ℤ, pos, negsuc}
-use borrow.Author.Tests.{lt-ltb, le-ltb, ltb-true, ltb-false, leb-true, leb-false, lt-leb, eqb-true, ne-eqb, not-true}
+use borrow.Author.Tests.{ltb-true, ltb-false, leb-true, leb-false, lt-leb, eqb-true, ne-eqb, not-true}
 use Rattle.definition.specs.declared.Lump.{Lump}
 use Rattle.definition.specs.declared.FileRecord.{FileRecord}
 use Rattle.definition.specs.declared.Statement.{Statement}
 use Rattle.definition.specs.Checks.{Conditions, _otherwise_, judge}
-use Rattle.definition.specs.File.{records, recordsIn, readStatement, readFunction, noFunction, negative, Contents, contentsAt, contentsOf}
+use Rattle.definition.specs.File.{recordsIn, readFunction, noFunction, negative, Contents, contentsAt}
 use Rattle.definition.specs.File.{fileOf, lengthFits, lumpFits, lumpsFit, leastCells, cellsFit, entityFits}
 use Rattle.definition.specs.RecordLaws.{length-records}
 use Rattle.definition.specs.Load.{sameLump, sameFile, recordedIn, programAt, programOf}
-use Rattle.definition.specs.Machine.{Program, functionOf}
+use Rattle.definition.specs.Machine.{functionOf}
 use Rattle.definition.specs.Statements.{Does, refuses, orRefused, placeOf, statementAt, fetchConditions, execute, doesAt}
 use Rattle.functions.specs.declared.FunctionId.the-variants as function
 use Rattle.functions.specs.declared.string_table.StringId.the-variants as string
@@ -36,6 +36,12 @@ either false b e f = e
 
 -- ---- lumps
 
+-- the records of a lump that isn't empty end in the file
+pub lump-end : (size end : ℕ) (l : Lump) → lumpFits size end l ≡ true → (l .count ≡ 0 → ⊥) → l .offset + size * l .count ≤ end
+lump-end size end l e some =
+    let signs = both (not (negative (l .offset)) && not (negative (l .count))) _ e in
+    leb-true _ _ (either _ _ (signs .1) (ne-eqb _ _ some))
+
 -- what it is for a lump to fit
 pub record Fitting (size end : ℕ) (l : Lump) : Type 0 where
   pub offset : l .offset < 2147483648
@@ -50,7 +56,7 @@ lump-fitting size end l e =
     record {
       offset = leb-false _ _ (not-true _ (s .0));
       count = leb-false _ _ (not-true _ (s .1));
-      record-at = λ i h. last i h (leb-true _ _ (either _ _ (signs .1) (ne-eqb _ _ (λ (z : l .count ≡ 0). omega arith))));
+      record-at = λ i h. last i h (lump-end size end l e (λ (z : l .count ≡ 0). omega arith));
     }
   where
     last : (i : ℕ) → i < l .count → l .offset + size * l .count ≤ end → l .offset + size * i + size ≤ end
@@ -168,7 +174,11 @@ short-file file r lent h = by (sameFile r (fileOf file)) refl
         rw (lt-leb 60 (r .length) (omega arith))
     by false e = refl
 
--- ---- the functions and statements of a file's program are those of its lumps
+pub count-statements : (r : FileRecord) (file : List ℕ) → length (contentsAt r file .statements) ≡ r .statements .count
+unfolding contentsAt
+count-statements r file = length-records _ _ _ _
+
+-- ---- the functions of a file's program are those of its lump
 
 module _ (file : List ℕ) where
   pub function-of : (f : ℕ) → getD (recordsIn (readFunction file) 36 (fileOf file .functions)) f noFunction ≡ functionOf (programOf file) f
@@ -179,15 +189,7 @@ module _ (file : List ℕ) where
   unfolding programAt contentsAt
   count-functions = length-records _ _ _ _
 
-  pub statements-of : recordsIn (readStatement file) 8 (fileOf file .statements) ≡ contentsOf file .statements
-  unfolding contentsAt
-  statements-of = refl
-
 -- ---- numbers of functions and strings
-
--- the bits of a negative number are above every count that fits
-pub negative-above : (value count : ℕ) → count ≤ 2147483648 → negative value ≡ true → ltb value count ≡ false
-negative-above value count h e = let l : 2147483648 ≤ value = leb-true _ _ e in le-ltb value count (omega arith)
 
 module _ {A : Type 0} (id : ℕ → A) (none : A) (same : (i j : ℕ) → id i ≡ id j → i ≡ j) (apart : (i : ℕ) → id i ≡ none → ⊥) (value count : ℕ) where
   found : (i : ℕ) (t : Bool) → ltb value count ≡ t → id i ≡ cond t (id value) none → (i ≡ value) × (i < count)

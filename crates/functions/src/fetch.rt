@@ -1,15 +1,14 @@
 // Fetching a statement, and what its operands mean. A position is signed; once fetched, a statement is known by its index.
 ghost use mathlib.Core.Path.{_≡_};
-ghost use mathlib.Core.Bool.{true};
 ghost use Prim.Native.Nat.{_<_};
-ghost use lib.ListN.{length};
 ghost use lib.IntN.{pos, _+ℤ_};
-ghost use Rattle.definition.specs.File.{lumpFits, readStatement, recordsIn};
 ghost use Rattle.definition.specs.Cells.{signed, cellOf};
 ghost use Rattle.definition.specs.Statements.{placeOf};
-ghost use Rattle.functions.specs.Answers.{lump, fetched};
+ghost use Rattle.functions.specs.Answers.{fetched};
+ghost use Rattle.functions.specs.Parts.{statementsIn};
 use crate::ops;
 use crate::reads;
+use definition::STATEMENT_SIZE;
 use definition::Statement;
 
 // The index of a statement, and its four numbers.
@@ -25,15 +24,15 @@ pub fn place_of(n: usize, p: i64) -> usize
     if p < 0 { n } else { p as usize }
 }
 
-pub fn fetch(file: &[u8], offset: usize, count: usize, pc: i64) -> Fetched
-    requires { ⌜ lumpFits 8 (length (now file)) (lump offset count) ≡ true ⌝ }
-    ensures { λ r. ⌜ r ≡ fetched (recordsIn (readStatement (now (file .entry))) 8 (lump offset count)) pc ⌝ }
+pub fn fetch(statements: &[u8], pc: i64) -> Fetched
+    ensures { λ r. ⌜ r ≡ fetched (statementsIn (now (statements .entry))) pc ⌝ }
 {
+    let count = statements.len() / STATEMENT_SIZE;
     let k = place_of(count, pc);
     if count <= k {
         return Fetched::Refused(14);
     }
-    let statement = reads::read_statement(file, offset + 8 * k);
+    let statement = reads::read_statement(statements, STATEMENT_SIZE * k);
     if ops::is_opcode(statement.opcode) {
         Fetched::At(k, statement)
     } else {

@@ -5,11 +5,17 @@ ghost use lib.ListN.{length};
 ghost use Rattle.definition.specs.File.{lumpAt, fileOf, lengthFits, lumpFits, lumpsFit, cellsFit, entityFits};
 ghost use Rattle.definition.specs.Load.{sameLump, sameFile, recordedIn};
 use crate::reads;
+use definition::CELL_SIZE;
+use definition::DEFINITION_SIZE;
+use definition::FUNCTION_SIZE;
 use definition::FileRecord;
+use definition::HEADER_LENGTH;
+use definition::LEAST_CELLS;
+use definition::LEAST_ENTITY_CELLS;
+use definition::LONGEST_FILE;
 use definition::Lump;
-
-// A file has at least so many cells.
-pub const LEAST_CELLS: usize = 36;
+use definition::MOST_CELLS;
+use definition::STATEMENT_SIZE;
 
 fn lump_at(file: &[u8], at: usize) -> Lump
     requires { ⌜ at + 8 ≤ length (now file) ⌝ }
@@ -47,7 +53,7 @@ pub fn file_of(file: &[u8]) -> FileRecord
 pub fn length_fits(r: FileRecord) -> bool
     ensures { λ b. ⌜ b ≡ lengthFits r ⌝ }
 {
-    (60 <= r.length) & (r.length <= 1048576)
+    (HEADER_LENGTH <= r.length) & (r.length <= LONGEST_FILE)
 }
 
 // The sum can't wrap: both numbers are below 2^31 where it is made.
@@ -68,25 +74,25 @@ pub fn lumps_fit(r: FileRecord) -> bool
     ensures { λ b. ⌜ b ≡ lumpsFit r ⌝ }
 {
     let end = r.length;
-    lump_fits(8, end, r.statements)
-        & lump_fits(8, end, r.globaldefs)
-        & lump_fits(8, end, r.fielddefs)
-        & lump_fits(36, end, r.functions)
+    lump_fits(STATEMENT_SIZE, end, r.statements)
+        & lump_fits(DEFINITION_SIZE, end, r.globaldefs)
+        & lump_fits(DEFINITION_SIZE, end, r.fielddefs)
+        & lump_fits(FUNCTION_SIZE, end, r.functions)
         & lump_fits(1, end, r.strings)
-        & lump_fits(4, end, r.globals)
+        & lump_fits(CELL_SIZE, end, r.globals)
 }
 
 pub fn cells_fit(least: usize, r: FileRecord) -> bool
     ensures { λ b. ⌜ b ≡ cellsFit least r ⌝ }
 {
     let globals = r.globals;
-    (least <= globals.count) & (globals.count <= 32768)
+    (least <= globals.count) & (globals.count <= MOST_CELLS)
 }
 
 pub fn entity_fits(r: FileRecord) -> bool
     ensures { λ b. ⌜ b ≡ entityFits r ⌝ }
 {
-    (105 <= r.entityfields) & !(2147483648 <= r.entityfields)
+    (LEAST_ENTITY_CELLS <= r.entityfields) & !(2147483648 <= r.entityfields)
 }
 
 fn same_lump(a: Lump, b: Lump) -> bool
@@ -112,7 +118,7 @@ pub fn same_file(a: FileRecord, b: FileRecord) -> bool
 pub fn recorded_in(file: &[u8], r: FileRecord, lent: usize) -> bool
     ensures { λ b. ⌜ b ≡ recordedIn (now (file .entry)) r lent ⌝ }
 {
-    if file.len() < 60 {
+    if file.len() < HEADER_LENGTH {
         return false;
     }
     let globals = r.globals;

@@ -1,17 +1,19 @@
 // From bytes to records: ops.rs, functions.rs and string_table.rs of the Rust. Here stand the functions of a file (functions.rs); every number is
 // kept as its unsigned bits, and a signed one is negative where its top bit is set.
 ghost use mathlib.Core.Path.{_≡_};
-ghost use mathlib.Core.Bool.{_&&_, true};
-ghost use Prim.Native.Nat.{_<_};
+ghost use mathlib.Core.Bool.{true};
+ghost use Prim.Native.Nat.{_/_, _<_};
 ghost use lib.ListN.{length, getD};
-ghost use Rattle.definition.specs.File.{lumpFits, readFunction, noFunction, recordsIn};
-ghost use Rattle.definition.specs.File.{between, builtinNumber, isBuiltin, builtinOf, builtinKnown};
-ghost use Rattle.functions.specs.Answers.{lump, functionId};
+ghost use Rattle.definition.specs.File.{noFunction, between, builtinNumber, isBuiltin, builtinOf, builtinKnown};
+ghost use Rattle.functions.specs.Answers.{functionId};
+ghost use Rattle.functions.specs.Parts.{functionsIn};
+use definition::FUNCTION_SIZE;
 use definition::FunctionDef;
 
 pub mod fetch;
 pub mod header;
 pub mod ops;
+pub mod parts;
 pub mod reads;
 pub mod string_table;
 
@@ -34,11 +36,11 @@ pub fn id_from_i32(value: u32, count: usize) -> FunctionId
 }
 
 // The record of a function of the file. Whether there is one is `id_from_i32`'s to say, since an enum can't hold the record's argument sizes.
-pub fn get_def(file: &[u8], offset: usize, count: usize, id: usize) -> FunctionDef
-    requires { ⌜ (lumpFits 36 (length (now file)) (lump offset count) ≡ true) × (id < count) ⌝ }
-    ensures { λ r. ⌜ r ≡ getD (recordsIn (readFunction (now (file .entry))) 36 (lump offset count)) id noFunction ⌝ }
+pub fn get_def(functions: &[u8], id: usize) -> FunctionDef
+    requires { ⌜ id < length (now functions) / 36 ⌝ }
+    ensures { λ r. ⌜ r ≡ getD (functionsIn (now (functions .entry))) id noFunction ⌝ }
 {
-    reads::read_function(file, offset + 36 * id)
+    reads::read_function(functions, FUNCTION_SIZE * id)
 }
 
 fn between(low: u32, high: u32, n: u32) -> bool

@@ -1,6 +1,7 @@
 // The opcodes (ops.rs).
 ghost use mathlib.Core.Path.{_≡_};
 ghost use lib.Dec.{ltb};
+use definition::OPCODE_COUNT;
 
 pub const DONE: u16 = 0;
 
@@ -138,5 +139,5 @@ pub const BIT_OR: u16 = 65;
 pub fn is_opcode(opcode: u16) -> bool
     ensures { λ r. ⌜ r ≡ ltb opcode 66 ⌝ }
 {
-    opcode < 66
+    opcode < OPCODE_COUNT
 }

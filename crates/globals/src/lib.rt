@@ -16,24 +16,22 @@ pub fn check_unused(cell: usize) -> u8
 
 // A statement with an unused operand: it reads a and writes b.
 pub fn check_unary(
-    file: &[u8],
-    defs: usize,
-    ndefs: usize,
+    defs: &[u8],
     count: usize,
     cells: &[u32],
-    idle: usize,
+    extra: usize,
     natural: bool,
     ta: u16,
     a: usize,
     tb: u16,
     b: usize,
 ) -> u8
-    requires { ⌜ (8 * ndefs ≤ length (now file) - defs) × (count ≤ length (now cells)) ⌝ }
-    ensures { λ r. ⌜ r ≡ first (judge (unused idle)) (moveRefusal (typing (now (file .entry)) defs ndefs count) natural ta a tb b (now (cells .entry))) ⌝ }
+    requires { ⌜ count ≤ length (now cells) ⌝ }
+    ensures { λ r. ⌜ r ≡ first (judge (unused extra)) (moveRefusal (typing (now (defs .entry)) count) natural ta a tb b (now (cells .entry))) ⌝ }
 {
-    let r = check_unused(idle);
+    let r = check_unused(extra);
     if r != 0 {
         return r;
     }
-    typed::check_move(file, defs, ndefs, count, cells, natural, ta, a, tb, b)
+    typed::check_move(defs, count, cells, natural, ta, a, tb, b)
 }

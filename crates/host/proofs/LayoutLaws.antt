@@ -7,8 +7,7 @@ use lib.IntN.{ℤ, pos}
 use lib.ListN.{set, replicate}
 use Rattle.definition.specs.declared.StackFrame.{StackFrame}
 use Rattle.definition.specs.Machine.{zeroFrame}
-use Rattle.call_list.specs.declared.Replied.{Replied}
-use Rattle.host.specs.Layout.{numberedFrames, numberedContext, numberedReply}
+use Rattle.host.specs.Layout.{numberedFrames}
 
 pub frames-start : replicate 31 zeroFrame ≡ numberedFrames 0
 unfolding numberedFrames

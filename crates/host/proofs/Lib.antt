@@ -1,2 +1,3 @@
 pub mod LoadLaws
+pub mod RecordLaws
 pub mod LayoutLaws

@@ -1,51 +1,75 @@
 // Where the fields of the structs lie. A host declares the structs again, and sees by a number of its own in each field whether its places are these.
 ghost use mathlib.Core.Path.{_≡_};
-ghost use Rattle.host.specs.Layout.{numberedFrames, numberedReply};
+ghost use Prim.Native.Nat.{_≤_};
+ghost use Rattle.host.specs.Layout.{numberedFile, numberedContext, numberedStatement, numberedFunction, numberedStructs};
+use crate::records::DefinitionReply;
+use crate::records::FunctionReply;
+use crate::records::HeaderReply;
+use crate::records::StatementReply;
 use call_list::Replied;
+use definition::Definition;
 use definition::FileRecord;
+use definition::FunctionDef;
+use definition::GREATEST_DEPTH;
 use definition::Lump;
 use definition::StackFrame;
+use definition::Statement;
 use progs::ExecutionContext;
 
-#[no_mangle]
-pub extern "C" fn host_layout() -> Replied
-    ensures { λ r. ⌜ r ≡ numberedReply ⌝ }
+// All that the exported functions answer.
+#[repr(C)]
+pub struct Structs {
+    pub reply: Replied,
+    pub header: HeaderReply,
+    pub statement: StatementReply,
+    pub function: FunctionReply,
+    pub definition: DefinitionReply,
+}
+
+fn numbered_file(n: usize) -> FileRecord
+    requires { ⌜ n ≤ 86 ⌝ }
+    ensures { λ r. ⌜ r ≡ numberedFile n ⌝ }
 {
-    let file = FileRecord {
-        length: 1,
+    FileRecord {
+        length: n,
         statements: Lump {
-            offset: 2,
-            count: 3,
+            offset: n + 1,
+            count: n + 2,
         },
         globaldefs: Lump {
-            offset: 4,
-            count: 5,
+            offset: n + 3,
+            count: n + 4,
         },
         fielddefs: Lump {
-            offset: 6,
-            count: 7,
+            offset: n + 5,
+            count: n + 6,
         },
         functions: Lump {
-            offset: 8,
-            count: 9,
+            offset: n + 7,
+            count: n + 8,
         },
         strings: Lump {
-            offset: 10,
-            count: 11,
+            offset: n + 9,
+            count: n + 10,
         },
         globals: Lump {
-            offset: 12,
-            count: 13,
+            offset: n + 11,
+            count: n + 12,
         },
-        entityfields: 14,
-    };
+        entityfields: n + 13,
+    }
+}
+
+fn numbered_context() -> ExecutionContext
+    ensures { λ r. ⌜ r ≡ numberedContext ⌝ }
+{
     let none = StackFrame {
         instr_id: 0,
         func_id: 0,
     };
-    let mut frames = [none; 31];
+    let mut frames = [none; GREATEST_DEPTH];
     let mut i: usize = 0;
-    while i < 31 {
+    while i < GREATEST_DEPTH {
         let frame = StackFrame {
             instr_id: (19 + 2 * i) as i64,
             func_id: 20 + 2 * i,
@@ -53,18 +77,81 @@ pub extern "C" fn host_layout() -> Replied
         frames[i] = frame;
         i += 1;
     }
-    let context = ExecutionContext {
+    let file = numbered_file(1);
+    ExecutionContext {
         file,
         pc: 15,
         current_function: 16,
         depth: 17,
         saved: 18,
         frames,
-    };
-    Replied {
-        context,
-        word: 81,
-        detail: 82,
-        count: 83,
+    }
+}
+
+fn numbered_statement() -> StatementReply
+    ensures { λ r. ⌜ r ≡ numberedStatement ⌝ }
+{
+    StatementReply {
+        found: 100,
+        refusal: 101,
+        statement: Statement {
+            opcode: 102,
+            arg1: 103,
+            arg2: 104,
+            arg3: 105,
+        },
+    }
+}
+
+fn numbered_function() -> FunctionReply
+    ensures { λ r. ⌜ r ≡ numberedFunction ⌝ }
+{
+    let argsz = [114, 115, 116, 117, 118, 119, 120, 121];
+    FunctionReply {
+        found: 106,
+        refusal: 107,
+        function: FunctionDef {
+            first: 108,
+            start: 109,
+            locals: 110,
+            name: 111,
+            srcfile: 112,
+            argc: 113,
+            argsz,
+        },
+    }
+}
+
+#[no_mangle]
+pub extern "C" fn host_layout() -> Structs
+    ensures { λ r. ⌜ r ≡ numberedStructs ⌝ }
+{
+    let context = numbered_context();
+    let recorded = numbered_file(86);
+    let statement = numbered_statement();
+    let function = numbered_function();
+    Structs {
+        reply: Replied {
+            context,
+            word: 81,
+            detail: 82,
+            count: 83,
+        },
+        header: HeaderReply {
+            found: 84,
+            refusal: 85,
+            recorded,
+        },
+        statement,
+        function,
+        definition: DefinitionReply {
+            found: 122,
+            refusal: 123,
+            definition: Definition {
+                kind: 124,
+                offset: 125,
+                name: 126,
+            },
+        },
     }
 }

@@ -1,5 +1,6 @@
-// The static library: each operation under a name of C. A function that is exported can't return an enum, so an answer is three numbers, those of a
-// list of calls, beside the context after the operation. No operation asks anything of its caller but that the buffers are what they are said to be.
+// The static library: each operation under a name of C, and the readers of records. A function that is exported can't return an enum, so an answer is
+// three numbers, those of a list of calls, beside the context after the operation. No function asks anything of its caller but that the buffers are
+// what they are said to be.
 ghost use mathlib.Core.Path.{_≡_};
 ghost use Rattle.definition.specs.Load.{programOf};
 ghost use Rattle.definition.specs.Calls.{enters, steps, runs, carries, abandons, reads, writes};
@@ -11,13 +12,14 @@ use progs::ExecutionContext;
 use progs::load;
 
 mod layout;
+mod records;
 
 // A refused load gives a context of zeros, which every operation refuses 13.
 #[no_mangle]
-pub extern "C" fn host_load(file: &[u8], cells: &mut [u32], saved: &[u32]) -> Replied
-    ensures { λ r. ⌜ repliedOf r (now (cells .exit)) (now (saved .entry)) ≡ afterLoad (now (file .entry)) (now (cells .entry)) (now (saved .entry)) ⌝ }
+pub extern "C" fn host_load(file: &[u8], cells: &mut [u32], store: &[u32]) -> Replied
+    ensures { λ r. ⌜ repliedOf r (now (cells .exit)) (now (store .entry)) ≡ afterLoad (now (file .entry)) (now (cells .entry)) (now (store .entry)) ⌝ }
 {
-    let loaded = load::load(file, cells, saved);
+    let loaded = load::load(file, cells, store);
     call_list::reply_answer(loaded)
 }
 
@@ -27,11 +29,11 @@ pub extern "C" fn host_enter(
     file: &[u8],
     function: i64,
     cells: &mut [u32],
-    saved: &mut [u32],
+    store: &mut [u32],
 ) -> Replied
-    ensures { λ r. ⌜ repliedOf r (now (cells .exit)) (now (saved .exit)) ≡ afterCall (programOf (now (file .entry))) (enters function) (config context (now (cells .entry)) (now (saved .entry))) ⌝ }
+    ensures { λ r. ⌜ repliedOf r (now (cells .exit)) (now (store .exit)) ≡ afterCall (programOf (now (file .entry))) (enters function) (config context (now (cells .entry)) (now (store .entry))) ⌝ }
 {
-    let entered = context.enter(file, function, cells, saved);
+    let entered = context.enter(file, function, cells, store);
     call_list::reply_answer(entered)
 }
 
@@ -40,11 +42,11 @@ pub extern "C" fn host_statement(
     context: ExecutionContext,
     file: &[u8],
     cells: &mut [u32],
-    saved: &mut [u32],
+    store: &mut [u32],
 ) -> Replied
-    ensures { λ r. ⌜ repliedOf r (now (cells .exit)) (now (saved .exit)) ≡ afterCall (programOf (now (file .entry))) steps (config context (now (cells .entry)) (now (saved .entry))) ⌝ }
+    ensures { λ r. ⌜ repliedOf r (now (cells .exit)) (now (store .exit)) ≡ afterCall (programOf (now (file .entry))) steps (config context (now (cells .entry)) (now (store .entry))) ⌝ }
 {
-    let stepped = server::statement(context, file, cells, saved);
+    let stepped = stepping::step_once(context, file, cells, store);
     call_list::reply_statement(stepped)
 }
 
@@ -55,11 +57,11 @@ pub extern "C" fn host_run(
     target: i64,
     limit: i64,
     cells: &mut [u32],
-    saved: &mut [u32],
+    store: &mut [u32],
 ) -> Replied
-    ensures { λ r. ⌜ repliedOf r (now (cells .exit)) (now (saved .exit)) ≡ afterCall (programOf (now (file .entry))) (runs target limit) (config context (now (cells .entry)) (now (saved .entry))) ⌝ }
+    ensures { λ r. ⌜ repliedOf r (now (cells .exit)) (now (store .exit)) ≡ afterCall (programOf (now (file .entry))) (runs target limit) (config context (now (cells .entry)) (now (store .entry))) ⌝ }
 {
-    let ran = server::run(context, file, target, limit, cells, saved);
+    let ran = server::run(context, file, target, limit, cells, store);
     call_list::reply_run(ran)
 }
 
@@ -68,11 +70,11 @@ pub extern "C" fn host_carry_on(
     context: ExecutionContext,
     file: &[u8],
     cells: &[u32],
-    saved: &[u32],
+    store: &[u32],
 ) -> Replied
-    ensures { λ r. ⌜ repliedOf r (now (cells .entry)) (now (saved .entry)) ≡ afterCall (programOf (now (file .entry))) carries (config context (now (cells .entry)) (now (saved .entry))) ⌝ }
+    ensures { λ r. ⌜ repliedOf r (now (cells .entry)) (now (store .entry)) ≡ afterCall (programOf (now (file .entry))) carries (config context (now (cells .entry)) (now (store .entry))) ⌝ }
 {
-    let carried = context.carry_on(file, cells, saved);
+    let carried = context.carry_on(file, cells, store);
     call_list::reply_answer(carried)
 }
 
@@ -82,11 +84,11 @@ pub extern "C" fn host_abandon(
     file: &[u8],
     target: i64,
     cells: &mut [u32],
-    saved: &[u32],
+    store: &[u32],
 ) -> Replied
-    ensures { λ r. ⌜ repliedOf r (now (cells .exit)) (now (saved .entry)) ≡ afterCall (programOf (now (file .entry))) (abandons target) (config context (now (cells .entry)) (now (saved .entry))) ⌝ }
+    ensures { λ r. ⌜ repliedOf r (now (cells .exit)) (now (store .entry)) ≡ afterCall (programOf (now (file .entry))) (abandons target) (config context (now (cells .entry)) (now (store .entry))) ⌝ }
 {
-    let abandoned = context.abandon(file, target, cells, saved);
+    let abandoned = context.abandon(file, target, cells, store);
     call_list::reply_answer(abandoned)
 }
 
@@ -97,11 +99,11 @@ pub extern "C" fn host_read(
     file: &[u8],
     address: i64,
     cells: &[u32],
-    saved: &[u32],
+    store: &[u32],
 ) -> Replied
-    ensures { λ r. ⌜ repliedOf r (now (cells .entry)) (now (saved .entry)) ≡ afterCall (programOf (now (file .entry))) (reads address) (config context (now (cells .entry)) (now (saved .entry))) ⌝ }
+    ensures { λ r. ⌜ repliedOf r (now (cells .entry)) (now (store .entry)) ≡ afterCall (programOf (now (file .entry))) (reads address) (config context (now (cells .entry)) (now (store .entry))) ⌝ }
 {
-    let read = context.read(file, address, cells, saved);
+    let read = context.read(file, address, cells, store);
     call_list::reply_read(context, read)
 }
 
@@ -112,10 +114,10 @@ pub extern "C" fn host_write(
     address: i64,
     value: u32,
     cells: &mut [u32],
-    saved: &[u32],
+    store: &[u32],
 ) -> Replied
-    ensures { λ r. ⌜ repliedOf r (now (cells .exit)) (now (saved .entry)) ≡ afterCall (programOf (now (file .entry))) (writes address value) (config context (now (cells .entry)) (now (saved .entry))) ⌝ }
+    ensures { λ r. ⌜ repliedOf r (now (cells .exit)) (now (store .entry)) ≡ afterCall (programOf (now (file .entry))) (writes address value) (config context (now (cells .entry)) (now (store .entry))) ⌝ }
 {
-    let written = context.write(file, address, value, cells, saved);
+    let written = context.write(file, address, value, cells, store);
     call_list::reply_answer(written)
 }

@@ -16,69 +16,69 @@ use Rattle.definition.specs.Operations.{natural, hostEnter, statement, runCondi
 use Rattle.definition.specs.Answers.{statementOutcome}
 use Rattle.definition.specs.Calls.{Call, enters, steps, runs, carries, abandons, reads, writes, after}
 use Rattle.definition.specs.Log.{Kind, entry, leaving, other, statementKind}
-use Rattle.definition.specs.StatementLaws.{Is, statement-is}
+use Rattle.definition.specs.StatementLaws.{HasKind, statement-has-kind}
 
--- what a completed statement made of c, by its kind
-abbrev pub Made : List ℕ → Config → Config → Kind → Type 0
-Made file c c′ (entry f back) = c′ ≡ entered (programOf file) f back c
-Made file c c′ leaving = (a : ℕ) × (c′ ≡ returned (programOf file) a c)
-Made file c c′ other = c′ ≡ advanced c (c′ .state .pc) (c′ .cells)
+-- c′ is the result of a completed statement of that kind from c
+abbrev pub ResultOf : List ℕ → Config → Config → Kind → Type 0
+ResultOf file c c′ (entry f back) = c′ ≡ entered (programOf file) f back c
+ResultOf file c c′ leaving = (a : ℕ) × (c′ ≡ returned (programOf file) a c)
+ResultOf file c c′ other = c′ ≡ advanced c (c′ .state .pc) (c′ .cells)
 
-as-accepted : (cs : Conditions) (a c′ : Config) → asStep (guard cs a) ≡ completed c′ → c′ ≡ a
+accepted-result : (cs : Conditions) (a c′ : Config) → asStep (guard cs a) ≡ completed c′ → c′ ≡ a
 unfolding guard
-as-accepted cs a c′ = go (judge cs)
+accepted-result cs a c′ = go (judge cs)
   where
     go : (n : ℕ) → asStep (decided n a) ≡ completed c′ → c′ ≡ a
     go zero e = cc
     go (suc n) e = absurd (let z : _≡_ {A = ℕ} 0 1 = cc in omega arith)
 
-made : (file : List ℕ) (c c′ : Config) (κ : Kind) (x : Does) → Is (length (contentsOf file .globals)) (c .state .pc) (c .cells) κ x
-    → stepAs (programOf file) x c ≡ completed c′ → Made file c c′ κ
+result-of : (file : List ℕ) (c c′ : Config) (κ : Kind) (x : Does) → HasKind (length (contentsOf file .globals)) (c .state .pc) (c .cells) κ x
+    → stepAs (programOf file) x c ≡ completed c′ → ResultOf file c c′ κ
 unfolding stepAs
-made file c c′ κ (next p cells) (o, keeps) e = rw o (let s : advanced c p cells ≡ c′ = cc in sym s ∙ ap (λ (y : Config). advanced c (y .state .pc) (y .cells)) s)
-made file c c′ κ (calls f) is e = rw is (as-accepted (entryConditions (programOf file) f c) (entered (programOf file) f (c .state .pc +ℤ pos 1) c) c′ e)
-made file c c′ κ (returns a) is e = rw is (a, as-accepted (returnConditions (programOf file) a c) (returned (programOf file) a c) c′ e)
-made file c c′ κ (refuses n) is e = absurd (let z : _≡_ {A = ℕ} 0 1 = cc in omega arith)
-made file c c′ κ (handsOver h) is e = absurd (let z : _≡_ {A = ℕ} 0 1 = cc in omega arith)
+result-of file c c′ κ (next p cells) (o, keeps) e = rw o (let s : advanced c p cells ≡ c′ = cc in sym s ∙ ap (λ (y : Config). advanced c (y .state .pc) (y .cells)) s)
+result-of file c c′ κ (calls f) is e = rw is (accepted-result (entryConditions (programOf file) f c) (entered (programOf file) f (c .state .pc +ℤ pos 1) c) c′ e)
+result-of file c c′ κ (returns a) is e = rw is (a, accepted-result (returnConditions (programOf file) a c) (returned (programOf file) a c) c′ e)
+result-of file c c′ κ (refuses n) is e = absurd (let z : _≡_ {A = ℕ} 0 1 = cc in omega arith)
+result-of file c c′ κ (handsOver h) is e = absurd (let z : _≡_ {A = ℕ} 0 1 = cc in omega arith)
 
-pub completed-is : (file : List ℕ) (c c′ : Config) → step (programOf file) c ≡ completed c′ → Made file c c′ (statementKind file (c .state .pc) (c .cells))
+pub completed-is : (file : List ℕ) (c c′ : Config) → step (programOf file) c ≡ completed c′ → ResultOf file c c′ (statementKind file (c .state .pc) (c .cells))
 unfolding step
 completed-is file c c′ e =
-    made file c c′ (statementKind file (c .state .pc) (c .cells)) (programOf file .does (c .state .pc) (c .cells)) (statement-is file (c .state .pc) (c .cells)) e
+    result-of file c c′ (statementKind file (c .state .pc) (c .cells)) (programOf file .does (c .state .pc) (c .cells)) (statement-has-kind file (c .state .pc) (c .cells)) e
 
 -- ---- what calls leave
 
--- a call is refused; of a run: it completes nothing
-abbrev pub NotDone : Program → Call → Config → Type 0
-NotDone P (enters f) c = (n : ℕ) × (hostEnter P f c ≡ refused n)
-NotDone P steps c = (n : ℕ) × (statement P c ≡ refusedStep n)
-NotDone P (runs target limit) c = run P target limit c .count ≡ 0
-NotDone P carries c = (n : ℕ) × (carryOn P c ≡ refused n)
-NotDone P (abandons target) c = (n : ℕ) × (abandon P target c ≡ refused n)
-NotDone P (reads a) c = Unit {0}
-NotDone P (writes a v) c = (n : ℕ) × (rawWrite P a v c ≡ refused n)
+-- the call is refused; of a run: it completes nothing
+abbrev pub RefusedCall : Program → Call → Config → Type 0
+RefusedCall P (enters f) c = (n : ℕ) × (hostEnter P f c ≡ refused n)
+RefusedCall P steps c = (n : ℕ) × (statement P c ≡ refusedStep n)
+RefusedCall P (runs target limit) c = run P target limit c .count ≡ 0
+RefusedCall P carries c = (n : ℕ) × (carryOn P c ≡ refused n)
+RefusedCall P (abandons target) c = (n : ℕ) × (abandon P target c ≡ refused n)
+RefusedCall P (reads a) c = Unit {0}
+RefusedCall P (writes a v) c = (n : ℕ) × (rawWrite P a v c ≡ refused n)
 
 -- a run that completed no statement changed nothing
-nothing-step : (s : Stepped) (target : ℕ) (c : Config) (rest : Config → Ran) → runAs s target c rest .count ≡ 0 → runAs s target c rest .config ≡ c
-nothing-step (completed c′) target c rest e = absurd (omega arith)
-nothing-step (refusedStep n) target c rest e = refl
-nothing-step (handedStep h) target c rest e = refl
+none-step : (s : Stepped) (target : ℕ) (c : Config) (rest : Config → Ran) → runAs s target c rest .count ≡ 0 → runAs s target c rest .config ≡ c
+none-step (completed c′) target c rest e = absurd (omega arith)
+none-step (refusedStep n) target c rest e = refl
+none-step (handedStep h) target c rest e = refl
 
-nothing-run : (P : Program) (n target : ℕ) (c : Config) → runFor P n target c .count ≡ 0 → runFor P n target c .config ≡ c
+none-run : (P : Program) (n target : ℕ) (c : Config) → runFor P n target c .count ≡ 0 → runFor P n target c .config ≡ c
 unfolding runFor
-nothing-run P zero target c e = refl
-nothing-run P (suc n) target c e = nothing-step (step P c) target c (λ c′. runFor P n target c′) e
+none-run P zero target c e = refl
+none-run P (suc n) target c e = none-step (step P c) target c (λ c′. runFor P n target c′) e
 
-nothing-after : (m : ℕ) (P : Program) (target limit : ℕ) (c : Config) → runAfter m P target limit c .count ≡ 0 → runAfter m P target limit c .config ≡ c
-nothing-after zero P target limit c e = nothing-run P limit target c e
-nothing-after (suc m) P target limit c e = refl
+none-after : (m : ℕ) (P : Program) (target limit : ℕ) (c : Config) → runAfter m P target limit c .count ≡ 0 → runAfter m P target limit c .config ≡ c
+none-after zero P target limit c e = none-run P limit target c e
+none-after (suc m) P target limit c e = refl
 
--- a refusal leaves state, cells and saved store; of a run, those after its last completed statement, which the claim of demand 3 walks to
-pub refusal-leaves : (P : Program) (k : Call) (c : Config) → NotDone P k c → after P k c ≡ c
+-- a refusal leaves state, cells and saved store; of a run, those after its last completed statement, which are the last of its trace
+pub refusal-leaves : (P : Program) (k : Call) (c : Config) → RefusedCall P k c → after P k c ≡ c
 unfolding after run
 refusal-leaves P (enters f) c (n, e) = rw e
 refusal-leaves P steps c (n, e) = ap (λ (s : Stepped). statementOutcome c s .config) e
-refusal-leaves P (runs target limit) c e = nothing-after (judge (runConditions P target limit c)) P (natural target) (natural limit) c e
+refusal-leaves P (runs target limit) c e = none-after (judge (runConditions P target limit c)) P (natural target) (natural limit) c e
 refusal-leaves P carries c (n, e) = rw e
 refusal-leaves P (abandons target) c (n, e) = rw e
 refusal-leaves P (reads a) c u = refl

@@ -12,14 +12,15 @@ use lib.Dec.{eqb}
 use lib.Seq.{getD-set-same, getD-set-other}
 use Rattle.definition.specs.declared.StackFrame.{StackFrame}
 use Rattle.definition.specs.Checks.{Condition, Conditions, accepted}
+use Rattle.definition.specs.File.{greatestDepth}
 use Rattle.definition.specs.Machine.{Program, Config, zeroFrame, limits, copied, successive, withCells}
 use Rattle.definition.specs.Machine.{entryConditions, entered, left}
 use Rattle.definition.specs.Load.{load, programOf}
 use Rattle.definition.specs.Calls.{Call}
 use Rattle.definition.specs.Log.{Log, Kind, entry, leaving, other}
-use Rattle.definition.specs.Along.{StepClaim, Through}
+use Rattle.definition.specs.Trace.{StepProperty, Always}
 use Rattle.definition.specs.CheckLaws.{All}
-use Rattle.definition.specs.Walk.{Good, Steps, through}
+use Rattle.definition.specs.Invariant.{Preserves, Inductive, always}
 use Rattle.laws.specs.Starts.{load-starts}
 
 abbrev pub frameAt : Config → ℕ → StackFrame
@@ -30,14 +31,14 @@ abbrev pub Only : ℕ → Config → Config → Type 0
 Only i c c′ = (j : ℕ) → j ≢ i → frameAt c′ j ≡ frameAt c j
 
 -- an entry writes the frame at the depth, a leaving makes that below the depth zeros, and nothing else touches one
-abbrev pub FramesBy : StepClaim
+abbrev pub FramesBy : StepProperty
 FramesBy (entry f back) c l c′ = Only (c .state .depth) c c′ × (frameAt c′ (c .state .depth) ≡ record { «instr_id» = back; «func_id» = c .state .function })
 FramesBy leaving c l c′ = Only (c .state .depth - 1) c c′ × (frameAt c′ (c .state .depth - 1) ≡ record { «instr_id» = pos 0; «func_id» = 0 })
 FramesBy other c l c′ = c′ .state .frames ≡ c .state .frames
 
--- what holds of every state that a list of calls meets: there are 31 frames, and those from the depth on are zeros
+-- what holds of every state that a list of calls reaches: there are 31 frames, and those from the depth on are zeros
 pub record ZeroAbove (c : Config) : Type 0 where
-  pub number : length (c .state .frames) ≡ 31
+  pub number : length (c .state .frames) ≡ greatestDepth
   pub zeros : (i : ℕ) → c .state .depth ≤ i → frameAt c i ≡ record { «instr_id» = pos 0; «func_id» = 0 }
 
 all-zeros : (n i : ℕ) → getD (replicate n zeroFrame) i zeroFrame ≡ zeroFrame
@@ -71,15 +72,15 @@ module _ (file : List ℕ) where
   abbrev P : Program
   P = programOf file
 
-  abbrev GoodStep : Kind → Config → Log → Config → Type 0
-  GoodStep κ c l c′ = Good file (λ c l. ZeroAbove c) FramesBy κ c l c′
+  abbrev Preserved : Kind → Config → Log → Config → Type 0
+  Preserved κ c l c′ = Preserves file (λ c l. ZeroAbove c) FramesBy κ c l c′
 
-  entered-frames : (c : Config) (l : Log) (f : ℕ) (back : ℤ) → ZeroAbove c → All (entryConditions P f c) → GoodStep (entry f back) c l (entered P f back c)
+  entered-frames : (c : Config) (l : Log) (f : ℕ) (back : ℤ) → ZeroAbove c → All (entryConditions P f c) → Preserved (entry f back) c l (entered P f back c)
   unfolding entryConditions entered limits
   entered-frames c l f back k h =
       let s = c .state in
       let frame : StackFrame = record { «instr_id» = back; «func_id» = s .function } in
-      let shallow : s .depth < 31 = ltb-true (s .depth) 31 (h .1 .0) in (
+      let shallow : s .depth < greatestDepth = ltb-true (s .depth) greatestDepth (h .1 .0) in (
         (entry-touches P f back c, getD-set-same (s .frames) (s .depth) frame zeroFrame (omega (arith, k .number))),
         record {
           number = length-set (s .frames) (s .depth) frame ∙ k .number;
@@ -87,7 +88,7 @@ module _ (file : List ℕ) where
         },
       )
 
-  left-frames : (c : Config) (l : Log) → ZeroAbove c → GoodStep leaving c l (left P c)
+  left-frames : (c : Config) (l : Log) → ZeroAbove c → Preserved leaving c l (left P c)
   unfolding left
   left-frames c l k =
       let s = c .state in (
@@ -98,8 +99,8 @@ module _ (file : List ℕ) where
         },
       )
 
-  frames-steps : Steps file (λ c l. ZeroAbove c) FramesBy
-  frames-steps =
+  frames-inductive : Inductive file (λ c l. ZeroAbove c) FramesBy
+  frames-inductive =
       record {
         plain = λ c l p cells k keeps. (refl, record { number = k .number; zeros = k .zeros });
         writing = λ c l a v k h. (refl, record { number = k .number; zeros = k .zeros });
@@ -109,11 +110,11 @@ module _ (file : List ℕ) where
       }
 
 pub frames-by : (file cells saved : List ℕ) (c : Config) → load file cells saved ≡ accepted c → (calls : List Call)
-    → Through file FramesBy (λ c′ l. ZeroAbove c′) c [] calls
+    → Always file FramesBy (λ c′ l. ZeroAbove c′) c [] calls
 frames-by file cells saved c accepts calls =
     let started = load-starts file cells saved c accepts in
-    through file (λ c′ l. ZeroAbove c′) FramesBy (frames-steps file) (λ c′ l. ZeroAbove c′) (λ c′ l k. k) c [] calls
+    always file (λ c′ l. ZeroAbove c′) FramesBy (frames-inductive file) (λ c′ l. ZeroAbove c′) (λ c′ l k. k) c [] calls
     (record {
-      number = ap length (started .frames) ∙ length-replicate 31 zeroFrame;
-      zeros = λ i le. ap (λ (fs : List StackFrame). getD fs i zeroFrame) (started .frames) ∙ all-zeros 31 i;
+      number = ap length (started .frames) ∙ length-replicate greatestDepth zeroFrame;
+      zeros = λ i le. ap (λ (fs : List StackFrame). getD fs i zeroFrame) (started .frames) ∙ all-zeros greatestDepth i;
     })

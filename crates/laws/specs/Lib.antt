@@ -1,12 +1,12 @@
--- Laws that keep the definition and demand 3's claim honest.
+-- Laws of the definition beside demand 3: what holds of every state, or of every state that calls reach after an accepted load.
 pub mod Starts
 pub mod Frames
 pub mod Sound
 pub mod Thirteen
-pub mod Leavable
+pub mod CanLeave
 pub mod Exactly
 pub mod Loadable
-pub mod Alone
+pub mod RowDecides
 pub mod Completed
 pub mod Runs
 pub mod Untouched

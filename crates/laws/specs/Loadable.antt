@@ -12,7 +12,7 @@ use Rattle.definition.specs.Checks.{Conditions, accepted}
 use Rattle.definition.specs.File.{negative, versionOf, checkNumberOf, fileOf, lumpsFit, leastCells, contentsOf, builtinKnown}
 use Rattle.definition.specs.Cells.{typeOf}
 use Rattle.definition.specs.Load.{functionConditions, statementConditions, globaldefConditions, fielddefConditions, each, headerConditions, recordConditions, cellConditions, loadConditions, loaded, load}
-use Rattle.definition.specs.CheckLaws.{All, and-both, guard-accepts}
+use Rattle.definition.specs.CheckLaws.{All, all-both, and-both, guard-accepts}
 
 -- of each record of a list
 abbrev pub Every : {A : Type 0} → (A → Type 0) → List A → Type 0
@@ -47,10 +47,6 @@ pub record Loadable (file : List ℕ) (lent store : ℕ) : Type 0 where
   pub signed : not (negative (fileOf file .entityfields)) ≡ true
   pub enough : fileOf file .globals .count ≤ lent
   pub store-enough : 2048 ≤ store
-
-all-both : (cs ds : Conditions) → All cs → All ds → All (cs ++ ds)
-all-both [] ds p q = q
-all-both (c ∷ cs) ds p q = (p .0, all-both cs ds (p .1) q)
 
 every-each : {A : Type 0} (Q : A → Type 0) (conditions : A → Conditions) → ((x : A) → Q x → All (conditions x)) → (xs : List A) → Every Q xs → All (each conditions xs)
 unfolding each

@@ -18,8 +18,9 @@ use Rattle.definition.specs.Checks.{judge}
 use Rattle.definition.specs.File.{Contents, builtinNumber}
 use Rattle.definition.specs.Cells.{lookup, scalar, passes, signed, cellOf, cellAccess, vectorAccess, access, readAccess}
 use Rattle.definition.specs.Statements.{Does, next, calls, returns, refuses, handsOver, shapeOf, fetchConditions, execute, doesAt}
-use Rattle.definition.specs.Statements.{floatsEffect, valuesEffect, vectorResult, vectorsEffect, dotsEffect, stringsEffect}
+use Rattle.definition.specs.Statements.{floatsEffect, valuesEffect, vectorResult, vectorsEffect, vectorsToFloatEffect, stringsEffect}
 use Rattle.definition.specs.Statements.{negatesEffect, negatesVEffect, negatesSEffect, storesEffect, storesVEffect, branchesDo, callOf, callDoes}
+use Rattle.definition.specs.Starred.{sameNumbers}
 
 -- ---- the program and its cells
 
@@ -32,7 +33,8 @@ abbrev with : List Cell → List ℕ → List ℕ
 with [] cells = cells
 with (a holds x ∷ given) cells = with given (set cells a x)
 
-abbrev numbers : ℕ → ℕ → List ℕ
+-- so many numbers, from a on
+abbrev pub numbers : ℕ → ℕ → List ℕ
 numbers zero a = []
 numbers (suc n) a = a ∷ numbers n (a + 1)
 
@@ -131,7 +133,8 @@ pub data Row : Type 0 where
 abbrev does : List Definition → Statement → List ℕ → Does
 does definitions st cells = doesAt (program definitions st) (pos 2) cells
 
-abbrev refusalOf : Does → ℕ
+-- the number of the refusal, 0 where there is none
+abbrev pub refusalOf : Does → ℕ
 refusalOf (next p cells) = 0
 refusalOf (calls f) = 0
 refusalOf (returns a) = 0
@@ -147,12 +150,6 @@ sameInteger (pos m) (pos n) = eqb m n
 sameInteger (pos m) (negsuc n) = false
 sameInteger (negsuc m) (pos n) = false
 sameInteger (negsuc m) (negsuc n) = eqb m n
-
-abbrev sameNumbers : List ℕ → List ℕ → Bool
-sameNumbers [] [] = true
-sameNumbers [] (y ∷ ys) = false
-sameNumbers (x ∷ xs) [] = false
-sameNumbers (x ∷ xs) (y ∷ ys) = eqb x y && sameNumbers xs ys
 
 abbrev same : Seen → Seen → Bool
 same a b = eqb (a .kind) (b .kind) && sameInteger (a .number) (b .number) && sameNumbers (a .cells) (b .cells)
@@ -727,7 +724,7 @@ unfoldable computing : Unit {0}
 unfolding judge builtinNumber
     Ieee.ofBits Ieee.toBits Ieee.add Ieee.sub Ieee.mul Ieee.div Ieee.eq Ieee.ne Ieee.le Ieee.lt Ieee.toSigned Ieee.ofInt
     lookup scalar passes signed cellOf cellAccess vectorAccess access readAccess
-    shapeOf floatsEffect valuesEffect vectorResult vectorsEffect dotsEffect stringsEffect negatesEffect negatesVEffect negatesSEffect
+    shapeOf floatsEffect valuesEffect vectorResult vectorsEffect vectorsToFloatEffect stringsEffect negatesEffect negatesVEffect negatesSEffect
     storesEffect storesVEffect branchesDo callOf callDoes fetchConditions execute doesAt
 computing = tt
 

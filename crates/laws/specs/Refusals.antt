@@ -19,25 +19,17 @@ use Rattle.definition.specs.Machine.{Program, State, Config, limits, zeroFrame,
 use Rattle.definition.specs.Machine.{entryConditions, entered, leaveConditions, returnConditions, Stepped, completed, refusedStep, handedStep}
 use Rattle.definition.specs.Load.{each, recordConditions}
 use Rattle.definition.specs.Operations.{frameFunctions, enteredFunctions, allPresent, localsOf, sound, runConditions}
-use Rattle.definition.specs.Answers.{noLump, loadOutcome, refusalNumber, readAnswer, readValue, readRefusal, statementOutcome, statementWord, statementDetail, letters}
+use Rattle.definition.specs.Answers.{cellsAlone, loadOutcome, refusalNumber, readAnswer, readValue, readRefusal, statementOutcome, statementWord, statementDetail, letters}
+use Rattle.definition.specs.Starred.{sameNumbers}
+use Rattle.laws.specs.Opcodes.{numbers, refusalOf}
 
 -- words of the paper, what the definition gives, what the paper says
 pub data Row : Type 0 where
   row : String → List ℕ → List ℕ → Row
 
-abbrev sameNumbers : List ℕ → List ℕ → Bool
-sameNumbers [] [] = true
-sameNumbers [] (y ∷ ys) = false
-sameNumbers (x ∷ xs) [] = false
-sameNumbers (x ∷ xs) (y ∷ ys) = eqb x y && sameNumbers xs ys
-
 abbrev pub all : List Row → Bool
 all [] = true
 all (row words gives says ∷ rows) = sameNumbers gives says && all rows
-
-abbrev numbers : ℕ → ℕ → List ℕ
-numbers zero a = []
-numbers (suc n) a = a ∷ numbers n (a + 1)
 
 abbrev mapped : {A : Type 0} → (ℕ → A) → List ℕ → List A
 mapped f [] = []
@@ -123,17 +115,7 @@ at depth saved =
     record {
       state =
           record {
-            file =
-                record {
-                  length = 60;
-                  statements = noLump;
-                  globaldefs = noLump;
-                  fielddefs = noLump;
-                  functions = noLump;
-                  strings = noLump;
-                  globals = record { offset = 0; count = 64 };
-                  entityfields = 105;
-                };
+            file = cellsAlone 64;
             pc = pos 7;
             function = 0;
             depth = depth;
@@ -179,13 +161,6 @@ copies =
     ∷ row "one at a time" (afterEntry (fn 1 5 0 1 (3 ∷ []))) (numbers 5 0 ++ (4 ∷ 4 ∷ 4 ∷ []) ++ numbers 56 8)
     ∷ row "the first argument first" (afterEntry (fn 1 7 0 2 (1 ∷ 1 ∷ []))) (numbers 7 0 ++ (4 ∷ 4 ∷ []) ++ numbers 55 9)
     ∷ []
-
-abbrev refusalOf : Does → ℕ
-refusalOf (next p cells) = 0
-refusalOf (calls f) = 0
-refusalOf (returns a) = 0
-refusalOf (refuses n) = n
-refusalOf (handsOver h) = 0
 
 -- "Call, 19: function 0; 20: no such function; 5 again"
 abbrev called : List Row

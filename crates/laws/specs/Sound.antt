@@ -1,4 +1,4 @@
--- After an accepted load check 13 refuses no call of any list, and what the load records stays. So demand 3 is not had by refusing.
+-- After an accepted load check 13 refuses no call of any list, and what the load records stays. So demand 3 does not hold merely because calls are refused.
 use Prim.Native.Nat.{ℕ, zero, suc, _+_, _-_, _≤_, _<_}
 use mathlib.Core.Path.{_≡_, refl, sym, _∙_, ap, subst}
 use mathlib.Core.List.{List, [], _∷_, _++_}
@@ -14,19 +14,20 @@ use Rattle.definition.specs.declared.FileRecord.{FileRecord}
 use Rattle.definition.specs.declared.FunctionDef.{FunctionDef}
 use Rattle.definition.specs.declared.StackFrame.{StackFrame}
 use Rattle.definition.specs.Checks.{Condition, Conditions, Checked, refused, accepted, guard}
-use Rattle.definition.specs.File.{negative, fileOf, contentsOf, lengthFits, lumpsFit, leastCells, cellsFit, entityFits}
+use Rattle.definition.specs.File.{leastCells, savedStore, greatestDepth, negative, fileOf, contentsOf, lengthFits, lumpsFit, cellsFit, entityFits}
 use Rattle.definition.specs.Machine.{Program, functionOf, State, Config, countOf, limits, zeroFrame, startState, present, copied, successive, argumentsOf, withCells, advanced}
 use Rattle.definition.specs.Machine.{entryConditions, entered, leaveConditions, left, returnConditions, returned}
 use Rattle.definition.specs.Load.{headerConditions, recordConditions, cellConditions, loadConditions, loaded, load, sameLump, sameFile, recordedIn, programAt, programOf}
 use Rattle.definition.specs.Operations.{frameFunctions, enteredAt, enteredFunctions, allPresent, localsOf, sound}
 use Rattle.definition.specs.Calls.{Call}
 use Rattle.definition.specs.Log.{Log, Kind, entry, leaving, other}
-use Rattle.definition.specs.Along.{StepClaim, Through}
-use Rattle.definition.specs.CheckLaws.{All, and-left, and-right, and-both, all-front, all-back, WhenAccepted, guarded}
+use Rattle.definition.specs.Trace.{StepProperty, Always}
+use Rattle.definition.specs.CheckLaws.{All, and-left, and-right, and-both, WhenAccepted, guarded}
 use Rattle.definition.specs.Parts.{Present, present-true, present-more, present-source, length-pasted, length-copied}
 use Rattle.definition.specs.RecordLaws.{length-globals}
+use Rattle.definition.specs.LoadLaws.{load-rows}
 use Rattle.definition.specs.StatementLaws.{Keeps}
-use Rattle.definition.specs.Walk.{Good, Steps, through}
+use Rattle.definition.specs.Invariant.{Preserves, Inductive, always}
 
 -- ---- the entered functions, after an entry and after a leaving
 
@@ -52,16 +53,17 @@ entered-less (suc k) f frames = rw (frames-set k (suc k) frames zeroFrame (omega
 
 -- ---- what 13 asks of the state, as facts
 
-pub record Balanced (P : Program) (s : State) : Type 0 where
-  pub room : 31 ≤ length (s .frames)
-  pub depth-most : s .depth ≤ 31
+pub record StackConsistent (P : Program) (s : State) : Type 0 where
+  pub room : greatestDepth ≤ length (s .frames)
+  pub depth-most : s .depth ≤ greatestDepth
   pub all : allPresent P (enteredFunctions s) ≡ true
   pub sum : s .saved ≡ localsOf P (enteredFunctions s)
-  pub saved-most : s .saved ≤ 2048
+  pub saved-most : s .saved ≤ savedStore
 
-pub record Steady (file : List ℕ) (c : Config) : Type 0 where
-  pub balanced : Balanced (programOf file) (c .state)
-  pub long : 2048 ≤ length (c .saved)
+-- and of the file and the buffers: the inductive invariant
+pub record Consistent (file : List ℕ) (c : Config) : Type 0 where
+  pub stack : StackConsistent (programOf file) (c .state)
+  pub long : savedStore ≤ length (c .saved)
   pub recorded : c .state .file ≡ fileOf file
   pub enough : countOf c ≤ length (c .cells)
   pub in-range : (lengthFits (fileOf file) && lumpsFit (fileOf file) && cellsFit leastCells (fileOf file) && entityFits (fileOf file)) ≡ true
@@ -69,59 +71,56 @@ pub record Steady (file : List ℕ) (c : Config) : Type 0 where
 same-number : (n : ℕ) → eqb n n ≡ true
 same-number n = eq-eqb n n refl
 
+same-lump : (l : Lump) → sameLump l l ≡ true
+same-lump l = rw (same-number (l .offset), same-number (l .count))
+
 same-file : (r : FileRecord) → sameFile r r ≡ true
 unfolding sameFile
 same-file r =
     rw (
       same-number (r .length),
-      same-number (r .statements .offset),
-      same-number (r .statements .count),
-      same-number (r .globaldefs .offset),
-      same-number (r .globaldefs .count),
-      same-number (r .fielddefs .offset),
-      same-number (r .fielddefs .count),
-      same-number (r .functions .offset),
-      same-number (r .functions .count),
-      same-number (r .strings .offset),
-      same-number (r .strings .count),
-      same-number (r .globals .offset),
-      same-number (r .globals .count),
+      same-lump (r .statements),
+      same-lump (r .globaldefs),
+      same-lump (r .fielddefs),
+      same-lump (r .functions),
+      same-lump (r .strings),
+      same-lump (r .globals),
       same-number (r .entityfields),
     )
 
-steady-recorded : (file : List ℕ) (c : Config) → Steady file c → recordedIn file (c .state .file) (length (c .cells)) ≡ true
+consistent-recorded : (file : List ℕ) (c : Config) → Consistent file c → recordedIn file (c .state .file) (length (c .cells)) ≡ true
 unfolding recordedIn
-steady-recorded file c k =
+consistent-recorded file c k =
     let r = fileOf file in
     let lent : leb (r .globals .count) (length (c .cells)) ≡ true = le-leb _ _ (rw (k .recorded) at (k .enough)) in
     rw (k .recorded, same-file r, lent) (and-both _ true (k .in-range) refl)
 
-pub steady-sound : (file : List ℕ) (c : Config) → Steady file c → sound (programOf file) c ≡ true
+pub consistent-sound : (file : List ℕ) (c : Config) → Consistent file c → sound (programOf file) c ≡ true
 unfolding sound limits programAt
-steady-sound file c k =
+consistent-sound file c k =
     rw (
-      steady-recorded file c k,
-      le-leb 2048 (length (c .saved)) (k .long),
-      le-leb (c .state .depth) 31 (k .balanced .depth-most),
-      k .balanced .all,
-      le-leb (c .state .saved) 2048 (k .balanced .saved-most),
-      eq-eqb (c .state .saved) (localsOf (programOf file) (enteredFunctions (c .state))) (k .balanced .sum),
+      consistent-recorded file c k,
+      le-leb savedStore (length (c .saved)) (k .long),
+      le-leb (c .state .depth) greatestDepth (k .stack .depth-most),
+      k .stack .all,
+      le-leb (c .state .saved) savedStore (k .stack .saved-most),
+      eq-eqb (c .state .saved) (localsOf (programOf file) (enteredFunctions (c .state))) (k .stack .sum),
     )
 
--- ---- kept by every small step
+-- ---- preserved by every small step
 
 -- only the position and cells of the same number change
-pub advanced-steady : (file : List ℕ) (c : Config) (p : ℤ) (cells : List ℕ) → length cells ≡ length (c .cells) → Steady file c → Steady file (advanced c p cells)
+pub advanced-consistent : (file : List ℕ) (c : Config) (p : ℤ) (cells : List ℕ) → length cells ≡ length (c .cells) → Consistent file c → Consistent file (advanced c p cells)
 unfolding enteredFunctions
-advanced-steady file c p cells e k =
+advanced-consistent file c p cells e k =
     record {
-      balanced =
+      stack =
           record {
-            room = k .balanced .room;
-            depth-most = k .balanced .depth-most;
-            all = k .balanced .all;
-            sum = k .balanced .sum;
-            saved-most = k .balanced .saved-most;
+            room = k .stack .room;
+            depth-most = k .stack .depth-most;
+            all = k .stack .all;
+            sum = k .stack .sum;
+            saved-most = k .stack .saved-most;
           };
       long = k .long;
       recorded = k .recorded;
@@ -129,33 +128,33 @@ advanced-steady file c p cells e k =
       in-range = k .in-range;
     }
 
-pub entered-steady : (file : List ℕ) (c : Config) (f : ℕ) (back : ℤ) → Steady file c → All (entryConditions (programOf file) f c)
-    → Steady file (entered (programOf file) f back c)
+pub entered-consistent : (file : List ℕ) (c : Config) (f : ℕ) (back : ℤ) → Consistent file c → All (entryConditions (programOf file) f c)
+    → Consistent file (entered (programOf file) f back c)
 unfolding entryConditions entered limits enteredFunctions allPresent localsOf
-entered-steady file c f back k h =
+entered-consistent file c f back k h =
     let P = programOf file in
     let d = functionOf P f in
     let s = c .state in
-    let shallow : s .depth < 31 = ltb-true (s .depth) 31 (h .1 .0) in
-    let positive : not (negative (d .locals)) ≡ true = and-left (not (negative (d .locals))) (leb (s .saved + d .locals) 2048) (h .1 .1 .0) in
-    let fits : s .saved + d .locals ≤ 2048 = leb-true _ _ (and-right (not (negative (d .locals))) (leb (s .saved + d .locals) 2048) (h .1 .1 .0)) in
+    let shallow : s .depth < greatestDepth = ltb-true (s .depth) greatestDepth (h .1 .0) in
+    let positive : not (negative (d .locals)) ≡ true = and-left (not (negative (d .locals))) (leb (s .saved + d .locals) savedStore) (h .1 .1 .0) in
+    let fits : s .saved + d .locals ≤ savedStore = leb-true _ _ (and-right (not (negative (d .locals))) (leb (s .saved + d .locals) savedStore) (h .1 .1 .0)) in
     let there : Present (d .start) (d .locals) (length (c .cells)) =
     present-more _ _ (countOf c) _ (k .enough) (present-true (d .start) (d .locals) (countOf c) (h .1 .1 .1 .0))
     in
     let frame : StackFrame = record { «instr_id» = back; «func_id» = s .function } in
     let e : enteredAt (s .depth + 1) f (set (s .frames) (s .depth) frame) ≡ f ∷ enteredAt (s .depth) (s .function) (s .frames) =
-    rw native.Mathlib.Numerals.add-one (entered-more (s .depth) f (s .frames) frame (omega (arith, k .balanced .room)))
+    rw native.Mathlib.Numerals.add-one (entered-more (s .depth) f (s .frames) frame (omega (arith, k .stack .room)))
     in
     let same : length (paste (c .saved) (s .saved) (drop (d .start) (c .cells)) (d .locals)) ≡ length (c .saved) =
     length-paste (c .saved) (s .saved) (drop (d .start) (c .cells)) (d .locals) (omega (arith, k .long)) (present-source (c .cells) (d .start) (d .locals) there)
     in
     record {
-      balanced =
+      stack =
           record {
-            room = omega (arith, k .balanced .room, length-set (s .frames) (s .depth) frame);
+            room = omega (arith, k .stack .room, length-set (s .frames) (s .depth) frame);
             depth-most = omega arith;
-            all = rw (e, h .0, positive) (k .balanced .all);
-            sum = rw e (omega (arith, k .balanced .sum));
+            all = rw (e, h .0, positive) (k .stack .all);
+            sum = rw e (omega (arith, k .stack .sum));
             saved-most = fits;
           };
       long = omega (arith, same, k .long);
@@ -164,8 +163,8 @@ entered-steady file c f back k h =
       in-range = k .in-range;
     }
 
--- in a balanced state above depth 0 the saved cells suffice for the function being left
-pub suffice : (P : Program) (s : State) → 0 < s .depth → Balanced P s → functionOf P (s .function) .locals ≤ s .saved
+-- in such a state above depth 0 the saved cells suffice for the function being left
+pub suffice : (P : Program) (s : State) → 0 < s .depth → StackConsistent P s → functionOf P (s .function) .locals ≤ s .saved
 unfolding enteredFunctions localsOf
 suffice P s h b =
     let one : s .depth ≡ suc (s .depth - 1) = omega arith in
@@ -174,9 +173,9 @@ suffice P s h b =
     in
     omega (arith, b .sum, ap (localsOf P) e)
 
-pub left-steady : (file : List ℕ) (c : Config) → Steady file c → All (leaveConditions (programOf file) c) → Steady file (left (programOf file) c)
+pub left-consistent : (file : List ℕ) (c : Config) → Consistent file c → All (leaveConditions (programOf file) c) → Consistent file (left (programOf file) c)
 unfolding leaveConditions left enteredFunctions allPresent localsOf
-left-steady file c k h =
+left-consistent file c k h =
     let P = programOf file in
     let s = c .state in
     let d = functionOf P (s .function) in
@@ -190,18 +189,18 @@ left-steady file c k h =
     let e : enteredAt (s .depth) (s .function) (s .frames) ≡ s .function ∷ rest =
     ap (λ (m : ℕ). enteredAt m (s .function) (s .frames)) one ∙ entered-less (s .depth - 1) (s .function) (s .frames)
     in
-    let alls : allPresent P (s .function ∷ rest) ≡ true = (rw e at (k .balanced .all)) in
+    let alls : allPresent P (s .function ∷ rest) ≡ true = (rw e at (k .stack .all)) in
     let source : d .locals ≤ length (drop (s .saved - d .locals) (c .saved)) =
-    omega (arith, fewer, k .balanced .saved-most, k .long, length-drop (s .saved - d .locals) (c .saved))
+    omega (arith, fewer, k .stack .saved-most, k .long, length-drop (s .saved - d .locals) (c .saved))
     in
     record {
-      balanced =
+      stack =
           record {
-            room = omega (arith, k .balanced .room, length-set (s .frames) (s .depth - 1) zeroFrame);
-            depth-most = omega (arith, k .balanced .depth-most);
+            room = omega (arith, k .stack .room, length-set (s .frames) (s .depth - 1) zeroFrame);
+            depth-most = omega (arith, k .stack .depth-most);
             all = and-right (ltb (s .function) (length (P .functions)) && not (negative (d .locals))) (allPresent P rest) alls;
-            sum = omega (arith, k .balanced .sum, ap (localsOf P) e);
-            saved-most = omega (arith, k .balanced .saved-most);
+            sum = omega (arith, k .stack .sum, ap (localsOf P) e);
+            saved-most = omega (arith, k .stack .saved-most);
           };
       long = k .long;
       recorded = k .recorded;
@@ -209,61 +208,55 @@ left-steady file c k h =
       in-range = k .in-range;
     }
 
--- nothing is claimed of a small step itself
-abbrev pub Any : StepClaim
-Any κ c l c′ = Unit {0}
+-- the property that every small step has: for a claim about states alone
+abbrev pub AnyStep : StepProperty
+AnyStep κ c l c′ = Unit {0}
 
-pub returned-steady : (file : List ℕ) (c : Config) (a : ℕ) → Steady file c → All (returnConditions (programOf file) a c) → Steady file (returned (programOf file) a c)
+pub returned-consistent : (file : List ℕ) (c : Config) (a : ℕ) → Consistent file c → All (returnConditions (programOf file) a c) → Consistent file (returned (programOf file) a c)
 unfolding leaveConditions
-returned-steady file c a k h =
+returned-consistent file c a k h =
     let cells = copied (successive 3 a 1) (c .cells) in
-    left-steady file (withCells c cells) (advanced-steady file c (c .state .pc) cells (length-copied (successive 3 a 1) (c .cells)) k) (h .1)
+    left-consistent file (withCells c cells) (advanced-consistent file c (c .state .pc) cells (length-copied (successive 3 a 1) (c .cells)) k) (h .1)
 
-pub steady-steps : (file : List ℕ) → Steps file (λ c l. Steady file c) Any
-steady-steps file =
+pub consistent-inductive : (file : List ℕ) → Inductive file (λ c l. Consistent file c) AnyStep
+consistent-inductive file =
     record {
-      plain = λ c l p cells k keeps. (tt, advanced-steady file c p cells (keeps .same-length) k);
-      writing = λ c l a v k h. (tt, advanced-steady file c (c .state .pc) (set (c .cells) a v) (length-set (c .cells) a v) k);
-      entering = λ c l f back k h. (tt, entered-steady file c f back k h);
-      returning = λ c l a k h. (tt, returned-steady file c a k h);
-      leave-one = λ c l k h. (tt, left-steady file c k h);
+      plain = λ c l p cells k keeps. (tt, advanced-consistent file c p cells (keeps .same-length) k);
+      writing = λ c l a v k h. (tt, advanced-consistent file c (c .state .pc) (set (c .cells) a v) (length-set (c .cells) a v) k);
+      entering = λ c l f back k h. (tt, entered-consistent file c f back k h);
+      returning = λ c l a k h. (tt, returned-consistent file c a k h);
+      leave-one = λ c l k h. (tt, left-consistent file c k h);
     }
 
 -- ---- the load
 
-pub loaded-steady : (file cells saved : List ℕ) → WhenAccepted (Steady file) (load file cells saved)
+pub loaded-consistent : (file cells saved : List ℕ) → WhenAccepted (Consistent file) (load file cells saved)
 unfolding load loaded headerConditions cellConditions enteredFunctions allPresent localsOf
-loaded-steady file cells saved =
-    guarded (Steady file) _ _ λ h.
+loaded-consistent file cells saved =
+    guarded (Consistent file) _ _ λ h.
     let r = fileOf file in
     let k = contentsOf file in
-    let header : All (headerConditions file) =
-    all-front (headerConditions file) (recordConditions (r .strings .count) k)
-    (all-front (headerConditions file ++ recordConditions (r .strings .count) k) (cellConditions leastCells r (length cells) (length saved)) h)
-    in
-    let last : All (cellConditions leastCells r (length cells) (length saved)) =
-    all-back (headerConditions file ++ recordConditions (r .strings .count) k) (cellConditions leastCells r (length cells) (length saved)) h
-    in
+    let rows = load-rows file (length cells) (length saved) h in
     record {
-      balanced = record { room = omega (arith, length-replicate 31 zeroFrame); depth-most = omega arith; all = refl; sum = refl; saved-most = omega arith };
-      long = leb-true 2048 (length saved) (and-right (leb (r .globals .count) (length cells)) (leb 2048 (length saved)) (last .1 .1 .0));
+      stack = record { room = omega (arith, length-replicate greatestDepth zeroFrame); depth-most = omega arith; all = refl; sum = refl; saved-most = omega arith };
+      long = leb-true savedStore (length saved) (and-right (leb (r .globals .count) (length cells)) (leb savedStore (length saved)) (rows .cells .1 .1 .0));
       recorded = refl;
       enough = omega (arith, length-append (k .globals) (drop (r .globals .count) cells), length-globals file);
       in-range =
           and-both (lengthFits r && lumpsFit r && cellsFit leastCells r) (entityFits r)
-          (and-both (lengthFits r && lumpsFit r) (cellsFit leastCells r) (and-both (lengthFits r) (lumpsFit r) (header .0) (header .1 .1 .1 .0)) (last .0))
-          (last .1 .0);
+          (and-both (lengthFits r && lumpsFit r) (cellsFit leastCells r) (and-both (lengthFits r) (lumpsFit r) (rows .header .0) (rows .header .1 .1 .1 .0)) (rows .cells .0))
+          (rows .cells .1 .0);
     }
 
--- what holds of every state that a list of calls meets
+-- what holds of every state that a list of calls reaches
 pub record AsLoaded (file : List ℕ) (c : Config) (l : Log) : Type 0 where
   -- check 13 does not refuse
   pub passes : sound (programOf file) c ≡ true
   -- what the load records stays
   pub recorded : c .state .file ≡ fileOf file
 
-pub never-13 : (file cells saved : List ℕ) (c : Config) → load file cells saved ≡ accepted c → (calls : List Call) → Through file Any (AsLoaded file) c [] calls
+pub never-13 : (file cells saved : List ℕ) (c : Config) → load file cells saved ≡ accepted c → (calls : List Call) → Always file AnyStep (AsLoaded file) c [] calls
 never-13 file cells saved c accepts calls =
-    through file (λ c′ l. Steady file c′) Any (steady-steps file) (AsLoaded file)
-    (λ c′ l k. record { passes = steady-sound file c′ k; recorded = k .recorded })
-    c [] calls (subst (WhenAccepted (Steady file)) accepts (loaded-steady file cells saved))
+    always file (λ c′ l. Consistent file c′) AnyStep (consistent-inductive file) (AsLoaded file)
+    (λ c′ l k. record { passes = consistent-sound file c′ k; recorded = k .recorded })
+    c [] calls (subst (WhenAccepted (Consistent file)) accepts (loaded-consistent file cells saved))

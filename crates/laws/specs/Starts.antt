@@ -1,4 +1,5 @@
--- What an accepted load leaves, field by field, and the sizes that it takes: those too that no row of the table can compute with.
+-- What an accepted load leaves, field by field, and the sizes that it takes: those too that no row of the table can compute with. Limits are written
+-- here, in Loadable and in Thirteen as the numbers of 01, not by the definition's names: a name with another value would be refused here.
 use Prim.Native.Nat.{ℕ, _≤_, _<_}
 use mathlib.Core.Path.{_≡_, refl, subst}
 use mathlib.Core.List.{List, _++_}
@@ -13,8 +14,9 @@ use Rattle.definition.specs.Checks.{Condition, Conditions, judge, refused, acce
 use Rattle.definition.specs.File.{fileOf, contentsOf, lengthFits, leastCells, cellsFit}
 use Rattle.definition.specs.Machine.{Config}
 use Rattle.definition.specs.Load.{headerConditions, recordConditions, cellConditions, loaded, load}
-use Rattle.definition.specs.CheckLaws.{All, and-left, and-right, all-front, all-back, WhenAccepted, guarded}
+use Rattle.definition.specs.CheckLaws.{All, and-left, and-right, WhenAccepted, guarded}
 use Rattle.definition.specs.RecordLaws.{length-globals}
+use Rattle.definition.specs.LoadLaws.{load-rows}
 
 -- "A load fills the lent cells from 0 and leaves those past the file's count. Position, function and depths start at 0. Frames start as zeros"
 pub record Started (file cells saved : List ℕ) (c : Config) : Type 0 where
@@ -84,18 +86,15 @@ when-accepted-sizes file cells saved =
     guarded (λ (c : Config). Sizes file cells saved) _ _ λ h.
     let r = fileOf file in
     let n = r .globals .count in
-    let records : Conditions = recordConditions (r .strings .count) (contentsOf file) in
-    let last : Conditions = cellConditions leastCells r (length cells) (length saved) in
-    let header : All (headerConditions file) = all-front (headerConditions file) records (all-front (headerConditions file ++ records) last h) in
-    let cells-row : All last = all-back (headerConditions file ++ records) last h in
+    let rows = load-rows file (length cells) (length saved) h in
     record {
-      length-least = leb-true 60 (length file) (and-left (leb 60 (length file)) (leb (length file) 1048576) (header .0));
-      length-most = leb-true (length file) 1048576 (and-right (leb 60 (length file)) (leb (length file) 1048576) (header .0));
-      cells-least = leb-true 36 n (and-left (leb 36 n) (leb n 32768) (cells-row .0));
-      cells-most = leb-true n 32768 (and-right (leb 36 n) (leb n 32768) (cells-row .0));
-      entity-least = leb-true 105 (r .entityfields) (and-left (leb 105 (r .entityfields)) _ (cells-row .1 .0));
-      lent = leb-true n (length cells) (and-left (leb n (length cells)) (leb 2048 (length saved)) (cells-row .1 .1 .0));
-      store = leb-true 2048 (length saved) (and-right (leb n (length cells)) (leb 2048 (length saved)) (cells-row .1 .1 .0));
+      length-least = leb-true 60 (length file) (and-left (leb 60 (length file)) (leb (length file) 1048576) (rows .header .0));
+      length-most = leb-true (length file) 1048576 (and-right (leb 60 (length file)) (leb (length file) 1048576) (rows .header .0));
+      cells-least = leb-true 36 n (and-left (leb 36 n) (leb n 32768) (rows .cells .0));
+      cells-most = leb-true n 32768 (and-right (leb 36 n) (leb n 32768) (rows .cells .0));
+      entity-least = leb-true 105 (r .entityfields) (and-left (leb 105 (r .entityfields)) _ (rows .cells .1 .0));
+      lent = leb-true n (length cells) (and-left (leb n (length cells)) (leb 2048 (length saved)) (rows .cells .1 .1 .0));
+      store = leb-true 2048 (length saved) (and-right (leb n (length cells)) (leb 2048 (length saved)) (rows .cells .1 .1 .0));
     }
 
 pub load-sizes : (file cells saved : List ℕ) (c : Config) → load file cells saved ≡ accepted c → Sizes file cells saved

@@ -12,19 +12,20 @@ use lib.ListN.{length, take, drop, getD, set, length-set, length-drop, length-ap
 use lib.Seq.{paste, length-paste, drop-paste, take-at, drop-at, length-take-le, take-set-le, drop-set-lt, drop-drop}
 use lib.Dec.{leb, ltb}
 use Rattle.definition.specs.Checks.{Condition, Conditions, Checked, refused, accepted, guard}
-use Rattle.definition.specs.File.{negative, fileOf, contentsOf, lengthFits, lumpsFit, leastCells, cellsFit, entityFits}
+use Rattle.definition.specs.File.{leastCells, mostCells, savedStore, negative, fileOf, contentsOf, lengthFits, lumpsFit, cellsFit, entityFits}
 use Rattle.definition.specs.Machine.{Program, functionOf, Config, countOf, limits, present, Copy, copied, successive, argumentsOf, copiesPresent, withCells, advanced}
 use Rattle.definition.specs.Machine.{entryConditions, entered, leaveConditions, left, returnConditions, returned}
 use Rattle.definition.specs.Load.{headerConditions, recordConditions, cellConditions, loadConditions, loaded, load, programOf}
 use Rattle.definition.specs.Calls.{Call}
 use Rattle.definition.specs.Log.{Log, Kind, entry, leaving, other}
-use Rattle.definition.specs.Along.{StepClaim, Through}
-use Rattle.definition.specs.CheckLaws.{All, and-left, and-right, all-back, WhenAccepted, guarded}
+use Rattle.definition.specs.Trace.{StepProperty, Always}
+use Rattle.definition.specs.CheckLaws.{All, and-left, and-right, WhenAccepted, guarded}
 use Rattle.definition.specs.Parts.{Present, present-true, present-more, present-source, paste-none, length-pasted, drop-pasted, length-copied, drop-copied}
 use Rattle.definition.specs.RecordLaws.{length-globals}
+use Rattle.definition.specs.LoadLaws.{load-rows}
 use Rattle.definition.specs.StatementLaws.{Keeps}
-use Rattle.definition.specs.Walk.{Good, Steps, through}
-use Rattle.laws.specs.Sound.{Balanced, Steady, advanced-steady, entered-steady, left-steady, returned-steady, loaded-steady}
+use Rattle.definition.specs.Invariant.{Preserves, Inductive, always}
+use Rattle.laws.specs.Sound.{StackConsistent, Consistent, advanced-consistent, entered-consistent, left-consistent, returned-consistent, loaded-consistent}
 
 -- the saved store after a small step: an entry writes the range that it saves, and nothing else writes
 abbrev pub SavedBy : List ℕ → Kind → Config → Config → Type 0
@@ -52,9 +53,9 @@ pasted-only d at s n (inr le) hs = (
   drop-paste d at s n (omega arith) hs,
 )
 
--- steady, and the cells kept since `cells`
-record Since (file cells : List ℕ) (c : Config) : Type 0 where
-  steady : Steady file c
+-- the inductive invariant: consistent, and the cells kept since `cells` were lent to the load
+record SinceLoad (file cells : List ℕ) (c : Config) : Type 0 where
+  consistent : Consistent file c
   kept : Keeps (fileOf file .globals .count) cells (c .cells)
 
 module _ (file lent : List ℕ) where
@@ -64,46 +65,46 @@ module _ (file lent : List ℕ) where
   abbrev P : Program
   P = programOf file
 
-  abbrev GoodStep : Kind → Config → Log → Config → Type 0
-  GoodStep κ c l c′ = Good file (λ c l. Since file lent c) (Touches file) κ c l c′
+  abbrev Preserved : Kind → Config → Log → Config → Type 0
+  Preserved κ c l c′ = Preserves file (λ c l. SinceLoad file lent c) (Touches file) κ c l c′
 
-  count-is : (c : Config) → Steady file c → countOf c ≡ count
+  count-is : (c : Config) → Consistent file c → countOf c ≡ count
   count-is c k = ap (λ (r : Rattle.definition.specs.declared.FileRecord.FileRecord). r .globals .count) (k .recorded)
 
-  enough : (c : Config) → Steady file c → count ≤ length (c .cells)
+  enough : (c : Config) → Consistent file c → count ≤ length (c .cells)
   enough c k = omega (arith, count-is c k, k .enough)
 
-  -- a small step that keeps the cells and the saved store so
-  good : (κ : Kind) (c : Config) (l : Log) (c′ : Config) → Since file lent c → Keeps count (c .cells) (c′ .cells) → SavedBy file κ c c′ → Steady file c′ → GoodStep κ c l c′
-  good κ c l c′ k keeps saved steady = (
+  -- a small step that keeps the cells and the saved store as its kind may preserves the invariant
+  keeps-preserves : (κ : Kind) (c : Config) (l : Log) (c′ : Config) → SinceLoad file lent c → Keeps count (c .cells) (c′ .cells) → SavedBy file κ c c′ → Consistent file c′ → Preserved κ c l c′
+  keeps-preserves κ c l c′ k keeps saved consistent = (
     record { cells = keeps; saved = saved },
-    record { steady = steady; kept = keeps-more count lent (c .cells) (c′ .cells) (k .kept) keeps },
+    record { consistent = consistent; kept = keeps-more count lent (c .cells) (c′ .cells) (k .kept) keeps },
   )
 
-  entered-touches : (c : Config) (l : Log) (f : ℕ) (back : ℤ) → Since file lent c → All (entryConditions P f c) → GoodStep (entry f back) c l (entered P f back c)
+  entered-touches : (c : Config) (l : Log) (f : ℕ) (back : ℤ) → SinceLoad file lent c → All (entryConditions P f c) → Preserved (entry f back) c l (entered P f back c)
   unfolding entryConditions entered limits
   entered-touches c l f back k h =
       let d = functionOf P f in
       let s = c .state in
-      let fits : s .saved + d .locals ≤ 2048 = leb-true _ _ (and-right (not (negative (d .locals))) (leb (s .saved + d .locals) 2048) (h .1 .1 .0)) in
-      let room : s .saved + d .locals ≤ length (c .saved) = omega (arith, k .steady .long) in
+      let fits : s .saved + d .locals ≤ savedStore = leb-true _ _ (and-right (not (negative (d .locals))) (leb (s .saved + d .locals) savedStore) (h .1 .1 .0)) in
+      let room : s .saved + d .locals ≤ length (c .saved) = omega (arith, k .consistent .long) in
       let there : Present (d .start) (d .locals) (length (c .cells)) =
-      present-more _ _ (countOf c) _ (k .steady .enough) (present-true (d .start) (d .locals) (countOf c) (h .1 .1 .1 .0))
+      present-more _ _ (countOf c) _ (k .consistent .enough) (present-true (d .start) (d .locals) (countOf c) (h .1 .1 .1 .0))
       in
       let from : List ℕ = drop (d .start) (c .cells) in
       let source : d .locals ≤ length from = present-source (c .cells) (d .start) (d .locals) there in
-      let copies : copiesPresent count (argumentsOf d) ≡ true = (rw (count-is c (k .steady)) at (h .1 .1 .1 .1 .1 .0)) in
-      good (entry f back) c l (entered P f back c) k
+      let copies : copiesPresent count (argumentsOf d) ≡ true = (rw (count-is c (k .consistent)) at (h .1 .1 .1 .1 .1 .0)) in
+      keeps-preserves (entry f back) c l (entered P f back c) k
       (record { same-length = length-copied (argumentsOf d) (c .cells); same-above = drop-copied (argumentsOf d) (c .cells) count copies }) (
         length-paste (c .saved) (s .saved) from (d .locals) room source,
         ap (take (s .saved)) (append-assoc (take (s .saved) (c .saved)) (take (d .locals) from) (drop (s .saved + d .locals) (c .saved)))
             ∙ take-at (take (s .saved) (c .saved)) _ (s .saved) (length-take-le (s .saved) (c .saved) (omega arith)),
         drop-paste (c .saved) (s .saved) from (d .locals) (omega arith) source,
       )
-      (entered-steady file c f back (k .steady) h)
+      (entered-consistent file c f back (k .consistent) h)
 
   -- a leaving, from cells that a Return may have copied first
-  left-keeps : (c : Config) (cells : List ℕ) → Steady file c → length cells ≡ length (c .cells) → All (leaveConditions P c) → Keeps count cells (left P (withCells c cells) .cells)
+  left-keeps : (c : Config) (cells : List ℕ) → Consistent file c → length cells ≡ length (c .cells) → All (leaveConditions P c) → Keeps count cells (left P (withCells c cells) .cells)
   unfolding leaveConditions left
   left-keeps c cells k e h =
       let s = c .state in
@@ -111,7 +112,7 @@ module _ (file lent : List ℕ) where
       let fewer : d .locals ≤ s .saved = leb-true (d .locals) (s .saved) (h .1 .0) in
       let there : Present (d .start) (d .locals) count = present-more _ _ (countOf c) _ (omega (arith, count-is c k)) (present-true (d .start) (d .locals) (countOf c) (h .1 .1 .0)) in
       let from : List ℕ = drop (s .saved - d .locals) (c .saved) in
-      let source : d .locals ≤ length from = omega (arith, fewer, k .balanced .saved-most, k .long, length-drop (s .saved - d .locals) (c .saved)) in
+      let source : d .locals ≤ length from = omega (arith, fewer, k .stack .saved-most, k .long, length-drop (s .saved - d .locals) (c .saved)) in
       let all : count ≤ length cells = omega (arith, enough c k, e) in
       record {
         same-length = length-pasted cells (d .start) from (d .locals) (present-more _ _ count _ all there) source;
@@ -119,7 +120,7 @@ module _ (file lent : List ℕ) where
       }
 
   -- a leaving changes no cell outside the local range of the function left
-  pub left-only : (c : Config) → Steady file c → All (leaveConditions P c)
+  pub left-only : (c : Config) → Consistent file c → All (leaveConditions P c)
       → (take (functionOf P (c .state .function) .start) (left P c .cells) ≡ take (functionOf P (c .state .function) .start) (c .cells))
       × (drop (functionOf P (c .state .function) .start + functionOf P (c .state .function) .locals) (left P c .cells)
       ≡ drop (functionOf P (c .state .function) .start + functionOf P (c .state .function) .locals) (c .cells))
@@ -131,21 +132,21 @@ module _ (file lent : List ℕ) where
       let from : List ℕ = drop (s .saved - d .locals) (c .saved) in
       pasted-only (c .cells) (d .start) from (d .locals)
       (present-more _ _ (countOf c) _ (k .enough) (present-true (d .start) (d .locals) (countOf c) (h .1 .1 .0)))
-      (omega (arith, fewer, k .balanced .saved-most, k .long, length-drop (s .saved - d .locals) (c .saved)))
+      (omega (arith, fewer, k .stack .saved-most, k .long, length-drop (s .saved - d .locals) (c .saved)))
 
-  least : (c : Config) → Steady file c → 36 ≤ count
+  least : (c : Config) → Consistent file c → leastCells ≤ count
   least c k =
       let r = fileOf file in
       let cells-fit : cellsFit leastCells r ≡ true =
       and-right (lengthFits r && lumpsFit r) (cellsFit leastCells r) (and-left (lengthFits r && lumpsFit r && cellsFit leastCells r) (entityFits r) (k .in-range))
       in
-      leb-true 36 count (and-left (leb 36 count) (leb count 32768) cells-fit)
+      leb-true leastCells count (and-left (leb leastCells count) (leb count mostCells) cells-fit)
 
   -- Return's three cells are copied below the count
-  three : (a : ℕ) (c : Config) → Steady file c → present a 3 (countOf c) ≡ true → copiesPresent count (successive 3 a 1) ≡ true
+  three : (a : ℕ) (c : Config) → Consistent file c → present a 3 (countOf c) ≡ true → copiesPresent count (successive 3 a 1) ≡ true
   unfolding present successive copiesPresent
   three a c k e =
-      let low : 36 ≤ count = least c k in
+      let low : leastCells ≤ count = least c k in
       let below : a + 3 ≤ count = omega (arith, count-is c k, leb-true (a + 3) (countOf c) e) in
       rw (
         lt-ltb a count (omega arith),
@@ -156,35 +157,35 @@ module _ (file lent : List ℕ) where
         lt-ltb 3 count (omega arith),
       )
 
-  left-touches : (c : Config) (l : Log) → Since file lent c → All (leaveConditions P c) → GoodStep leaving c l (left P c)
+  left-touches : (c : Config) (l : Log) → SinceLoad file lent c → All (leaveConditions P c) → Preserved leaving c l (left P c)
   unfolding left
-  left-touches c l k h = good leaving c l (left P c) k (left-keeps c (c .cells) (k .steady) refl h) refl (left-steady file c (k .steady) h)
+  left-touches c l k h = keeps-preserves leaving c l (left P c) k (left-keeps c (c .cells) (k .consistent) refl h) refl (left-consistent file c (k .consistent) h)
 
-  returned-touches : (c : Config) (l : Log) (a : ℕ) → Since file lent c → All (returnConditions P a c) → GoodStep leaving c l (returned P a c)
+  returned-touches : (c : Config) (l : Log) (a : ℕ) → SinceLoad file lent c → All (returnConditions P a c) → Preserved leaving c l (returned P a c)
   unfolding left
   returned-touches c l a k h =
       let cells = copied (successive 3 a 1) (c .cells) in
       let copying : Keeps count (c .cells) cells =
       record {
         same-length = length-copied (successive 3 a 1) (c .cells);
-        same-above = drop-copied (successive 3 a 1) (c .cells) count (three a c (k .steady) (h .0));
+        same-above = drop-copied (successive 3 a 1) (c .cells) count (three a c (k .consistent) (h .0));
       }
       in
-      good leaving c l (returned P a c) k
-      (keeps-more count (c .cells) cells _ copying (left-keeps c cells (k .steady) (copying .same-length) (h .1)))
-      refl (returned-steady file c a (k .steady) h)
+      keeps-preserves leaving c l (returned P a c) k
+      (keeps-more count (c .cells) cells _ copying (left-keeps c cells (k .consistent) (copying .same-length) (h .1)))
+      refl (returned-consistent file c a (k .consistent) h)
 
-  touching-steps : Steps file (λ c l. Since file lent c) (Touches file)
-  touching-steps =
+  touches-inductive : Inductive file (λ c l. SinceLoad file lent c) (Touches file)
+  touches-inductive =
       record {
         plain = λ c l p cells k keeps.
-            good other c l (advanced c p cells) k (subst (λ (n : ℕ). Keeps n (c .cells) cells) (length-globals file) keeps) refl
-            (advanced-steady file c p cells (keeps .same-length) (k .steady));
+            keeps-preserves other c l (advanced c p cells) k (subst (λ (n : ℕ). Keeps n (c .cells) cells) (length-globals file) keeps) refl
+            (advanced-consistent file c p cells (keeps .same-length) (k .consistent));
         writing = λ c l a v k h.
-            good other c l (withCells c (set (c .cells) a v)) k
-            (record { same-length = length-set (c .cells) a v; same-above = drop-set-lt count (c .cells) a v (omega (arith, count-is c (k .steady), h)) })
+            keeps-preserves other c l (withCells c (set (c .cells) a v)) k
+            (record { same-length = length-set (c .cells) a v; same-above = drop-set-lt count (c .cells) a v (omega (arith, count-is c (k .consistent), h)) })
             refl
-            (advanced-steady file c (c .state .pc) (set (c .cells) a v) (length-set (c .cells) a v) (k .steady));
+            (advanced-consistent file c (c .state .pc) (set (c .cells) a v) (length-set (c .cells) a v) (k .consistent));
         entering = entered-touches;
         returning = returned-touches;
         leave-one = left-touches;
@@ -218,25 +219,23 @@ loaded-keeps file cells saved =
     let r = fileOf file in
     let n = r .globals .count in
     let k = contentsOf file in
-    let last : All (cellConditions leastCells r (length cells) (length saved)) =
-    all-back (headerConditions file ++ recordConditions (r .strings .count) k) (cellConditions leastCells r (length cells) (length saved)) h
-    in
-    let lent : n ≤ length cells = leb-true n (length cells) (and-left (leb n (length cells)) (leb 2048 (length saved)) (last .1 .1 .0)) in
+    let rows = load-rows file (length cells) (length saved) h in
+    let lent : n ≤ length cells = leb-true n (length cells) (and-left (leb n (length cells)) (leb savedStore (length saved)) (rows .cells .1 .1 .0)) in
     record {
       same-length = omega (arith, lent, length-append (k .globals) (drop n cells), length-globals file, length-drop n cells);
       same-above = drop-at (k .globals) (drop n cells) n (length-globals file);
     }
 
-since-load : (file cells : List ℕ) (x : Checked Config) → WhenAccepted (Steady file) x
-    → WhenAccepted (λ (c : Config). Keeps (fileOf file .globals .count) cells (c .cells)) x → WhenAccepted (Since file cells) x
+since-load : (file cells : List ℕ) (x : Checked Config) → WhenAccepted (Consistent file) x
+    → WhenAccepted (λ (c : Config). Keeps (fileOf file .globals .count) cells (c .cells)) x → WhenAccepted (SinceLoad file cells) x
 since-load file cells (refused n) s k = tt
-since-load file cells (accepted c) s k = record { steady = s; kept = k }
+since-load file cells (accepted c) s k = record { consistent = s; kept = k }
 
 -- of the cells lent to the load: their number, and those from the file's count on, stay
 pub untouched : (file cells saved : List ℕ) (c : Config) → load file cells saved ≡ accepted c → (calls : List Call)
-    → Through file (Touches file) (λ c′ l. Keeps (fileOf file .globals .count) cells (c′ .cells)) c [] calls
+    → Always file (Touches file) (λ c′ l. Keeps (fileOf file .globals .count) cells (c′ .cells)) c [] calls
 untouched file cells saved c accepts calls =
-    through file (λ c′ l. Since file cells c′) (Touches file) (touching-steps file cells) (λ c′ l. Keeps (fileOf file .globals .count) cells (c′ .cells))
+    always file (λ c′ l. SinceLoad file cells c′) (Touches file) (touches-inductive file cells) (λ c′ l. Keeps (fileOf file .globals .count) cells (c′ .cells))
     (λ c′ l k. k .kept)
     c [] calls
-    (subst (WhenAccepted (Since file cells)) accepts (since-load file cells (load file cells saved) (loaded-steady file cells saved) (loaded-keeps file cells saved)))
+    (subst (WhenAccepted (SinceLoad file cells)) accepts (since-load file cells (load file cells saved) (loaded-consistent file cells saved) (loaded-keeps file cells saved)))

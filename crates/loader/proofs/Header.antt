@@ -1,16 +1,14 @@
 -- The row "header", by what its tests found.
 use Prim.Native.Nat.{ℕ, _≤_, _<_}
-use mathlib.Core.Path.{_≡_, refl, sym, _∙_, ap}
+use mathlib.Core.Path.{_≡_, sym, _∙_, ap}
 use mathlib.Core.List.{List, [], _∷_}
-use mathlib.Core.Bool.{Bool, true, false, _&&_}
-use native.Mathlib.Omega.{arith}
+use mathlib.Core.Bool.{Bool, true}
 use borrow.Author.Tests.{le-leb, lt-leb, eq-eqb, ne-eqb}
 use lib.ListN.{length}
-use lib.Dec.{leb, eqb}
-use Rattle.definition.specs.Checks.{Condition, Conditions, _otherwise_, judge}
+use Rattle.definition.specs.Checks.{_otherwise_, judge}
 use Rattle.definition.specs.File.{u32At, fileOf, lengthFits, lumpsFit}
 use Rattle.definition.specs.Load.{headerConditions}
-use Rattle.loader.proofs.Each.{fails, holds, passed}
+use Rattle.loader.proofs.Each.{fails, holds}
 
 module _ (file : List ℕ) where
   pub short : length file < 60 → 1 ≡ judge (headerConditions file)

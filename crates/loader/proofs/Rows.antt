@@ -1,46 +1,32 @@
--- The rows of records and cells one after another, and the room that a fitting lump has.
-use Prim.Native.Nat.{ℕ, zero, suc, _+_, _-_, _*_, _≤_}
-use mathlib.Core.Path.{_≡_, refl, sym, _∙_, ap}
-use mathlib.Core.Logic.{_⊎_, inl, inr, ⊎-elim}
-use mathlib.Core.List.{List, [], _∷_, _++_}
-use mathlib.Core.Bool.{Bool, true, false, not, _&&_, _||_}
-use native.Mathlib.Omega.{arith}
-use native.Mathlib.Nat.{mul-zero}
-use borrow.Author.Tests.{eqb-true, leb-true}
-use lib.Dec.{leb, eqb}
+-- The rows of records and cells one after another.
+use Prim.Native.Nat.{ℕ, _≤_}
+use mathlib.Core.Path.{_≡_, sym, _∙_, ap}
+use mathlib.Core.List.{List, _++_}
+use mathlib.Core.Bool.{true}
+use borrow.Author.Tests.{leb-true}
+use lib.Dec.{leb}
 use lib.ListN.{length}
-use Rattle.definition.specs.declared.Lump.{Lump}
 use Rattle.definition.specs.declared.FileRecord.{FileRecord}
-use Rattle.definition.specs.Checks.{Condition, Conditions, judge}
-use Rattle.definition.specs.File.{negative, fileOf, contentsAt, contentsOf, lumpFits, lumpsFit, leastCells}
+use Rattle.definition.specs.Checks.{Conditions, judge}
+use Rattle.definition.specs.File.{fileOf, contentsAt, contentsOf, lumpsFit, leastCells}
 use Rattle.definition.specs.Load.{headerConditions, recordConditions, cellConditions, loadConditions}
-use Rattle.definition.specs.CheckLaws.{All, and-left, and-right, or-cases, judge-passed}
+use Rattle.definition.specs.CheckLaws.{All, and-left, judge-passed}
+use Rattle.functions.specs.Laws.{AllFit}
+use Rattle.functions.specs.Parts.{partOf}
+use Rattle.functions.specs.PartLaws.{part-functions, part-statements, part-globaldefs, part-fielddefs}
+use Rattle.loader.specs.declared.records.Kind.the-variants.{Functions, Statements, Globaldefs, Fielddefs}
+use Rattle.loader.specs.Records.{eachIn}
 use Rattle.loader.proofs.Each.{judge-stop, judge-next}
 
-pub room : (size end : ℕ) (l : Lump) → lumpFits size end l ≡ true → size * l .count ≤ end - l .offset
-room size end l h =
-    ⊎-elim
-    (λ (z : eqb (l .count) 0 ≡ true). omega (arith, ap (λ (n : ℕ). size * n) (eqb-true (l .count) 0 z) ∙ mul-zero size))
-    (λ (e : leb (l .offset + size * l .count) end ≡ true). omega (arith, leb-true (l .offset + size * l .count) end e))
-    (or-cases (eqb (l .count) 0) (leb (l .offset + size * l .count) end)
-    (and-right (not (negative (l .offset)) && not (negative (l .count))) (eqb (l .count) 0 || leb (l .offset + size * l .count) end) h))
-
--- four lists of conditions, each judged; a refusal stops
-module _ (a b c d : Conditions) where
-  pub first-of-four : (r : ℕ) → (r ≡ 0 → ⊥) → r ≡ judge a → r ≡ judge (a ++ b ++ c ++ d)
-  first-of-four r n e = judge-stop (a ++ b ++ c) d r n (judge-stop (a ++ b) c r n (judge-stop a b r n e))
-
-  pub second-of-four : (r s : ℕ) → r ≡ 0 → r ≡ judge a → (s ≡ 0 → ⊥) → s ≡ judge b → s ≡ judge (a ++ b ++ c ++ d)
-  second-of-four r s z e n f = judge-stop (a ++ b ++ c) d s n (judge-stop (a ++ b) c s n (judge-next a b s (sym e ∙ z) f))
-
-  pub third-of-four : (r s t : ℕ) → r ≡ 0 → r ≡ judge a → s ≡ 0 → s ≡ judge b → (t ≡ 0 → ⊥) → t ≡ judge c → t ≡ judge (a ++ b ++ c ++ d)
-  third-of-four r s t z e y f n g =
-      judge-stop (a ++ b ++ c) d t n (judge-next (a ++ b) c t (sym (judge-next a b s (sym e ∙ z) f) ∙ y) g)
-
-  pub last-of-four : (r s t u : ℕ) → r ≡ 0 → r ≡ judge a → s ≡ 0 → s ≡ judge b → t ≡ 0 → t ≡ judge c → u ≡ judge d → u ≡ judge (a ++ b ++ c ++ d)
-  last-of-four r s t u z e y f x g h =
-      judge-next (a ++ b ++ c) d u
-      (sym (judge-next (a ++ b) c t (sym (judge-next a b s (sym e ∙ z) f) ∙ y) g) ∙ x) h
+module _ (r : FileRecord) (file : List ℕ) (fit : AllFit (length file) r) (strings : ℕ) where
+  -- the row of each lump, by its part of the file
+  pub by-parts : recordConditions strings (contentsAt r file)
+      ≡ (eachIn Functions strings (partOf 36 (r .functions) file)
+      ++ eachIn Statements strings (partOf 8 (r .statements) file)
+      ++ eachIn Globaldefs strings (partOf 8 (r .globaldefs) file)
+      ++ eachIn Fielddefs strings (partOf 8 (r .fielddefs) file))
+  unfolding recordConditions eachIn
+  by-parts = cc (part-functions r file fit, part-statements r file fit, part-globaldefs r file fit, part-fielddefs r file fit)
 
 -- three lists of conditions
 module _ (a b c : Conditions) where

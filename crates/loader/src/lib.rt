@@ -1,66 +1,64 @@
 // The checks of a load in the order of document 01's table, and the filling of the lent cells (progs/mod.rs, load). A refusal is its number, 0 is none.
 ghost use mathlib.Core.Path.{_≡_};
-ghost use mathlib.Core.Bool.{_&&_};
 ghost use mathlib.Core.List.{[], _∷_, _++_};
-ghost use Prim.Native.Nat.{_-_, _*_, _≤_};
+ghost use Prim.Native.Nat.{_/_, _≤_, _<_};
 ghost use lib.ListN.{length, drop};
-ghost use lib.Dec.{leb};
 ghost use Rattle.definition.specs.Checks.{judge, _otherwise_};
-ghost use Rattle.definition.specs.File.{fileOf, leastCells, records, u32At};
-ghost use Rattle.definition.specs.Load.{headerConditions, recordConditions, cellConditions, loadConditions};
+ghost use Rattle.definition.specs.File.{leastCells};
+ghost use Rattle.definition.specs.Load.{headerConditions, cellConditions, loadConditions};
+ghost use Rattle.functions.specs.Parts.{cellsIn};
+use definition::CELL_SIZE;
+use definition::CHECK_NUMBER;
 use definition::FileRecord;
+use definition::HEADER_LENGTH;
+use definition::LEAST_CELLS;
+use definition::LONGEST_FILE;
+use definition::SAVED_STORE;
+use definition::VERSION;
 use functions::header;
 use functions::reads;
 
 pub mod records;
 
+// A condition's number where it fails.
+fn otherwise(holds: bool, number: u8) -> u8
+    requires { ⌜ 0 < number ⌝ }
+    ensures { λ r. ⌜ r ≡ judge ((holds otherwise number) ∷ []) ⌝ }
+{
+    if holds { 0 } else { number }
+}
+
 // The row "header".
 fn header_refusal(file: &[u8]) -> u8
     ensures { λ r. ⌜ r ≡ judge (headerConditions (now (file .entry))) ⌝ }
 {
-    if file.len() < 60 {
+    if file.len() < HEADER_LENGTH {
         return 1;
     }
-    if 1048576 < file.len() {
+    if LONGEST_FILE < file.len() {
         return 1;
     }
-    if reads::u32_at(file, 0) != 6 {
+    if reads::u32_at(file, 0) != VERSION {
         return 2;
     }
-    if reads::u32_at(file, 4) != 5927 {
+    if reads::u32_at(file, 4) != CHECK_NUMBER {
         return 3;
     }
-    if header::lumps_fit(header::file_of(file)) {
-        0
-    } else {
-        4
-    }
-}
-
-fn lent_refusal(r: FileRecord, lent: usize, store: usize) -> u8
-    ensures { λ n. ⌜ n ≡ judge ((leb (r .globals .count) lent && leb 2048 store otherwise 12) ∷ []) ⌝ }
-{
-    let globals = r.globals;
-    if (globals.count <= lent) & (2048 <= store) {
-        0
-    } else {
-        12
-    }
+    otherwise(header::lumps_fit(header::file_of(file)), 4)
 }
 
 // The row "cells".
 fn cells_refusal(r: FileRecord, lent: usize, store: usize) -> u8
     ensures { λ n. ⌜ n ≡ judge (cellConditions leastCells r lent store) ⌝ }
 {
-    if header::cells_fit(header::LEAST_CELLS, r) {
-        if header::entity_fits(r) {
-            lent_refusal(r, lent, store)
-        } else {
-            11
-        }
-    } else {
-        10
+    if !header::cells_fit(LEAST_CELLS, r) {
+        return 10;
     }
+    if !header::entity_fits(r) {
+        return 11;
+    }
+    let globals = r.globals;
+    otherwise((globals.count <= lent) & (SAVED_STORE <= store), 12)
 }
 
 // The number of the first condition that a load fails.
@@ -80,13 +78,14 @@ pub fn load_refusal(file: &[u8], lent: usize, store: usize) -> u8
 }
 
 // The lent cells become the file's starting cells, from 0 on; the rest stay.
-pub fn fill(file: &[u8], offset: usize, count: usize, cells: &mut [u32])
-    requires { ⌜ (4 * count ≤ length (now file) - offset) × (count ≤ length (now cells)) ⌝ }
-    ensures { λ r. ⌜ now (cells .exit) ≡ records (u32At (now (file .entry))) 4 count offset ++ drop count (now (cells .entry)) ⌝ }
+pub fn fill(globals: &[u8], cells: &mut [u32])
+    requires { ⌜ length (now globals) / 4 ≤ length (now cells) ⌝ }
+    ensures { λ r. ⌜ now (cells .exit) ≡ cellsIn (now (globals .entry)) ++ drop (length (now (globals .entry)) / 4) (now (cells .entry)) ⌝ }
 {
+    let count = globals.len() / CELL_SIZE;
     let mut i = 0;
     while i < count {
-        cells[i] = reads::u32_at(file, offset + 4 * i);
+        cells[i] = reads::u32_at(globals, CELL_SIZE * i);
         i += 1;
     }
 }

@@ -1,5 +1,5 @@
 -- Entry on numbers, and what the context makes of it.
-use Prim.Native.Nat.{ℕ, zero, suc, _+_, _≤_, _<_}
+use Prim.Native.Nat.{ℕ, zero, suc, _+_, _/_, _≤_, _<_}
 use mathlib.Core.Path.{_≡_, refl, sym, _∙_, ap}
 use mathlib.Core.List.{List, []}
 use mathlib.Core.Bool.{false, not, _&&_}
@@ -14,7 +14,7 @@ use Rattle.definition.specs.Checks.{judge}
 use Rattle.definition.specs.File.{negative, noFunction, readFunction}
 use Rattle.definition.specs.Statements.{refuses}
 use Rattle.definition.specs.RecordLaws.{length-records}
-use Rattle.execution.specs.Execution.{functionsIn}
+use Rattle.functions.specs.Parts.{functionsIn}
 use Rattle.definition.specs.Machine.{Program, functionOf, Config, limits, copied, argumentsOf, entryConditions, entered, enter}
 use Rattle.definition.specs.CheckLaws.{judge-passed, and-right}
 use Rattle.progs.specs.declared.ExecutionContext.{ExecutionContext}
@@ -112,14 +112,14 @@ by-count P f x cells saved count e = ap (λ (n : ℕ). entering P f (numbered (x
 abbrev pub functions-program : List FunctionDef → Program
 functions-program fs = record { functions = fs; fetching = λ p. []; does = λ p cells. refuses 0; recorded = λ r n. false }
 
-module _ (file : List ℕ) (functions nfunctions : ℕ) where
-  size : length (functionsIn file functions nfunctions) ≡ nfunctions
-  size = length-records (readFunction file) 36 nfunctions functions
+module _ (part : List ℕ) where
+  size : length (functionsIn part) ≡ length part / 36
+  size = length-records (readFunction part) 36 (length part / 36) 0
 
-  pub functions-there : (f : ℕ) (P : Program) → functionsIn file functions nfunctions ≡ P .functions → f < nfunctions → f < length (P .functions)
+  pub functions-there : (f : ℕ) (P : Program) → functionsIn part ≡ P .functions → f < length part / 36 → f < length (P .functions)
   functions-there f P q h = rw (← q) (omega (arith, size))
 
-  pub functions-absent : (f : ℕ) (P : Program) → functionsIn file functions nfunctions ≡ P .functions → nfunctions ≤ f → length (P .functions) ≤ f
+  pub functions-absent : (f : ℕ) (P : Program) → functionsIn part ≡ P .functions → length part / 36 ≤ f → length (P .functions) ≤ f
   functions-absent f P q h = rw (← q) (omega (arith, size))
 
 pub functions-read : (fs : List FunctionDef) (f : ℕ) (d : FunctionDef) (P : Program) → fs ≡ P .functions → d ≡ getD fs f noFunction → d ≡ functionOf P f

@@ -69,6 +69,6 @@ pub record Within (file : List ℕ) (x : ExecutionContext) (cells saved : ℕ) :
   pub held : x .saved ≤ 2048
 
 -- a position that is one of the statements: its number is below every bound of a lump
-pub record Standing (p : ℤ) : Type 0 where
+pub record AtStatement (p : ℤ) : Type 0 where
   pub is : p ≡ pos (placeOf 0 p)
   pub small : placeOf 0 p < 2147483648

@@ -26,7 +26,7 @@ impl ExecutionContext {
             if refusal != 0 {
                 return refusal;
             }
-            context = context.left(locals.count);
+            context = context.pop_frame(locals.count);
         }
         0
     }
@@ -37,24 +37,24 @@ impl ExecutionContext {
         file: &[u8],
         target: usize,
         cells: &mut [u32],
-        saved: &[u32],
+        store: &[u32],
     ) -> ExecutionContext
-        requires { ⌜ Within (now file) self (length (now cells)) (length (now saved)) ⌝ }
+        requires { ⌜ Within (now file) self (length (now cells)) (length (now store)) ⌝ }
         requires { ⌜ judge (leavingsConditions (programOf (now file)) (self .depth - target) (bare self)) ≡ 0 ⌝ }
-        ensures { λ r. ⌜ config r (now (cells .exit)) (now (saved .entry)) ≡ leftTimes (programOf (now (file .entry))) (self .depth - target) (config self (now (cells .entry)) (now (saved .entry))) ⌝ }
+        ensures { λ r. ⌜ config r (now (cells .exit)) (now (store .entry)) ≡ leftTimes (programOf (now (file .entry))) (self .depth - target) (config self (now (cells .entry)) (now (store .entry))) ⌝ }
     {
         let mut context = self;
         while target < context.depth {
             let locals = context.locals(file);
-            context = context.restored(locals, cells, saved);
+            context = context.leave_function(locals, cells, store);
         }
         context
     }
 
-    pub fn abandon(self, file: &[u8], target: i64, cells: &mut [u32], saved: &[u32]) -> Answered
-        ensures { λ r. ⌜ outcomeOf r (now (cells .exit)) (now (saved .entry)) ≡ after (config self (now (cells .entry)) (now (saved .entry))) (abandon (programOf (now (file .entry))) target) ⌝ }
+    pub fn abandon(self, file: &[u8], target: i64, cells: &mut [u32], store: &[u32]) -> Answered
+        ensures { λ r. ⌜ outcomeOf r (now (cells .exit)) (now (store .entry)) ≡ after (config self (now (cells .entry)) (now (store .entry))) (abandon (programOf (now (file .entry))) target) ⌝ }
     {
-        if !self.check_state(file, cells, saved) {
+        if !self.check_state(file, cells, store) {
             return self.refused(13);
         }
         let down = fetch::place_of(self.depth + 1, target);
@@ -66,7 +66,7 @@ impl ExecutionContext {
             return self.refused(refusal);
         }
         Answered {
-            context: self.unwound(file, down, cells, saved),
+            context: self.unwound(file, down, cells, store),
             answer: Answer::Accepted,
         }
     }

@@ -4,19 +4,22 @@ ghost use mathlib.Core.Bool.{true};
 ghost use Prim.Native.Nat.{ℕ, _+_, _≤_, _<_};
 ghost use lib.ListN.{length};
 ghost use Rattle.definition.specs.Checks.{judge};
-ghost use Rattle.definition.specs.Machine.{Program, functionOf, present, entryConditions, entered, enter, leaveConditions, left, leave};
+ghost use Rattle.definition.specs.Machine.{Program, functionOf, present, entryConditions, entered, enter, leaveConditions, left};
 ghost use Rattle.definition.specs.Load.{programOf};
-ghost use Rattle.definition.specs.File.{lumpFits};
-ghost use Rattle.functions.specs.Answers.{lump};
-ghost use Rattle.execution.specs.Execution.{functionsIn};
+ghost use Rattle.functions.specs.Parts.{partOf, functionsIn};
 ghost use Rattle.progs.specs.Contexts.{stateOf, config, outcomeOf, after, refusing, return, bare, rangeOf, Loaded, Within};
 ghost use Rattle.progs.specs.Numbers.{numbered, numberedIn, enteredContext, leftContext, noEntry, entryOf, entering, noLeaving, leavingOf, returning};
 use crate::Answered;
 use crate::ExecutionContext;
 use crate::copies;
 use definition::Answer;
+use definition::FUNCTION_SIZE;
 use definition::FunctionDef;
+use definition::GREATEST_DEPTH;
+use definition::MOST_ARGUMENTS;
+use definition::SAVED_STORE;
 use definition::StackFrame;
+use functions::parts;
 
 // The local range of a function.
 pub struct Locals {
@@ -39,17 +42,17 @@ fn entry_refusal(def: FunctionDef, depth: usize, held: usize, count: usize) -> u
     let start = def.start as usize;
     let locals = def.locals as usize;
     let argsz = def.argsz;
-    if 31 <= depth {
+    if GREATEST_DEPTH <= depth {
         return 22;
     }
     // A negative count's bits are over 2,048.
-    if 2048 < held + locals {
+    if SAVED_STORE < held + locals {
         return 23;
     }
     if !copies::in_range(start, locals, count) {
         return 15;
     }
-    if 8 < def.argc {
+    if MOST_ARGUMENTS < def.argc as usize {
         return 24;
     }
     if !copies::arguments_in_range(argsz, start, def.argc as usize, count) {
@@ -70,24 +73,21 @@ fn no_entry(refusal: u8) -> Entry
 
 // An entry as far as cells go: checks it, saves the local range and copies the arguments. A run keeps its context in place, and takes numbers from here.
 pub fn enter_cells(
-    file: &[u8],
-    functions: usize,
-    nfunctions: usize,
+    functions: &[u8],
     f: usize,
     depth: usize,
     held: usize,
     count: usize,
     cells: &mut [u32],
-    saved: &mut [u32],
+    store: &mut [u32],
 ) -> Entry
-    requires { ⌜ lumpFits 36 (length (now file)) (lump functions nfunctions) ≡ true ⌝ }
-    requires { ⌜ (held ≤ 2048) × (2048 ≤ length (now saved)) × (count ≤ length (now cells)) ⌝ }
-    ensures { λ r. ⌜ ((P : Program) → functionsIn (now (file .entry)) functions nfunctions ≡ P .functions → entryOf r (now (cells .exit)) (now (saved .exit)) ≡ entering P f (numbered depth held count) (now (cells .entry)) (now (saved .entry))) ⌝ }
+    requires { ⌜ (held ≤ 2048) × (2048 ≤ length (now store)) × (count ≤ length (now cells)) ⌝ }
+    ensures { λ r. ⌜ ((P : Program) → functionsIn (now (functions .entry)) ≡ P .functions → entryOf r (now (cells .exit)) (now (store .exit)) ≡ entering P f (numbered depth held count) (now (cells .entry)) (now (store .entry))) ⌝ }
 {
-    if nfunctions <= f {
+    if functions.len() / FUNCTION_SIZE <= f {
         return no_entry(20);
     }
-    let def = functions::get_def(file, functions, nfunctions, f);
+    let def = functions::get_def(functions, f);
     let refusal = entry_refusal(def, depth, held, count);
     if refusal != 0 {
         return no_entry(refusal);
@@ -95,7 +95,7 @@ pub fn enter_cells(
     let start = def.start as usize;
     let locals = def.locals as usize;
     let argsz = def.argsz;
-    copies::move_cells(cells, saved, start, held, locals);
+    copies::move_cells(cells, store, start, held, locals);
     copies::copy_arguments(cells, argsz, start, def.argc as usize);
     Entry {
         refusal: 0,
@@ -111,14 +111,13 @@ pub struct Leaving {
 }
 
 // The local range of a function; one that isn't there has no locals.
-fn locals_of(file: &[u8], functions: usize, nfunctions: usize, f: usize) -> Locals
-    requires { ⌜ lumpFits 36 (length (now file)) (lump functions nfunctions) ≡ true ⌝ }
-    ensures { λ r. ⌜ ((P : Program) → functionsIn (now (file .entry)) functions nfunctions ≡ P .functions → r ≡ rangeOf (functionOf P f)) ⌝ }
+fn locals_of(functions: &[u8], f: usize) -> Locals
+    ensures { λ r. ⌜ ((P : Program) → functionsIn (now (functions .entry)) ≡ P .functions → r ≡ rangeOf (functionOf P f)) ⌝ }
 {
-    if nfunctions <= f {
+    if functions.len() / FUNCTION_SIZE <= f {
         return Locals { start: 0, count: 0 };
     }
-    let def = functions::get_def(file, functions, nfunctions, f);
+    let def = functions::get_def(functions, f);
     Locals {
         start: def.start as usize,
         count: def.locals as usize,
@@ -149,32 +148,29 @@ fn no_leaving(refusal: u8) -> Leaving
 
 // A Return or Done of the three cells from a on, as far as cells go: checks it, copies the three cells and restores the local range.
 pub fn return_cells(
-    file: &[u8],
-    functions: usize,
-    nfunctions: usize,
+    functions: &[u8],
     f: usize,
     depth: usize,
     held: usize,
     count: usize,
     a: usize,
     cells: &mut [u32],
-    saved: &[u32],
+    store: &[u32],
 ) -> Leaving
-    requires { ⌜ lumpFits 36 (length (now file)) (lump functions nfunctions) ≡ true ⌝ }
-    requires { ⌜ (held ≤ 2048) × (2048 ≤ length (now saved)) × (36 ≤ count) × (count ≤ length (now cells)) ⌝ }
-    ensures { λ r. ⌜ ((P : Program) → functionsIn (now (file .entry)) functions nfunctions ≡ P .functions → leavingOf r (now (cells .exit)) ≡ returning P a (numberedIn f depth held count) (now (cells .entry)) (now (saved .entry))) ⌝ }
+    requires { ⌜ (held ≤ 2048) × (2048 ≤ length (now store)) × (36 ≤ count) × (count ≤ length (now cells)) ⌝ }
+    ensures { λ r. ⌜ ((P : Program) → functionsIn (now (functions .entry)) ≡ P .functions → leavingOf r (now (cells .exit)) ≡ returning P a (numberedIn f depth held count) (now (cells .entry)) (now (store .entry))) ⌝ }
 {
     if !copies::in_range(a, 3, count) {
         return no_leaving(15);
     }
-    let locals = locals_of(file, functions, nfunctions, f);
+    let locals = locals_of(functions, f);
     let refusal = leaving_refusal(locals, depth, held, count);
     if refusal != 0 {
         return no_leaving(refusal);
     }
     copies::copy_cells(cells, a, 1, 3);
     copies::move_cells(
-        saved,
+        store,
         cells,
         held - locals.count,
         locals.start,
@@ -213,15 +209,22 @@ impl ExecutionContext {
         functions.count
     }
 
+    // The part of the file that has the functions.
+    pub(crate) fn functions(self, file: &[u8]) -> &[u8]
+        requires { ⌜ Loaded (now file) (self .file) ⌝ }
+        ensures { λ r. ⌜ now r ≡ partOf 36 (self .file .functions) (now (file .entry)) ⌝ }
+    {
+        let recorded = self.file;
+        parts::part(file, FUNCTION_SIZE, recorded.functions)
+    }
+
     // The record of a function that is there.
     pub(crate) fn get_def(self, file: &[u8], f: usize) -> FunctionDef
         requires { ⌜ Loaded (now file) (self .file) ⌝ }
         requires { ⌜ f < self .file .functions .count ⌝ }
         ensures { λ r. ⌜ r ≡ functionOf (programOf (now (file .entry))) f ⌝ }
     {
-        let header = self.file;
-        let table = header.functions;
-        functions::get_def(file, table.offset, table.count, f)
+        functions::get_def(self.functions(file), f)
     }
 
     // The local range of the current function; one that isn't there has no locals.
@@ -229,18 +232,11 @@ impl ExecutionContext {
         requires { ⌜ Loaded (now file) (self .file) ⌝ }
         ensures { λ r. ⌜ r ≡ rangeOf (functionOf (programOf (now (file .entry))) (self .«current_function»)) ⌝ }
     {
-        let recorded = self.file;
-        let functions = recorded.functions;
-        locals_of(
-            file,
-            functions.offset,
-            functions.count,
-            self.current_function,
-        )
+        locals_of(self.functions(file), self.current_function)
     }
 
     // The context in function f, which is to go back to the position `back`.
-    fn entered(self, f: usize, first: i64, locals: usize, back: i64) -> ExecutionContext
+    fn push_frame(self, f: usize, first: i64, locals: usize, back: i64) -> ExecutionContext
         requires { ⌜ (self .depth < 31) × (self .saved + locals ≤ 2048) ⌝ }
         ensures { λ r. ⌜ r ≡ enteredContext self f first locals back ⌝ }
     {
@@ -265,30 +261,19 @@ impl ExecutionContext {
         f: usize,
         back: i64,
         cells: &mut [u32],
-        saved: &mut [u32],
+        store: &mut [u32],
     ) -> Answered
-        requires { ⌜ Within (now file) self (length (now cells)) (length (now saved)) ⌝ }
-        ensures { λ r. ⌜ outcomeOf r (now (cells .exit)) (now (saved .exit)) ≡ after (config self (now (cells .entry)) (now (saved .entry))) (enter (programOf (now (file .entry))) f back) ⌝ }
+        requires { ⌜ Within (now file) self (length (now cells)) (length (now store)) ⌝ }
+        ensures { λ r. ⌜ outcomeOf r (now (cells .exit)) (now (store .exit)) ≡ after (config self (now (cells .entry)) (now (store .entry))) (enter (programOf (now (file .entry))) f back) ⌝ }
     {
-        let recorded = self.file;
-        let functions = recorded.functions;
+        let functions = self.functions(file);
         let count = self.cell_count();
-        let entry = enter_cells(
-            file,
-            functions.offset,
-            functions.count,
-            f,
-            self.depth,
-            self.saved,
-            count,
-            cells,
-            saved,
-        );
+        let entry = enter_cells(functions, f, self.depth, self.saved, count, cells, store);
         if entry.refusal != 0 {
             return self.refused(entry.refusal);
         }
         Answered {
-            context: self.entered(f, entry.first, entry.locals, back),
+            context: self.push_frame(f, entry.first, entry.locals, back),
             answer: Answer::Accepted,
         }
     }
@@ -300,8 +285,8 @@ impl ExecutionContext {
         leaving_refusal(locals, self.depth, self.saved, self.cell_count())
     }
 
-    // The context after the current function, with so many locals, is left.
-    pub(crate) fn left(self, locals: usize) -> ExecutionContext
+    // The context after the current function, with so many locals, is left: its frame becomes zeros again.
+    pub(crate) fn pop_frame(self, locals: usize) -> ExecutionContext
         requires { ⌜ (0 < self .depth) × ((self .depth ≤ 31) × (locals ≤ self .saved)) ⌝ }
         ensures { λ r. ⌜ r ≡ leftContext self locals ⌝ }
     {
@@ -321,62 +306,36 @@ impl ExecutionContext {
     }
 
     // Leaves the current function: restores its locals, and gives the context after.
-    pub(crate) fn restored(
+    pub(crate) fn leave_function(
         self,
         locals: Locals,
         cells: &mut [u32],
-        saved: &[u32],
+        store: &[u32],
     ) -> ExecutionContext
         requires { ⌜ (0 < self .depth) × (self .depth ≤ 31) ⌝ }
-        requires { ⌜ (locals .count ≤ self .saved) × (self .saved ≤ length (now saved)) ⌝ }
+        requires { ⌜ (locals .count ≤ self .saved) × (self .saved ≤ length (now store)) ⌝ }
         requires { ⌜ present (locals .start) (locals .count) (length (now cells)) ≡ true ⌝ }
-        ensures { λ r. ⌜ ((P : Program) → locals ≡ rangeOf (functionOf P (self .«current_function»)) → config r (now (cells .exit)) (now (saved .entry)) ≡ left P (config self (now (cells .entry)) (now (saved .entry)))) ⌝ }
+        ensures { λ r. ⌜ ((P : Program) → locals ≡ rangeOf (functionOf P (self .«current_function»)) → config r (now (cells .exit)) (now (store .entry)) ≡ left P (config self (now (cells .entry)) (now (store .entry)))) ⌝ }
     {
         let first = self.saved - locals.count;
-        copies::move_cells(saved, cells, first, locals.start, locals.count);
-        self.left(locals.count)
-    }
-
-    pub fn leave_function(self, file: &[u8], cells: &mut [u32], saved: &[u32]) -> Answered
-        requires { ⌜ Within (now file) self (length (now cells)) (length (now saved)) ⌝ }
-        ensures { λ r. ⌜ outcomeOf r (now (cells .exit)) (now (saved .entry)) ≡ after (config self (now (cells .entry)) (now (saved .entry))) (leave (programOf (now (file .entry)))) ⌝ }
-    {
-        let locals = self.locals(file);
-        let refusal = self.leave_refusal(locals);
-        if refusal != 0 {
-            return self.refused(refusal);
-        }
-        Answered {
-            context: self.restored(locals, cells, saved),
-            answer: Answer::Accepted,
-        }
+        copies::move_cells(store, cells, first, locals.start, locals.count);
+        self.pop_frame(locals.count)
     }
 
     // Return and Done of the three cells from a on.
-    pub fn op_return(self, file: &[u8], a: usize, cells: &mut [u32], saved: &[u32]) -> Answered
-        requires { ⌜ Within (now file) self (length (now cells)) (length (now saved)) ⌝ }
-        ensures { λ r. ⌜ outcomeOf r (now (cells .exit)) (now (saved .entry)) ≡ after (config self (now (cells .entry)) (now (saved .entry))) (return (programOf (now (file .entry))) a) ⌝ }
+    pub fn op_return(self, file: &[u8], a: usize, cells: &mut [u32], store: &[u32]) -> Answered
+        requires { ⌜ Within (now file) self (length (now cells)) (length (now store)) ⌝ }
+        ensures { λ r. ⌜ outcomeOf r (now (cells .exit)) (now (store .entry)) ≡ after (config self (now (cells .entry)) (now (store .entry))) (return (programOf (now (file .entry))) a) ⌝ }
     {
-        let recorded = self.file;
-        let functions = recorded.functions;
+        let functions = self.functions(file);
+        let f = self.current_function;
         let count = self.cell_count();
-        let leaving = return_cells(
-            file,
-            functions.offset,
-            functions.count,
-            self.current_function,
-            self.depth,
-            self.saved,
-            count,
-            a,
-            cells,
-            saved,
-        );
+        let leaving = return_cells(functions, f, self.depth, self.saved, count, a, cells, store);
         if leaving.refusal != 0 {
             return self.refused(leaving.refusal);
         }
         Answered {
-            context: self.left(leaving.locals),
+            context: self.pop_frame(leaving.locals),
             answer: Answer::Accepted,
         }
     }

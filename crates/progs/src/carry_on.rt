@@ -9,35 +9,24 @@ ghost use Rattle.progs.specs.Contexts.{config, outcomeOf, after, onward,
 use crate::Answered;
 use crate::ExecutionContext;
 use definition::Answer;
+use definition::STATEMENT_SIZE;
 use functions::fetch;
 use functions::fetch::Fetched;
+use functions::parts;
 
 impl ExecutionContext {
     // 0, or the number of the refusal: the statement at the position is looked at, not executed.
-    fn carry_on_refusal(self, file: &[u8], cells: &[u32], saved: &[u32]) -> u8
-        requires { ⌜ Within (now file) self (length (now cells)) (length (now saved)) ⌝ }
+    fn carry_on_refusal(self, file: &[u8], cells: &[u32], store: &[u32]) -> u8
+        requires { ⌜ Within (now file) self (length (now cells)) (length (now store)) ⌝ }
         ensures { λ r. ⌜ r ≡ judge (onward (programOf (now (file .entry))) (self .pc) (now (cells .entry))) ⌝ }
     {
         let recorded = self.file;
-        let statements = recorded.statements;
-        let defs = recorded.globaldefs;
-        let functions = recorded.functions;
-        let count = self.cell_count();
-        let fetched = fetch::fetch(file, statements.offset, statements.count, self.pc);
+        let statements = parts::part(file, STATEMENT_SIZE, recorded.statements);
+        let fetched = fetch::fetch(statements, self.pc);
         match fetched {
             Fetched::Refused(n) => return n,
             Fetched::At(_k, s) => {
-                if execution::hands_over(
-                    file,
-                    defs.offset,
-                    defs.count,
-                    functions.offset,
-                    functions.count,
-                    count,
-                    cells,
-                    s.opcode,
-                    s.arg1,
-                ) {
+                if execution::hands_over(file, recorded, cells, s) {
                     return 0;
                 }
                 return 27;
@@ -45,13 +34,13 @@ impl ExecutionContext {
         }
     }
 
-    pub fn carry_on(self, file: &[u8], cells: &[u32], saved: &[u32]) -> Answered
-        ensures { λ r. ⌜ outcomeOf r (now (cells .entry)) (now (saved .entry)) ≡ after (config self (now (cells .entry)) (now (saved .entry))) (carryOn (programOf (now (file .entry)))) ⌝ }
+    pub fn carry_on(self, file: &[u8], cells: &[u32], store: &[u32]) -> Answered
+        ensures { λ r. ⌜ outcomeOf r (now (cells .entry)) (now (store .entry)) ≡ after (config self (now (cells .entry)) (now (store .entry))) (carryOn (programOf (now (file .entry)))) ⌝ }
     {
-        if !self.check_state(file, cells, saved) {
+        if !self.check_state(file, cells, store) {
             return self.refused(13);
         }
-        let refusal = self.carry_on_refusal(file, cells, saved);
+        let refusal = self.carry_on_refusal(file, cells, store);
         if refusal != 0 {
             return self.refused(refusal);
         }

@@ -5,6 +5,7 @@ ghost use Rattle.definition.specs.Operations.{hostEnter};
 ghost use Rattle.progs.specs.Contexts.{config, outcomeOf, after};
 use definition::Answer;
 use definition::FileRecord;
+use definition::GREATEST_DEPTH;
 use definition::StackFrame;
 use functions::fetch;
 
@@ -25,7 +26,7 @@ pub struct ExecutionContext {
     // How many frames are in use, and how many cells of the saved store.
     pub depth: usize,
     pub saved: usize,
-    pub frames: [StackFrame; 31],
+    pub frames: [StackFrame; GREATEST_DEPTH],
 }
 
 // The context after an operation, and its answer.
@@ -36,13 +37,13 @@ pub struct Answered {
 
 impl ExecutionContext {
     // The host enters a function, which is to go back to the present position.
-    pub fn enter(self, file: &[u8], function: i64, cells: &mut [u32], saved: &mut [u32]) -> Answered
-        ensures { λ r. ⌜ outcomeOf r (now (cells .exit)) (now (saved .exit)) ≡ after (config self (now (cells .entry)) (now (saved .entry))) (hostEnter (programOf (now (file .entry))) function) ⌝ }
+    pub fn enter(self, file: &[u8], function: i64, cells: &mut [u32], store: &mut [u32]) -> Answered
+        ensures { λ r. ⌜ outcomeOf r (now (cells .exit)) (now (store .exit)) ≡ after (config self (now (cells .entry)) (now (store .entry))) (hostEnter (programOf (now (file .entry))) function) ⌝ }
     {
-        if !self.check_state(file, cells, saved) {
+        if !self.check_state(file, cells, store) {
             return self.refused(13);
         }
         let f = fetch::place_of(self.function_count(), function);
-        self.enter_function(file, f, self.pc, cells, saved)
+        self.enter_function(file, f, self.pc, cells, store)
     }
 }

@@ -7,10 +7,13 @@ ghost use Rattle.progs.specs.Contexts.{stateOf, outcomeOf};
 use crate::Answered;
 use crate::ExecutionContext;
 use definition::Answer;
+use definition::CELL_SIZE;
 use definition::FileRecord;
+use definition::GREATEST_DEPTH;
 use definition::Lump;
 use definition::StackFrame;
 use functions::header;
+use functions::parts;
 
 // Position, function and depths are 0, and so are the frames.
 fn at_start(file: FileRecord) -> ExecutionContext
@@ -20,7 +23,7 @@ fn at_start(file: FileRecord) -> ExecutionContext
         instr_id: 0,
         func_id: 0,
     };
-    let frames = [none; 31];
+    let frames = [none; GREATEST_DEPTH];
     ExecutionContext {
         file,
         pc: 0,
@@ -52,10 +55,10 @@ fn of_nothing() -> ExecutionContext
 }
 
 // The lent cells past the file's count and the saved store stay as they are.
-pub fn load(file: &[u8], cells: &mut [u32], saved: &[u32]) -> Answered
-    ensures { λ r. ⌜ outcomeOf r (now (cells .exit)) (now (saved .entry)) ≡ loadOutcome (now (cells .entry)) (now (saved .entry)) (load (now (file .entry)) (now (cells .entry)) (now (saved .entry))) ⌝ }
+pub fn load(file: &[u8], cells: &mut [u32], store: &[u32]) -> Answered
+    ensures { λ r. ⌜ outcomeOf r (now (cells .exit)) (now (store .entry)) ≡ loadOutcome (now (cells .entry)) (now (store .entry)) (load (now (file .entry)) (now (cells .entry)) (now (store .entry))) ⌝ }
 {
-    let refusal = loader::load_refusal(file, cells.len(), saved.len());
+    let refusal = loader::load_refusal(file, cells.len(), store.len());
     if refusal != 0 {
         return Answered {
             context: of_nothing(),
@@ -63,8 +66,7 @@ pub fn load(file: &[u8], cells: &mut [u32], saved: &[u32]) -> Answered
         };
     }
     let recorded = header::file_of(file);
-    let globals = recorded.globals;
-    loader::fill(file, globals.offset, globals.count, cells);
+    loader::fill(parts::part(file, CELL_SIZE, recorded.globals), cells);
     Answered {
         context: at_start(recorded),
         answer: Answer::Accepted,

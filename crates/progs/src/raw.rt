@@ -13,10 +13,10 @@ use functions::fetch;
 
 impl ExecutionContext {
     // 0, or the number of the refusal.
-    fn raw_refusal(self, file: &[u8], address: i64, cells: &[u32], saved: &[u32]) -> u8
-        ensures { λ r. ⌜ r ≡ judge (rawConditions (programOf (now (file .entry))) address (config self (now (cells .entry)) (now (saved .entry)))) ⌝ }
+    fn raw_refusal(self, file: &[u8], address: i64, cells: &[u32], store: &[u32]) -> u8
+        ensures { λ r. ⌜ r ≡ judge (rawConditions (programOf (now (file .entry))) address (config self (now (cells .entry)) (now (store .entry)))) ⌝ }
     {
-        if !self.check_state(file, cells, saved) {
+        if !self.check_state(file, cells, store) {
             return 13;
         }
         let count = self.cell_count();
@@ -24,10 +24,10 @@ impl ExecutionContext {
         if count <= at { 15 } else { 0 }
     }
 
-    pub fn read(self, file: &[u8], address: i64, cells: &[u32], saved: &[u32]) -> ReadAnswer
-        ensures { λ r. ⌜ r ≡ readAnswer (rawRead (programOf (now (file .entry))) address (config self (now (cells .entry)) (now (saved .entry)))) ⌝ }
+    pub fn read(self, file: &[u8], address: i64, cells: &[u32], store: &[u32]) -> ReadAnswer
+        ensures { λ r. ⌜ r ≡ readAnswer (rawRead (programOf (now (file .entry))) address (config self (now (cells .entry)) (now (store .entry)))) ⌝ }
     {
-        let refusal = self.raw_refusal(file, address, cells, saved);
+        let refusal = self.raw_refusal(file, address, cells, store);
         if refusal != 0 {
             return ReadAnswer::Refused(refusal);
         }
@@ -41,11 +41,11 @@ impl ExecutionContext {
         address: i64,
         value: u32,
         cells: &mut [u32],
-        saved: &[u32],
+        store: &[u32],
     ) -> Answered
-        ensures { λ r. ⌜ outcomeOf r (now (cells .exit)) (now (saved .entry)) ≡ after (config self (now (cells .entry)) (now (saved .entry))) (rawWrite (programOf (now (file .entry))) address value) ⌝ }
+        ensures { λ r. ⌜ outcomeOf r (now (cells .exit)) (now (store .entry)) ≡ after (config self (now (cells .entry)) (now (store .entry))) (rawWrite (programOf (now (file .entry))) address value) ⌝ }
     {
-        let refusal = self.raw_refusal(file, address, cells, saved);
+        let refusal = self.raw_refusal(file, address, cells, store);
         if refusal != 0 {
             return self.refused(refusal);
         }

@@ -7,10 +7,12 @@ ghost use Rattle.definition.specs.Load.{programOf};
 ghost use Rattle.definition.specs.Operations.{enteredFunctions, allPresent, localsOf, sound};
 ghost use Rattle.progs.specs.Contexts.{stateOf, config, Loaded};
 use crate::ExecutionContext;
+use definition::GREATEST_DEPTH;
+use definition::SAVED_STORE;
 use functions::header;
 
 impl ExecutionContext {
-    // The entered functions are there, none of negative local count, and the saved cells number the sum of their local counts: the sum of 31 counts
+    // The entered functions are there, none of negative local count, and the saved cells number the sum of their local counts: the sum of so few counts
     // can't wrap.
     fn locals_add_up(self, file: &[u8]) -> bool
         requires { ⌜ Loaded (now file) (self .file) ⌝ }
@@ -37,20 +39,20 @@ impl ExecutionContext {
         self.saved == sum
     }
 
-    pub fn check_state(self, file: &[u8], cells: &[u32], saved: &[u32]) -> bool
-        ensures { λ r. ⌜ r ≡ sound (programOf (now (file .entry))) (config self (now (cells .entry)) (now (saved .entry))) ⌝ }
+    pub fn check_state(self, file: &[u8], cells: &[u32], store: &[u32]) -> bool
+        ensures { λ r. ⌜ r ≡ sound (programOf (now (file .entry))) (config self (now (cells .entry)) (now (store .entry))) ⌝ }
     {
         let recorded = self.file;
         if !header::recorded_in(file, recorded, cells.len()) {
             return false;
         }
-        if saved.len() < 2048 {
+        if store.len() < SAVED_STORE {
             return false;
         }
-        if 31 < self.depth {
+        if GREATEST_DEPTH < self.depth {
             return false;
         }
-        if 2048 < self.saved {
+        if SAVED_STORE < self.saved {
             return false;
         }
         self.locals_add_up(file)

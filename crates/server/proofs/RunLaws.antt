@@ -16,7 +16,7 @@ plus n r = record { answer = r .answer; count = n + r .count; config = r .config
 abbrev pub ran : RunAnswer → ℕ → Config → Ran
 ran a n c = record { answer = a; count = n; config = c }
 
--- after `count` of at most `limit` statements the run stands at c, and not at its target
+-- after `count` of at most `limit` statements the run is at c, and not at its target
 pub record RunLeft (P : Program) (limit target : ℕ) (c₀ c : Config) (count : ℕ) : Type 0 where
   pub most : count ≤ limit
   pub apart : c .state .depth ≡ target → ⊥

@@ -16,13 +16,13 @@ use Rattle.execution.specs.Execution.{doesOf, cellsAfter, executed, execution, 
 use Rattle.progs.specs.declared.ExecutionContext.{ExecutionContext}
 use Rattle.progs.specs.declared.calls.Entry.{Entry}
 use Rattle.progs.specs.declared.calls.Leaving.{Leaving}
-use Rattle.progs.specs.Contexts.{config, bare, Within, Standing}
+use Rattle.progs.specs.Contexts.{config, bare, Within, AtStatement}
 use Rattle.progs.specs.Numbers.{enteredContext, leftContext, entryOf, entering, leavingOf, returning}
 use Rattle.progs.proofs.NumberLaws as entry
 use Rattle.progs.proofs.ReturnLaws as return
 use Rattle.progs.proofs.StateLaws.{moved-within}
 use Rattle.server.specs.declared.Ran.{Ran}
-use Rattle.server.specs.Stepping.{ranAs, ranOf}
+use Rattle.server.specs.Stepping.{ranAs, ranOf, Apart}
 use Rattle.server.proofs.RunLaws.{RunLeft, run-refused, run-handed, run-ended, run-again}
 use Rattle.server.proofs.StepLaws.{step-is}
 
@@ -91,7 +91,10 @@ module _ (P : Program) (limit target : ℕ) (c₀ : Config) (x : ExecutionContex
         (sym (known (does.Calls f) d) ∙ refuses-it (entryConditions P f here) (entered P f (x .pc +ℤ pos 1) here) (r .refusal) (entry.refusal-is P f x cells saved r cells″ saved″ entering-here) z)
 
     module _ (z : r .refusal ≡ 0) where
-      pub turn-enters : target < x .depth → Standing (x .pc) → (back : ℤ) → back ≡ pos (placeOf 0 (x .pc)) +ℤ pos 1
+      pub turn-room : (x .depth < 31) × (x .saved + r .locals ≤ 2048)
+      turn-room = entry.entry-room P f x cells saved r cells″ saved″ entering-here z
+
+      pub turn-enters : Apart target (x .depth) → AtStatement (x .pc) → (back : ℤ) → back ≡ pos (placeOf 0 (x .pc)) +ℤ pos 1
           → RunLeft P limit target c₀ (config (enteredContext x f (r .first) (r .locals) back) cells″ saved″) (count + 1)
       unfolding stepAs entryConditions
       turn-enters t s back b =
@@ -101,10 +104,7 @@ module _ (P : Program) (limit target : ℕ) (c₀ : Config) (x : ExecutionContex
           ∙ accepts (entryConditions P f here) (entered P f (x .pc +ℤ pos 1) here) (entry.clear P f x cells saved r cells″ saved″ entering-here z)
           ∙ ap (λ (p : ℤ). completed (entered P f p here)) (sym after-it)
           ∙ ap completed (sym (entry.entered-config P f x cells saved r cells″ saved″ entering-here z back)))
-          (λ k. absurd (omega (arith, t, k)))
-
-      pub turn-room : (x .depth < 31) × (x .saved + r .locals ≤ 2048)
-      turn-room = entry.entry-room P f x cells saved r cells″ saved″ entering-here z
+          (λ k. let over = t (omega (arith, k)) in absurd (omega (arith, over, k, turn-room .0)))
 
   -- ---- a Return
 

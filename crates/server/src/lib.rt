@@ -1,23 +1,26 @@
 // Statements and runs (server/mod.rs, LevelState::execute_program).
 ghost use mathlib.Core.Path.{_≡_};
-ghost use Prim.Native.Nat.{_<_};
 ghost use lib.ListN.{length};
-ghost use Rattle.definition.specs.Machine.{stepAs, step, runFor};
+ghost use Rattle.definition.specs.Machine.{runFor};
 ghost use Rattle.definition.specs.Load.{programOf};
 ghost use Rattle.definition.specs.Operations.{statement, run};
 ghost use Rattle.definition.specs.Answers.{statementOutcome};
-ghost use Rattle.execution.specs.Execution.{doesOf};
 ghost use Rattle.progs.specs.Contexts.{config, Within};
-ghost use Rattle.server.specs.Stepping.{completedOf, steppedOf, ranAs, ranOf, notRun, Stands};
-use definition::Answer;
+ghost use Rattle.server.specs.Stepping.{steppedOf, steppedAs, ranAs, ranOf, notRun, Apart};
+use definition::FUNCTION_SIZE;
+use definition::GREATEST_DEPTH;
+use definition::GREATEST_LIMIT;
 use definition::RunAnswer;
 use definition::StackFrame;
 use definition::StatementAnswer;
 use execution::Executed;
 use functions::fetch;
-use progs::Answered;
+use functions::parts;
 use progs::ExecutionContext;
 use progs::calls;
+
+// No context has this depth.
+const NO_DEPTH: usize = GREATEST_DEPTH + 1;
 
 // The context after a statement, and what it answers.
 pub struct Stepped {
@@ -30,115 +33,6 @@ pub struct Ran {
     pub context: ExecutionContext,
     pub answer: RunAnswer,
     pub count: u32,
-}
-
-// An entry or a Return, as a statement.
-fn completed(a: Answered) -> Stepped
-    ensures { λ r. ⌜ r ≡ completedOf a ⌝ }
-{
-    let context = a.context;
-    let answer = a.answer;
-    match answer {
-        Answer::Accepted => {
-            return Stepped {
-                context,
-                answer: StatementAnswer::Completed,
-            };
-        }
-        Answer::Refused(n) => {
-            return Stepped {
-                context,
-                answer: StatementAnswer::Refused(n),
-            };
-        }
-    }
-}
-
-// What is left to do about a statement: a position to go to, a function to enter or to leave.
-fn perform(
-    context: ExecutionContext,
-    file: &[u8],
-    done: Executed,
-    cells: &mut [u32],
-    saved: &mut [u32],
-) -> Stepped
-    requires { ⌜ Within (now file) context (length (now cells)) (length (now saved)) ⌝ }
-    requires { ⌜ Stands done (context .pc) ⌝ }
-    ensures { λ r. ⌜ steppedOf r (now (cells .exit)) (now (saved .exit)) ≡ statementOutcome (config context (now (cells .entry)) (now (saved .entry))) (stepAs (programOf (now (file .entry))) (doesOf done (now (cells .entry))) (config context (now (cells .entry)) (now (saved .entry)))) ⌝ }
-{
-    match done {
-        Executed::Next(p) => {
-            let mut next = context;
-            next.pc = p;
-            return Stepped {
-                context: next,
-                answer: StatementAnswer::Completed,
-            };
-        }
-        Executed::Calls(f) => {
-            let back = fetch::after(fetch::place_of(0, context.pc));
-            let entered = context.enter_function(file, f, back, cells, saved);
-            return completed(entered);
-        }
-        Executed::Returns(a) => {
-            let left = context.op_return(file, a, cells, saved);
-            return completed(left);
-        }
-        Executed::Refused(n) => {
-            return Stepped {
-                context,
-                answer: StatementAnswer::Refused(n),
-            };
-        }
-        Executed::HandedOver(h) => {
-            return Stepped {
-                context,
-                answer: StatementAnswer::HandedOver(h),
-            };
-        }
-    }
-}
-
-// The statement at the position.
-fn step(context: ExecutionContext, file: &[u8], cells: &mut [u32], saved: &mut [u32]) -> Stepped
-    requires { ⌜ Within (now file) context (length (now cells)) (length (now saved)) ⌝ }
-    ensures { λ r. ⌜ steppedOf r (now (cells .exit)) (now (saved .exit)) ≡ statementOutcome (config context (now (cells .entry)) (now (saved .entry))) (step (programOf (now (file .entry))) (config context (now (cells .entry)) (now (saved .entry)))) ⌝ }
-{
-    let recorded = context.file;
-    let statements = recorded.statements;
-    let defs = recorded.globaldefs;
-    let functions = recorded.functions;
-    let globals = recorded.globals;
-    let done = execution::does(
-        file,
-        statements.offset,
-        statements.count,
-        defs.offset,
-        defs.count,
-        functions.offset,
-        functions.count,
-        globals.count,
-        cells,
-        context.pc,
-    );
-    perform(context, file, done, cells, saved)
-}
-
-pub fn statement(
-    context: ExecutionContext,
-    file: &[u8],
-    cells: &mut [u32],
-    saved: &mut [u32],
-) -> Stepped
-    ensures { λ r. ⌜ steppedOf r (now (cells .exit)) (now (saved .exit)) ≡ statementOutcome (config context (now (cells .entry)) (now (saved .entry))) (statement (programOf (now (file .entry))) (config context (now (cells .entry)) (now (saved .entry)))) ⌝ }
-{
-    if !context.check_state(file, cells, saved) {
-        return Stepped {
-            context,
-            answer: StatementAnswer::Refused(13),
-        };
-    }
-    step(context, file, cells, saved)
 }
 
 fn ends(context: ExecutionContext, answer: RunAnswer, count: u32) -> Ran
@@ -159,33 +53,20 @@ fn run_for(
     limit: u32,
     target: usize,
     cells: &mut [u32],
-    saved: &mut [u32],
+    store: &mut [u32],
 ) -> Ran
-    requires { ⌜ Within (now file) context (length (now cells)) (length (now saved)) ⌝ }
-    requires { ⌜ target < context .depth ⌝ }
-    ensures { λ r. ⌜ ranOf r (now (cells .exit)) (now (saved .exit)) ≡ runFor (programOf (now (file .entry))) limit target (config context (now (cells .entry)) (now (saved .entry))) ⌝ }
+    requires { ⌜ Within (now file) context (length (now cells)) (length (now store)) ⌝ }
+    requires { ⌜ Apart target (context .depth) ⌝ }
+    ensures { λ r. ⌜ ranOf r (now (cells .exit)) (now (store .exit)) ≡ runFor (programOf (now (file .entry))) limit target (config context (now (cells .entry)) (now (store .entry))) ⌝ }
 {
     let recorded = context.file;
-    let statements = recorded.statements;
-    let defs = recorded.globaldefs;
-    let functions = recorded.functions;
-    let globals = recorded.globals;
+    let functions = parts::part(file, FUNCTION_SIZE, recorded.functions);
+    let cell_count = recorded.globals.count;
     let mut now = context;
     let mut count: u32 = 0;
     while count < limit {
         let completed = count + 1;
-        let done = execution::does(
-            file,
-            statements.offset,
-            statements.count,
-            defs.offset,
-            defs.count,
-            functions.offset,
-            functions.count,
-            globals.count,
-            cells,
-            now.pc,
-        );
+        let done = execution::does(file, recorded, cells, now.pc);
         match done {
             Executed::Next(p) => {
                 now.pc = p;
@@ -193,15 +74,13 @@ fn run_for(
             Executed::Calls(f) => {
                 let back = fetch::after(fetch::place_of(0, now.pc));
                 let entry = calls::enter_cells(
-                    file,
-                    functions.offset,
-                    functions.count,
+                    functions,
                     f,
                     now.depth,
                     now.saved,
-                    globals.count,
+                    cell_count,
                     cells,
-                    saved,
+                    store,
                 );
                 if entry.refusal != 0 {
                     return ends(now, RunAnswer::Refused(entry.refusal), count);
@@ -219,16 +98,14 @@ fn run_for(
             }
             Executed::Returns(a) => {
                 let leaving = calls::return_cells(
-                    file,
-                    functions.offset,
-                    functions.count,
+                    functions,
                     now.current_function,
                     now.depth,
                     now.saved,
-                    globals.count,
+                    cell_count,
                     a,
                     cells,
-                    saved,
+                    store,
                 );
                 if leaving.refusal != 0 {
                     return ends(now, RunAnswer::Refused(leaving.refusal), count);
@@ -256,6 +133,60 @@ fn run_for(
     ends(now, RunAnswer::Spent, count)
 }
 
+// A run of one statement, as that statement.
+fn as_statement(ran: Ran) -> Stepped
+    ensures { λ r. ⌜ r ≡ steppedAs ran ⌝ }
+{
+    let context = ran.context;
+    let answer = ran.answer;
+    match answer {
+        RunAnswer::Ended => {
+            return Stepped {
+                context,
+                answer: StatementAnswer::Completed,
+            };
+        }
+        RunAnswer::Spent => {
+            return Stepped {
+                context,
+                answer: StatementAnswer::Completed,
+            };
+        }
+        RunAnswer::Refused(n) => {
+            return Stepped {
+                context,
+                answer: StatementAnswer::Refused(n),
+            };
+        }
+        RunAnswer::HandedOver(h) => {
+            return Stepped {
+                context,
+                answer: StatementAnswer::HandedOver(h),
+            };
+        }
+    }
+}
+
+// The statement at the position is one turn of the run's loop, to a target that no depth has: the loop has what executes statements inlined, which a
+// compiler does for one caller.
+pub fn statement(
+    context: ExecutionContext,
+    file: &[u8],
+    cells: &mut [u32],
+    store: &mut [u32],
+) -> Stepped
+    ensures { λ r. ⌜ steppedOf r (now (cells .exit)) (now (store .exit)) ≡ statementOutcome (config context (now (cells .entry)) (now (store .entry))) (statement (programOf (now (file .entry))) (config context (now (cells .entry)) (now (store .entry)))) ⌝ }
+{
+    if !context.check_state(file, cells, store) {
+        return Stepped {
+            context,
+            answer: StatementAnswer::Refused(13),
+        };
+    }
+    let ran = run_for(context, file, 1, NO_DEPTH, cells, store);
+    as_statement(ran)
+}
+
 fn not_run(context: ExecutionContext, n: u8) -> Ran
     ensures { λ r. ⌜ r ≡ notRun context n ⌝ }
 {
@@ -272,20 +203,20 @@ pub fn run(
     target: i64,
     limit: i64,
     cells: &mut [u32],
-    saved: &mut [u32],
+    store: &mut [u32],
 ) -> Ran
-    ensures { λ r. ⌜ ranOf r (now (cells .exit)) (now (saved .exit)) ≡ run (programOf (now (file .entry))) target limit (config context (now (cells .entry)) (now (saved .entry))) ⌝ }
+    ensures { λ r. ⌜ ranOf r (now (cells .exit)) (now (store .exit)) ≡ run (programOf (now (file .entry))) target limit (config context (now (cells .entry)) (now (store .entry))) ⌝ }
 {
-    if !context.check_state(file, cells, saved) {
+    if !context.check_state(file, cells, store) {
         return not_run(context, 13);
     }
     let most = fetch::place_of(0, limit);
-    if most == 0 || 99999 < most {
+    if most == 0 || GREATEST_LIMIT < most {
         return not_run(context, 28);
     }
     let down = fetch::place_of(context.depth, target);
     if context.depth <= down {
         return not_run(context, 29);
     }
-    run_for(context, file, most as u32, down, cells, saved)
+    run_for(context, file, most as u32, down, cells, store)
 }

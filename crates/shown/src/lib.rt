@@ -8,10 +8,18 @@ ghost use Rattle.server.specs.Stepping.{ranOf};
 ghost use Rattle.text.specs.Output.{output, atFront};
 ghost use Rattle.shown.specs.Shown.{stateLine, enteredAndRun, shown, printed, atFrontOf};
 use definition::Answer;
+use definition::GREATEST_LIMIT;
 use definition::RunAnswer;
 use progs::ExecutionContext;
 use progs::load;
 use server::Ran;
+use text::Line;
+
+// 01: the show program reads "a file of at most 65,536 bytes".
+const LONGEST_INPUT: usize = 65536;
+
+// Its run's limit is the greatest.
+const LIMIT: i64 = GREATEST_LIMIT as i64;
 
 // 0 past the end. (After an accepted load there are 36 cells or more.)
 fn cell_at(cells: &[u32], i: usize) -> u32
@@ -39,15 +47,17 @@ fn state_line(
     let c3 = cell_at(cells, 3);
     text::show_line(
         line,
-        answer,
-        count,
-        context.pc,
-        context.current_function,
-        context.depth,
-        context.saved,
-        c1,
-        c2,
-        c3,
+        Line {
+            answer,
+            count,
+            pc: context.pc,
+            function: context.current_function,
+            depth: context.depth,
+            saved: context.saved,
+            c1,
+            c2,
+            c3,
+        },
     )
 }
 
@@ -56,11 +66,11 @@ fn enter_and_run(
     context: ExecutionContext,
     file: &[u8],
     cells: &mut [u32],
-    saved: &mut [u32],
+    store: &mut [u32],
 ) -> Ran
-    ensures { λ r. ⌜ ranOf r (now (cells .exit)) (now (saved .exit)) ≡ enteredAndRun (programOf (now (file .entry))) (config context (now (cells .entry)) (now (saved .entry))) ⌝ }
+    ensures { λ r. ⌜ ranOf r (now (cells .exit)) (now (store .exit)) ≡ enteredAndRun (programOf (now (file .entry))) (config context (now (cells .entry)) (now (store .entry))) ⌝ }
 {
-    let entered = context.enter(file, 1, cells, saved);
+    let entered = context.enter(file, 1, cells, store);
     let context = entered.context;
     let answer = entered.answer;
     match answer {
@@ -71,26 +81,26 @@ fn enter_and_run(
                 count: 0,
             };
         }
-        Answer::Accepted => return server::run(context, file, 0, 99999, cells, saved),
+        Answer::Accepted => return server::run(context, file, 0, LIMIT, cells, store),
     }
 }
 
 // The line stands at the front of `line`; the result is its length.
-pub fn show(file: &[u8], cells: &mut [u32], saved: &mut [u32], line: &mut [u8]) -> usize
+pub fn show(file: &[u8], cells: &mut [u32], store: &mut [u32], line: &mut [u8]) -> usize
     requires { ⌜ 160 ≤ length (now line) ⌝ }
-    ensures { λ r. ⌜ printed (output (now (line .exit)) r) (now (cells .exit)) (now (saved .exit)) ≡ atFrontOf (now (line .entry)) (shown (now (file .entry)) (now (cells .entry)) (now (saved .entry))) ⌝ }
+    ensures { λ r. ⌜ printed (output (now (line .exit)) r) (now (cells .exit)) (now (store .exit)) ≡ atFrontOf (now (line .entry)) (shown (now (file .entry)) (now (cells .entry)) (now (store .entry))) ⌝ }
     ensures { λ r. ⌜ r ≤ 160 ⌝ }
 {
-    if 65536 < file.len() {
+    if LONGEST_INPUT < file.len() {
         return text::refused_line(line, 1);
     }
-    let loaded = load::load(file, cells, saved);
+    let loaded = load::load(file, cells, store);
     let context = loaded.context;
     let answer = loaded.answer;
     match answer {
         Answer::Refused(n) => return text::refused_line(line, n),
         Answer::Accepted => {
-            let ran = enter_and_run(context, file, cells, saved);
+            let ran = enter_and_run(context, file, cells, store);
             let last = ran.context;
             let outcome = ran.answer;
             return state_line(line, outcome, ran.count, last, cells);

@@ -1,9 +1,10 @@
-// Runs the statements on standard input through the compiled fetch and `execution::execute`, and compares the answer and all cells with those given.
+// Runs the statements on standard input through the compiled `execution::does`, and compares the answer and all cells with those given.
 // tools/statement_vectors.py writes the lines, of a letter and two hexadecimal numbers, and says what they mean.
+use definition::HEADER_LENGTH;
 use definition::Handover;
+use definition::MOST_CELLS;
 use execution::Executed;
 use functions::fetch;
-use functions::fetch::Fetched;
 use functions::header;
 use libc::STDIN_FILENO;
 use libc::STDOUT_FILENO;
@@ -11,7 +12,7 @@ use libc::STDOUT_FILENO;
 // The longest file of the cases has 131,801 bytes, and 32,768 cells.
 const BYTES: usize = 140000;
 
-const CELLS: usize = 32768;
+const CELLS: usize = MOST_CELLS;
 
 // What a line does: it gives part of a case, or a file of a size; or a case is run.
 enum Step {
@@ -24,41 +25,21 @@ enum Step {
 
 // What the statement at position 0 does: refused 13 where the lumps don't lie in the file, or the cells are too few or the file's too many.
 fn executed(file: &[u8], cells: &mut [u32]) -> Executed {
-    if file.len() < 60 {
+    if file.len() < HEADER_LENGTH {
         return Executed::Refused(13);
     }
-    let record = header::file_of(file);
-    let statements = record.statements;
-    let defs = record.globaldefs;
-    let functions = record.functions;
-    let globals = record.globals;
-    if !header::lumps_fit(record) {
+    let recorded = header::file_of(file);
+    if !header::lumps_fit(recorded) {
         return Executed::Refused(13);
     }
-    if cells.len() < globals.count {
+    let count = recorded.globals.count;
+    if cells.len() < count {
         return Executed::Refused(13);
     }
-    if 32768 < globals.count {
+    if MOST_CELLS < count {
         return Executed::Refused(13);
     }
-    let fetched = fetch::fetch(file, statements.offset, statements.count, 0);
-    match fetched {
-        Fetched::Refused(n) => return Executed::Refused(n),
-        Fetched::At(k, s) => return execution::execute(
-            file,
-            defs.offset,
-            defs.count,
-            functions.offset,
-            functions.count,
-            globals.count,
-            cells,
-            k,
-            s.opcode,
-            s.arg1,
-            s.arg2,
-            s.arg3,
-        ),
-    }
+    execution::does(file, recorded, cells, 0)
 }
 
 // Whether an answer is the one given by its kind and number.

@@ -14,12 +14,12 @@ pub fn step(
     context: &mut ExecutionContext,
     file: &[u8],
     cells: &mut [u32],
-    saved: &mut [u32],
+    store: &mut [u32],
 ) -> StatementAnswer
-    ensures { λ r. ⌜ steppedOf (stepped (now (context .exit)) r) (now (cells .exit)) (now (saved .exit)) ≡ statementOutcome (config (now (context .entry)) (now (cells .entry)) (now (saved .entry))) (statement (programOf (now (file .entry))) (config (now (context .entry)) (now (cells .entry)) (now (saved .entry)))) ⌝ }
+    ensures { λ r. ⌜ steppedOf (stepped (now (context .exit)) r) (now (cells .exit)) (now (store .exit)) ≡ statementOutcome (config (now (context .entry)) (now (cells .entry)) (now (store .entry))) (statement (programOf (now (file .entry))) (config (now (context .entry)) (now (cells .entry)) (now (store .entry)))) ⌝ }
 {
     let before = *context;
-    let stepped = server::statement(before, file, cells, saved);
+    let stepped = server::statement(before, file, cells, store);
     *context = stepped.context;
     stepped.answer
 }
@@ -29,11 +29,11 @@ pub fn step_once(
     context: ExecutionContext,
     file: &[u8],
     cells: &mut [u32],
-    saved: &mut [u32],
+    store: &mut [u32],
 ) -> Stepped
-    ensures { λ r. ⌜ steppedOf r (now (cells .exit)) (now (saved .exit)) ≡ statementOutcome (config context (now (cells .entry)) (now (saved .entry))) (statement (programOf (now (file .entry))) (config context (now (cells .entry)) (now (saved .entry)))) ⌝ }
+    ensures { λ r. ⌜ steppedOf r (now (cells .exit)) (now (store .exit)) ≡ statementOutcome (config context (now (cells .entry)) (now (store .entry))) (statement (programOf (now (file .entry))) (config context (now (cells .entry)) (now (store .entry)))) ⌝ }
 {
     let mut c = context;
-    let answer = step(&mut c, file, cells, saved);
+    let answer = step(&mut c, file, cells, store);
     Stepped { context: c, answer }
 }

@@ -17,9 +17,7 @@ fn apply_stores(cells: &mut [u32], a: usize, b: usize)
 
 // op_store_f, op_store_s, op_store_ent, op_store_fld, op_store_fnc; t is the type of both cells.
 pub fn op_stores(
-    file: &[u8],
-    defs: usize,
-    ndefs: usize,
+    defs: &[u8],
     count: usize,
     cells: &mut [u32],
     t: u16,
@@ -27,11 +25,11 @@ pub fn op_stores(
     b: usize,
     c: usize,
 ) -> Answer
-    requires { ⌜ (8 * ndefs ≤ length (now file) - defs) × (count ≤ length (now cells)) ⌝ }
-    ensures { λ r. ⌜ after r (now (cells .exit)) ≡ effectOn (storesEffect t (typing (now (file .entry)) defs ndefs count) a b c (now (cells .entry))) (now (cells .entry)) ⌝ }
+    requires { ⌜ count ≤ length (now cells) ⌝ }
+    ensures { λ r. ⌜ after r (now (cells .exit)) ≡ effectOn (storesEffect t (typing (now (defs .entry)) count) a b c (now (cells .entry))) (now (cells .entry)) ⌝ }
 {
     let natural = typed::must_be_natural(t) | (t == typed::STRING);
-    let refusal = globals::check_unary(file, defs, ndefs, count, cells, c, natural, t, a, t, b);
+    let refusal = globals::check_unary(defs, count, cells, c, natural, t, a, t, b);
     if refusal != 0 {
         return Answer::Refused(refusal);
     }
@@ -40,9 +38,8 @@ pub fn op_stores(
 }
 
 // An access as float, or by address alone.
-fn check_raw(file: &[u8], defs: usize, ndefs: usize, count: usize, raw: bool, cell: usize) -> u8
-    requires { ⌜ 8 * ndefs ≤ length (now file) - defs ⌝ }
-    ensures { λ r. ⌜ r ≡ rawRefusal (typing (now (file .entry)) defs ndefs count) raw cell ⌝ }
+fn check_raw(defs: &[u8], count: usize, raw: bool, cell: usize) -> u8
+    ensures { λ r. ⌜ r ≡ rawRefusal (typing (now (defs .entry)) count) raw cell ⌝ }
 {
     if raw {
         if cell < count {
@@ -50,27 +47,18 @@ fn check_raw(file: &[u8], defs: usize, ndefs: usize, count: usize, raw: bool, ce
         }
         return 15;
     }
-    typed::check_cell(file, defs, ndefs, count, typed::FLOAT, cell)
+    typed::check_cell(defs, count, typed::FLOAT, cell)
 }
 
 // One cell of a StoreV, source before destination.
-fn check_copy(
-    file: &[u8],
-    defs: usize,
-    ndefs: usize,
-    count: usize,
-    raw: bool,
-    a: usize,
-    b: usize,
-) -> u8
-    requires { ⌜ 8 * ndefs ≤ length (now file) - defs ⌝ }
-    ensures { λ r. ⌜ r ≡ copyRefusal (typing (now (file .entry)) defs ndefs count) raw a b ⌝ }
+fn check_copy(defs: &[u8], count: usize, raw: bool, a: usize, b: usize) -> u8
+    ensures { λ r. ⌜ r ≡ copyRefusal (typing (now (defs .entry)) count) raw a b ⌝ }
 {
-    let r = check_raw(file, defs, ndefs, count, raw, a);
+    let r = check_raw(defs, count, raw, a);
     if r != 0 {
         return r;
     }
-    check_raw(file, defs, ndefs, count, raw, b)
+    check_raw(defs, count, raw, b)
 }
 
 fn reserved_cell(cell: usize) -> bool
@@ -79,32 +67,23 @@ fn reserved_cell(cell: usize) -> bool
     (1 <= cell) & (cell <= 27)
 }
 
-fn check_store_v(
-    file: &[u8],
-    defs: usize,
-    ndefs: usize,
-    count: usize,
-    a: usize,
-    b: usize,
-    c: usize,
-) -> u8
-    requires { ⌜ 8 * ndefs ≤ length (now file) - defs ⌝ }
-    ensures { λ r. ⌜ r ≡ storeVRefusal (typing (now (file .entry)) defs ndefs count) a b c ⌝ }
+fn check_store_v(defs: &[u8], count: usize, a: usize, b: usize, c: usize) -> u8
+    ensures { λ r. ⌜ r ≡ storeVRefusal (typing (now (defs .entry)) count) a b c ⌝ }
 {
     let w = globals::check_unused(c);
     if w != 0 {
         return w;
     }
     let raw = reserved_cell(b);
-    let x = check_copy(file, defs, ndefs, count, raw, a, b);
+    let x = check_copy(defs, count, raw, a, b);
     if x != 0 {
         return x;
     }
-    let y = check_copy(file, defs, ndefs, count, raw, a + 1, b + 1);
+    let y = check_copy(defs, count, raw, a + 1, b + 1);
     if y != 0 {
         return y;
     }
-    check_copy(file, defs, ndefs, count, raw, a + 2, b + 2)
+    check_copy(defs, count, raw, a + 2, b + 2)
 }
 
 // One cell at a time: a cell that is written may be read after it.
@@ -118,19 +97,17 @@ fn apply_store_v(cells: &mut [u32], a: usize, b: usize)
 }
 
 pub fn op_store_v(
-    file: &[u8],
-    defs: usize,
-    ndefs: usize,
+    defs: &[u8],
     count: usize,
     cells: &mut [u32],
     a: usize,
     b: usize,
     c: usize,
 ) -> Answer
-    requires { ⌜ (8 * ndefs ≤ length (now file) - defs) × (count ≤ length (now cells)) ⌝ }
-    ensures { λ r. ⌜ after r (now (cells .exit)) ≡ effectOn (storesVEffect (typing (now (file .entry)) defs ndefs count) a b c (now (cells .entry))) (now (cells .entry)) ⌝ }
+    requires { ⌜ count ≤ length (now cells) ⌝ }
+    ensures { λ r. ⌜ after r (now (cells .exit)) ≡ effectOn (storesVEffect (typing (now (defs .entry)) count) a b c (now (cells .entry))) (now (cells .entry)) ⌝ }
 {
-    let refusal = check_store_v(file, defs, ndefs, count, a, b, c);
+    let refusal = check_store_v(defs, count, a, b, c);
     if refusal != 0 {
         return Answer::Refused(refusal);
     }

@@ -5,6 +5,7 @@ use mathlib.Core.Bool.{cond}
 use lib.Dec.{ltb}
 use lib.IntN.{ℤ, pos, negsuc}
 use Rattle.definition.specs.declared.RunAnswer.{RunAnswer}
+use Rattle.text.specs.declared.Line.{Line}
 use Rattle.definition.specs.Answers.{letters, refusedWord, outcomeWord, outcomeDetail}
 
 abbrev pub newline : ℕ
@@ -69,6 +70,10 @@ showLine answer count position function depth saved c1 c2 c3 =
     ∷ hex8 c2
     ∷ hex8 c3
     ∷ [])
+
+abbrev pub lineText : Line → List ℕ
+lineText l =
+    showLine (l .answer) (l .count) (l .pc) (l .function) (l .depth) (l .saved) (l .c1) (l .c2) (l .c3)
 
 -- "A refused load prints the first two fields only"
 unfoldable pub refusedLine : ℕ → List ℕ

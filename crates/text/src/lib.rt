@@ -8,7 +8,7 @@ ghost use Prim.Native.Nat.{_≤_, _<_};
 ghost use lib.IntN.{natAbs};
 ghost use lib.ListN.{length};
 ghost use Rattle.definition.specs.Answers.{letters, outcomeWord, outcomeDetail};
-ghost use Rattle.text.specs.Text.{comma, decimal, signedDecimal, hexDigit, hexDigits, hex8, furtherFields, showLine, refusedLine};
+ghost use Rattle.text.specs.Text.{comma, decimal, signedDecimal, hexDigit, hexDigits, hex8, furtherFields, lineText, refusedLine};
 ghost use Rattle.text.specs.Output.{output, put, Room, atFront};
 
 pub fn write_byte(buf: &mut [u8], at: usize, x: u8) -> usize
@@ -151,33 +151,36 @@ fn write_cells(buf: &mut [u8], at: usize, c1: u32, c2: u32, c3: u32) -> usize
     write_byte(buf, end, b'\n')
 }
 
-// The line of a run, from the front of the buffer. Whatever the numbers are, it has at most 141 bytes.
-pub fn show_line(
-    buf: &mut [u8],
-    answer: RunAnswer,
-    count: u32,
-    pc: i64,
-    function: usize,
-    depth: usize,
-    saved: usize,
-    c1: u32,
-    c2: u32,
-    c3: u32,
-) -> usize
+// What the line of a run says.
+pub struct Line {
+    pub answer: RunAnswer,
+    pub count: u32,
+    pub pc: i64,
+    pub function: usize,
+    pub depth: usize,
+    pub saved: usize,
+    pub c1: u32,
+    pub c2: u32,
+    pub c3: u32,
+}
+
+// From the front of the buffer. Whatever the numbers are, it has at most 141 bytes.
+pub fn show_line(buf: &mut [u8], line: Line) -> usize
     requires { ⌜ 160 ≤ length (now buf) ⌝ }
-    ensures { λ r. ⌜ output (now (buf .exit)) r ≡ atFront (showLine answer count pc function depth saved c1 c2 c3) (now (buf .entry)) ⌝ }
+    ensures { λ r. ⌜ output (now (buf .exit)) r ≡ atFront (lineText line) (now (buf .entry)) ⌝ }
     ensures { λ r. ⌜ r ≤ 160 ⌝ }
 {
+    let answer = line.answer;
     let number = outcome_detail(answer);
     let mut at = write_word(buf, 0, answer);
     at = write_field(buf, at, number as u64);
-    at = write_field(buf, at, count as u64);
+    at = write_field(buf, at, line.count as u64);
     at = write_byte(buf, at, b',');
-    at = write_signed(buf, at, pc);
-    at = write_field(buf, at, function as u64);
-    at = write_field(buf, at, depth as u64);
-    at = write_field(buf, at, saved as u64);
-    write_cells(buf, at, c1, c2, c3)
+    at = write_signed(buf, at, line.pc);
+    at = write_field(buf, at, line.function as u64);
+    at = write_field(buf, at, line.depth as u64);
+    at = write_field(buf, at, line.saved as u64);
+    write_cells(buf, at, line.c1, line.c2, line.c3)
 }
 
 // The line of a refused load.

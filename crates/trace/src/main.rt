@@ -2,28 +2,29 @@
 // The lines, and what must be printed, come from tests/model by tools/cases.py; tests/model/README.md has the formats.
 ghost use Prim.Native.Nat.{_≤_, _<_};
 ghost use lib.ListN.{length};
-use definition::Answer;
+use cases::answers;
+use cases::answers::Said;
+use cases::print;
 use libc::STDIN_FILENO;
 use progs::ExecutionContext;
 use progs::load;
 
-mod print;
+mod records;
 
 // One step, with the record of the statement before it.
 fn trace_step(
     context: ExecutionContext,
     file: &[u8],
     cells: &mut [u32],
-    saved: &mut [u32],
+    store: &mut [u32],
 ) -> ExecutionContext {
     let recorded = context.file;
-    print::fetched(view::read_statement(file, recorded, context.pc));
+    records::fetched(view::read_statement(file, recorded, context.pc));
     print::text(b" ");
-    let stepped = stepping::step_once(context, file, cells, saved);
+    let stepped = stepping::step_once(context, file, cells, store);
     let after = stepped.context;
     let answer = stepped.answer;
-    print::statement_answer(answer);
-    print::state(after, cells, saved);
+    answers::print_with_state(answers::of_statement(answer), after, cells, store);
     after
 }
 
@@ -32,20 +33,31 @@ fn enter(
     file: &[u8],
     function: i64,
     cells: &mut [u32],
-    saved: &mut [u32],
+    store: &mut [u32],
 ) -> ExecutionContext {
-    let entered = context.enter(file, function, cells, saved);
+    let entered = context.enter(file, function, cells, store);
     let after = entered.context;
     let answer = entered.answer;
-    print::answer(answer);
-    print::state(after, cells, saved);
+    answers::print_with_state(answers::of_answer(answer), after, cells, store);
     after
 }
 
-fn set_byte(file: &mut [u8], at: usize, b: u8) {
-    if at < file.len() {
-        file[at] = b;
-    }
+// The line `new LENGTH HEX`: the file is loaded.
+fn load_file(
+    text: &[u8],
+    at: usize,
+    file: &mut [u8],
+    cells: &mut [u32],
+    store: &[u32],
+) -> ExecutionContext
+    requires { ⌜ at ≤ length (now text) ⌝ }
+{
+    let n = cases::file(text, cases::next_word(text, at), file);
+    let loaded = load::load(&file[..n], cells, store);
+    let context = loaded.context;
+    let answer = loaded.answer;
+    answers::print(answers::of_answer(answer));
+    context
 }
 
 // The line at `at`: its first letter says which, then come a number and how many of the file's bytes are lent.
@@ -55,84 +67,38 @@ fn perform(
     context: ExecutionContext,
     file: &mut [u8],
     cells: &mut [u32],
-    saved: &mut [u32],
+    store: &mut [u32],
 ) -> ExecutionContext
     requires { ⌜ at < length (now text) ⌝ }
 {
-    let first = cases::next_word(text, at);
-    let second = cases::next_word(text, first);
-    let n = cases::signed(text, first);
-    let lent = cases::count(text, second, file.len());
-    let place = cases::unsigned(text, first) as usize;
-    let byte = (cases::unsigned(text, second) % 256) as u8;
+    let numbers = cases::numbers_at(text, at);
+    let n = numbers.first;
+    let lent = cases::least(numbers.value as usize, file.len());
     let recorded = context.file;
     match text[at] {
-        b's' => print::fetched(view::read_statement(&file[..lent], recorded, n)),
-        b'f' => print::found_function(view::read_function(&file[..lent], recorded, n)),
-        b'd' => print::found_definition(view::read_definition(&file[..lent], recorded, n)),
+        b's' => records::fetched(view::read_statement(&file[..lent], recorded, n)),
+        b'f' => records::found_function(view::read_function(&file[..lent], recorded, n)),
+        b'd' => records::found_definition(view::read_definition(&file[..lent], recorded, n)),
         b'b' => {
-            set_byte(file, place, byte);
-            print::answer(Answer::Accepted);
+            cases::set_byte(file, numbers.place, (numbers.value % 256) as u8);
+            answers::print(Said::Accepted(0));
         }
-        b'e' => return enter(context, &file[..lent], n, cells, saved),
-        _ => return trace_step(context, &file[..lent], cells, saved),
+        b'n' => return load_file(text, at, file, cells, store),
+        b'e' => return enter(context, &file[..lent], n, cells, store),
+        _ => return trace_step(context, &file[..lent], cells, store),
     }
     context
 }
 
-// The lines from `at` on, up to the next file, whose place is the result.
-fn perform_lines(
-    text: &[u8],
-    at: usize,
-    file: &mut [u8],
-    cells: &mut [u32],
-    saved: &mut [u32],
-) -> usize
-    requires { ⌜ at ≤ length (now text) ⌝ }
-    ensures { λ r. ⌜ at ≤ r ⌝ }
-    ensures { λ r. ⌜ r ≤ length (now (text .entry)) ⌝ }
-{
-    let loaded = load::load(file, cells, saved);
-    let mut context = loaded.context;
-    let answer = loaded.answer;
-    print::answer(answer);
-    print::text(b"\n");
-    let mut i = at;
-    while i < text.len() {
-        if text[i] == b'n' {
-            return i;
-        }
-        context = perform(text, i, context, file, cells, saved);
-        print::text(b"\n");
-        i = cases::next_line(text, i);
-    }
-    i
-}
-
-// The file at `at`, in the line `new LENGTH HEX`, and the lines after it.
-fn perform_file(
-    text: &[u8],
-    at: usize,
-    file: &mut [u8],
-    cells: &mut [u32],
-    saved: &mut [u32],
-) -> usize
-    requires { ⌜ at < length (now text) ⌝ }
-    ensures { λ r. ⌜ at < r ⌝ }
-    ensures { λ r. ⌜ r ≤ length (now (text .entry)) ⌝ }
-{
-    let size = cases::next_word(text, at);
-    let hex = cases::next_word(text, size);
-    let n = cases::count(text, size, file.len());
-    cases::bytes(text, hex, &mut file[..n]);
-    let lines = cases::next_line(text, at);
-    perform_lines(text, lines, &mut file[..n], cells, saved)
-}
-
-fn perform_files(text: &[u8], file: &mut [u8], cells: &mut [u32], saved: &mut [u32]) {
+// Each file is loaded before the lines about it; the state before the first is all zeros, as a refused load gives it.
+fn perform_lines(text: &[u8], file: &mut [u8], cells: &mut [u32], store: &mut [u32]) {
+    let none = load::load(b"", cells, store);
+    let mut context = none.context;
     let mut at = 0;
     while at < text.len() {
-        at = perform_file(text, at, file, cells, saved);
+        context = perform(text, at, context, file, cells, store);
+        print::end_line();
+        at = cases::next_line(text, at);
     }
 }
 
@@ -140,7 +106,7 @@ fn main() {
     let mut text = [0u8; 65536];
     let mut file = [0u8; 4096];
     let mut cells = [0u32; 64];
-    let mut saved = [0u32; 2048];
+    let mut store = [0u32; 2048];
     let n = io::read_full(STDIN_FILENO, &mut text);
-    perform_files(&text[..n], &mut file, &mut cells, &mut saved);
+    perform_lines(&text[..n], &mut file, &mut cells, &mut store);
 }

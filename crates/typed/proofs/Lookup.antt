@@ -1,38 +1,46 @@
--- Laws of the type lookup, down the definitions left. Assumes nothing.
-use Prim.Native.Nat.{ℕ, zero, suc, _+_, _-_, _%_}
-use mathlib.Core.Path.{_≡_, refl, sym, ap, _∙_}
-use mathlib.Core.List.{List}
-use mathlib.Core.Bool.{Bool, true, false, true≢false, cond}
-use native.Mathlib.Numerals.{sub-one}
+-- Laws of the type lookup, down the definitions of a part. Assumes nothing.
+use Prim.Native.Nat.{ℕ, _-_, _%_, _≤_, _<_}
+use mathlib.Core.Path.{_≡_, sym, ap, _∙_}
+use mathlib.Core.List.{List, _∷_}
+use mathlib.Core.Bool.{true, false}
+use native.Mathlib.Nat.{div-eq-of-lt}
+use native.Mathlib.Omega.{arith}
+use lib.ListN.{length, take, drop, length-drop}
+use lib.Seq.{take-all}
 use borrow.Author.Tests.{eq-eqb, ne-eqb}
-use lib.Dec.{eqb}
 use Rattle.definition.specs.declared.Definition.{Definition}
-use Rattle.definition.specs.File.{records}
+use Rattle.definition.specs.File.{records, readDefinition}
 use Rattle.definition.specs.Cells.{lookup, passes}
+use Rattle.functions.specs.Parts.{definitionsIn}
+use Rattle.functions.specs.PartLaws.{records-more, definition-local}
 use Rattle.typed.specs.declared.TypeCheck.the-variants.{Passed, Failed}
 use Rattle.typed.specs.Typing.{typeCheck}
 
-module _ (read : ℕ → Definition) (at left cell : ℕ) where
-  pub lookup-none : left ≡ 0 → 32768 ≡ lookup (records read 8 left at) cell
+-- the first of some definitions, as it was read
+module _ (d first : Definition) (rest : List Definition) (cell : ℕ) (e : d ≡ first) where
+  first-hit : d .offset ≡ cell → d .kind % 32768 ≡ lookup (first ∷ rest) cell
+  unfolding lookup
+  first-hit h = rw (← e, eq-eqb (d .offset) cell h)
+
+  first-miss : (d .offset ≡ cell → ⊥) → lookup rest cell ≡ lookup (first ∷ rest) cell
+  unfolding lookup
+  first-miss h = rw (← e, ne-eqb (d .offset) cell h)
+
+module _ (defs : List ℕ) (cell : ℕ) where
+  pub lookup-none : length defs < 8 → 32768 ≡ lookup (definitionsIn defs) cell
   unfolding lookup records
-  lookup-none e = rw e
+  lookup-none h = rw (div-eq-of-lt h)
 
-  module _ (d : Definition) (some : left ≡ 0 → ⊥) (e : d ≡ read at) where
-    pub lookup-hit : d .offset ≡ cell → d .kind % 32768 ≡ lookup (records read 8 left at) cell
-    unfolding lookup records
-    lookup-hit h = go left some
-      where
-        go : (n : ℕ) → (n ≡ 0 → ⊥) → d .kind % 32768 ≡ lookup (records read 8 n at) cell
-        go zero s = absurd (s refl)
-        go (suc n) s = rw (← e, eq-eqb (d .offset) cell h)
+  module _ (d : Definition) (some : 8 ≤ length defs) (e : d ≡ readDefinition defs 0) where
+    more : lookup (readDefinition defs 0 ∷ definitionsIn (drop 8 defs)) cell ≡ lookup (definitionsIn defs) cell
+    more = ap (λ (ds : List Definition). lookup ds cell) (sym (records-more readDefinition 8 definition-local (omega arith) defs some))
 
-    pub lookup-miss : (d .offset ≡ cell → ⊥) → lookup (records read 8 (left - 1) (at + 8)) cell ≡ lookup (records read 8 left at) cell
-    unfolding lookup records
-    lookup-miss h = go left some
-      where
-        go : (n : ℕ) → (n ≡ 0 → ⊥) → lookup (records read 8 (n - 1) (at + 8)) cell ≡ lookup (records read 8 n at) cell
-        go zero s = absurd (s refl)
-        go (suc n) s = rw (← e, ne-eqb (d .offset) cell h, sub-one)
+    pub lookup-hit : d .offset ≡ cell → d .kind % 32768 ≡ lookup (definitionsIn defs) cell
+    lookup-hit h = first-hit d _ _ cell e h ∙ more
+
+    -- `&defs[8..]` is what is behind the first definition
+    pub lookup-miss : (d .offset ≡ cell → ⊥) → lookup (definitionsIn (take (length defs - 8) (drop 8 defs))) cell ≡ lookup (definitionsIn defs) cell
+    lookup-miss h = rw (take-all (length defs - 8) (drop 8 defs) (omega (arith, length-drop 8 defs))) (first-miss d _ _ cell e h ∙ more)
 
 -- ---- the type check
 
@@ -45,6 +53,6 @@ module _ (definitions : List Definition) (want cell : ℕ) where
   unfolding typeCheck
   type-failed h = rw h
 
-pub type-none : (read : ℕ → Definition) (at left want cell : ℕ) → left ≡ 0 → Passed ≡ typeCheck (records read 8 left at) want cell
-unfolding typeCheck lookup records passes
-type-none read at left want cell e = rw e
+pub type-none : (defs : List ℕ) (want cell : ℕ) → length defs ≡ 0 → Passed ≡ typeCheck (definitionsIn defs) want cell
+unfolding typeCheck passes
+type-none defs want cell e = rw (← lookup-none defs cell (omega arith))

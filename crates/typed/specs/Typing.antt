@@ -1,18 +1,15 @@
--- TYPED CELLS by the numbers that the code takes: where the file has its global definitions, how many, and its count of cells.
+-- TYPED CELLS by what the code takes: the part of the file that has the global definitions, and the file's count of cells.
 use Prim.Native.Nat.{ℕ}
 use mathlib.Core.List.{List}
 use mathlib.Core.Bool.{cond}
 use Rattle.definition.specs.declared.Definition.{Definition}
-use Rattle.definition.specs.File.{records, readDefinition}
+use Rattle.functions.specs.Parts.{definitionsIn}
 use Rattle.definition.specs.Cells.{Typing, lookup, passes}
 use Rattle.typed.specs.declared.TypeCheck.{TypeCheck}
 use Rattle.typed.specs.declared.TypeCheck.the-variants.{Passed, Failed}
 
-abbrev pub definitionsIn : List ℕ → ℕ → ℕ → List Definition
-definitionsIn file defs ndefs = records (readDefinition file) 8 ndefs defs
-
-abbrev pub typing : List ℕ → ℕ → ℕ → ℕ → Typing
-typing file defs ndefs count = record { definitions = definitionsIn file defs ndefs; count = count }
+abbrev pub typing : List ℕ → ℕ → Typing
+typing defs count = record { definitions = definitionsIn defs; count = count }
 
 -- the test of refusal 16
 unfoldable pub typeCheck : List Definition → ℕ → ℕ → TypeCheck

@@ -1,12 +1,14 @@
 // Typed access to cells. A refusal is its number here, and 0 stands for none.
 ghost use mathlib.Core.Path.{_≡_};
-ghost use Prim.Native.Nat.{_+_, _-_, _*_, _≤_, _<_};
+ghost use Prim.Native.Nat.{_≤_};
 ghost use lib.ListN.{length};
 ghost use Rattle.definition.specs.Checks.{judge};
-ghost use Rattle.definition.specs.File.{records, readDefinition};
+ghost use Rattle.functions.specs.Parts.{definitionsIn};
 ghost use Rattle.definition.specs.Cells.{lookup, scalar, passes, cellAccess, vectorAccess, access, mustBeNatural, readAccess};
-ghost use Rattle.typed.specs.Typing.{typing, definitionsIn, typeCheck};
+ghost use Rattle.typed.specs.Typing.{typing, typeCheck};
 ghost use Rattle.typed.specs.Checking.{threeRefusal, moveRefusal};
+use definition::DEFINITION_SIZE;
+use definition::SAVE_FLAG;
 use functions::reads;
 
 // The types of definitions and operands.
@@ -23,7 +25,7 @@ pub const FIELD: u16 = 5;
 pub const FUNCTION: u16 = 6;
 
 // What `find` gives for a cell without a definition: no type, since bit 15 of a definition's type is its save flag.
-pub const UNTYPED: u16 = 32768;
+pub const UNTYPED: u16 = SAVE_FLAG;
 
 // What a type check answers.
 pub enum TypeCheck {
@@ -31,19 +33,18 @@ pub enum TypeCheck {
     Failed,
 }
 
-// The type of the first definition of a cell, of the `left` ones from byte `at` on.
-pub fn find(file: &[u8], at: usize, left: usize, cell: usize) -> u16
-    requires { ⌜ 8 * left ≤ length (now file) - at ⌝ }
-    ensures { λ r. ⌜ r ≡ lookup (records (readDefinition (now (file .entry))) 8 left at) cell ⌝ }
+// The type of the first definition of a cell.
+pub fn find(defs: &[u8], cell: usize) -> u16
+    ensures { λ r. ⌜ r ≡ lookup (definitionsIn (now (defs .entry))) cell ⌝ }
 {
-    if left == 0 {
+    if defs.len() < DEFINITION_SIZE {
         return UNTYPED;
     }
-    let def = reads::read_definition(file, at);
+    let def = reads::read_definition(defs, 0);
     if def.offset as usize == cell {
-        def.kind % 32768
+        def.kind % SAVE_FLAG
     } else {
-        find(file, at + 8, left - 1, cell)
+        find(&defs[DEFINITION_SIZE..], cell)
     }
 }
 
@@ -60,14 +61,13 @@ fn passes(t: u16, want: u16) -> bool
 }
 
 // Where there are no definitions nothing is looked up.
-pub fn type_check(file: &[u8], defs: usize, ndefs: usize, cell: usize, want: u16) -> TypeCheck
-    requires { ⌜ 8 * ndefs ≤ length (now file) - defs ⌝ }
-    ensures { λ r. ⌜ r ≡ typeCheck (definitionsIn (now (file .entry)) defs ndefs) want cell ⌝ }
+pub fn type_check(defs: &[u8], cell: usize, want: u16) -> TypeCheck
+    ensures { λ r. ⌜ r ≡ typeCheck (definitionsIn (now (defs .entry))) want cell ⌝ }
 {
-    if ndefs == 0 {
+    if defs.len() == 0 {
         return TypeCheck::Passed;
     }
-    if passes(find(file, defs, ndefs, cell), want) {
+    if passes(find(defs, cell), want) {
         TypeCheck::Passed
     } else {
         TypeCheck::Failed
@@ -75,18 +75,10 @@ pub fn type_check(file: &[u8], defs: usize, ndefs: usize, cell: usize, want: u16
 }
 
 // A typed access of one cell.
-pub fn check_cell(
-    file: &[u8],
-    defs: usize,
-    ndefs: usize,
-    count: usize,
-    want: u16,
-    cell: usize,
-) -> u8
-    requires { ⌜ 8 * ndefs ≤ length (now file) - defs ⌝ }
-    ensures { λ r. ⌜ r ≡ judge (cellAccess (typing (now (file .entry)) defs ndefs count) want cell) ⌝ }
+pub fn check_cell(defs: &[u8], count: usize, want: u16, cell: usize) -> u8
+    ensures { λ r. ⌜ r ≡ judge (cellAccess (typing (now (defs .entry)) count) want cell) ⌝ }
 {
-    let t = type_check(file, defs, ndefs, cell, want);
+    let t = type_check(defs, cell, want);
     match t {
         TypeCheck::Failed => return 16,
         TypeCheck::Passed => {
@@ -99,44 +91,33 @@ pub fn check_cell(
 }
 
 // The first cell isn't looked up as a vector too: what passes for a float passes for a vector.
-fn check_vector(file: &[u8], defs: usize, ndefs: usize, count: usize, cell: usize) -> u8
-    requires { ⌜ 8 * ndefs ≤ length (now file) - defs ⌝ }
-    ensures { λ r. ⌜ r ≡ judge (vectorAccess (typing (now (file .entry)) defs ndefs count) cell) ⌝ }
+fn check_vector(defs: &[u8], count: usize, cell: usize) -> u8
+    ensures { λ r. ⌜ r ≡ judge (vectorAccess (typing (now (defs .entry)) count) cell) ⌝ }
 {
-    let x = check_cell(file, defs, ndefs, count, FLOAT, cell);
+    let x = check_cell(defs, count, FLOAT, cell);
     if x != 0 {
         return x;
     }
-    let y = check_cell(file, defs, ndefs, count, FLOAT, cell + 1);
+    let y = check_cell(defs, count, FLOAT, cell + 1);
     if y != 0 {
         return y;
     }
-    check_cell(file, defs, ndefs, count, FLOAT, cell + 2)
+    check_cell(defs, count, FLOAT, cell + 2)
 }
 
 // A typed access.
-pub fn check_access(
-    file: &[u8],
-    defs: usize,
-    ndefs: usize,
-    count: usize,
-    want: u16,
-    cell: usize,
-) -> u8
-    requires { ⌜ 8 * ndefs ≤ length (now file) - defs ⌝ }
-    ensures { λ r. ⌜ r ≡ judge (access (typing (now (file .entry)) defs ndefs count) want cell) ⌝ }
+pub fn check_access(defs: &[u8], count: usize, want: u16, cell: usize) -> u8
+    ensures { λ r. ⌜ r ≡ judge (access (typing (now (defs .entry)) count) want cell) ⌝ }
 {
     if want == VECTOR {
-        return check_vector(file, defs, ndefs, count, cell);
+        return check_vector(defs, count, cell);
     }
-    check_cell(file, defs, ndefs, count, want, cell)
+    check_cell(defs, count, want, cell)
 }
 
 // Three typed accesses in order.
 pub fn check_three(
-    file: &[u8],
-    defs: usize,
-    ndefs: usize,
+    defs: &[u8],
     count: usize,
     ta: u16,
     a: usize,
@@ -145,18 +126,17 @@ pub fn check_three(
     tc: u16,
     c: usize,
 ) -> u8
-    requires { ⌜ 8 * ndefs ≤ length (now file) - defs ⌝ }
-    ensures { λ r. ⌜ r ≡ threeRefusal (typing (now (file .entry)) defs ndefs count) ta a tb b tc c ⌝ }
+    ensures { λ r. ⌜ r ≡ threeRefusal (typing (now (defs .entry)) count) ta a tb b tc c ⌝ }
 {
-    let x = check_access(file, defs, ndefs, count, ta, a);
+    let x = check_access(defs, count, ta, a);
     if x != 0 {
         return x;
     }
-    let y = check_access(file, defs, ndefs, count, tb, b);
+    let y = check_access(defs, count, tb, b);
     if y != 0 {
         return y;
     }
-    check_access(file, defs, ndefs, count, tc, c)
+    check_access(defs, count, tc, c)
 }
 
 // Entity and field numbers must not be negative when they are read.
@@ -168,19 +148,17 @@ pub fn must_be_natural(t: u16) -> bool
 
 // A read of a value: refused 17 if it is negative and must not be.
 pub fn check_read(
-    file: &[u8],
-    defs: usize,
-    ndefs: usize,
+    defs: &[u8],
     count: usize,
     cells: &[u32],
     natural: bool,
     t: u16,
     cell: usize,
 ) -> u8
-    requires { ⌜ (8 * ndefs ≤ length (now file) - defs) × (count ≤ length (now cells)) ⌝ }
-    ensures { λ r. ⌜ r ≡ judge (readAccess (typing (now (file .entry)) defs ndefs count) natural t cell (now (cells .entry))) ⌝ }
+    requires { ⌜ count ≤ length (now cells) ⌝ }
+    ensures { λ r. ⌜ r ≡ judge (readAccess (typing (now (defs .entry)) count) natural t cell (now (cells .entry))) ⌝ }
 {
-    let r = check_access(file, defs, ndefs, count, t, cell);
+    let r = check_access(defs, count, t, cell);
     if r != 0 {
         return r;
     }
@@ -192,9 +170,7 @@ pub fn check_read(
 
 // A read of a value, then an access of the cell that the statement writes.
 pub fn check_move(
-    file: &[u8],
-    defs: usize,
-    ndefs: usize,
+    defs: &[u8],
     count: usize,
     cells: &[u32],
     natural: bool,
@@ -203,12 +179,12 @@ pub fn check_move(
     tb: u16,
     b: usize,
 ) -> u8
-    requires { ⌜ (8 * ndefs ≤ length (now file) - defs) × (count ≤ length (now cells)) ⌝ }
-    ensures { λ r. ⌜ r ≡ moveRefusal (typing (now (file .entry)) defs ndefs count) natural ta a tb b (now (cells .entry)) ⌝ }
+    requires { ⌜ count ≤ length (now cells) ⌝ }
+    ensures { λ r. ⌜ r ≡ moveRefusal (typing (now (defs .entry)) count) natural ta a tb b (now (cells .entry)) ⌝ }
 {
-    let r = check_read(file, defs, ndefs, count, cells, natural, ta, a);
+    let r = check_read(defs, count, cells, natural, ta, a);
     if r != 0 {
         return r;
     }
-    check_access(file, defs, ndefs, count, tb, b)
+    check_access(defs, count, tb, b)
 }

@@ -10,7 +10,8 @@ use Rattle.definition.specs.declared.Answer.the-variants as answer
 use Rattle.definition.specs.declared.Definition.{Definition}
 use Rattle.definition.specs.declared.FileRecord.{FileRecord}
 use Rattle.definition.specs.declared.FunctionDef.{FunctionDef}
-use Rattle.definition.specs.File.{lumpFits, contentsAt, noFunction}
+use Rattle.definition.specs.declared.Lump.{Lump}
+use Rattle.definition.specs.File.{lumpFits, recordsIn, readDefinition, contentsAt, noFunction}
 use Rattle.definition.specs.Statements.{placeOf}
 use Rattle.functions.specs.declared.fetch.Fetched.{Fetched}
 use Rattle.functions.specs.declared.fetch.Fetched.the-variants as fetch
@@ -45,10 +46,16 @@ functionIn file r id =
 abbrev pub noDefinition : Definition
 noDefinition = record { kind = 0; offset = 0; name = 0 }
 
--- document 01 has no number for a definition that isn't there
-unfoldable pub definitionIn : List ℕ → FileRecord → ℤ → FoundDefinition
-definitionIn file r index =
+-- the definitions of a lump; document 01 has no number for one that isn't there
+unfoldable pub definitionAt : List ℕ → Lump → ℤ → FoundDefinition
+definitionAt file l index =
     cond
-    (lumpFits 8 (length file) (r .globaldefs))
-    (recordAt definition.At definition.NoDefinition noDefinition (contentsAt r file .globaldefs) index)
+    (lumpFits 8 (length file) l)
+    (recordAt definition.At definition.NoDefinition noDefinition (recordsIn (readDefinition file) 8 l) index)
     (definition.Refused 4)
+
+abbrev pub definitionIn : List ℕ → FileRecord → ℤ → FoundDefinition
+definitionIn file r index = definitionAt file (r .globaldefs) index
+
+abbrev pub fieldIn : List ℕ → FileRecord → ℤ → FoundDefinition
+fieldIn file r index = definitionAt file (r .fielddefs) index

@@ -4,7 +4,7 @@
 use std::process::ExitCode;
 
 use host::assemble::{statement, Assembly, Function};
-use host::{Handover, Machine, Refusal, CELLS, SAVED_STORE};
+use host::{Caller, Handover, Machine, Refusal, CELLS, SAVED_STORE};
 
 /// Types of definitions.
 const FLOAT: u16 = 2;
@@ -108,7 +108,7 @@ impl World {
     }
 
     /// Carries out what the machine hands over: arguments are in the cells from 4 on, results go to cell 1.
-    fn answer(&mut self, handover: Handover, machine: &mut Machine) -> Result<(), String> {
+    fn answer(&mut self, handover: Handover, machine: &mut Caller<'_>) -> Result<(), String> {
         let done = match handover {
             Handover::Builtin(7) => machine.write_float(1, self.random()),
             Handover::Builtin(23) => machine.read(4).map(|number| {

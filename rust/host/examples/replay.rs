@@ -9,7 +9,7 @@ use std::num::{IntErrorKind, ParseIntError};
 use std::process::ExitCode;
 use std::thread;
 
-use host::{Handover, Machine, Outcome, Refusal, RunOutcome};
+use host::{Handover, LoadError, Machine, Outcome, Refusal, RunOutcome};
 
 /// The cells and the saved store that are lent before any `lend`.
 const CELLS: u32 = 64;
@@ -109,12 +109,12 @@ impl Replay {
     }
 
     /// What a call answers and leaves, in words.
-    fn call(&mut self, call: Call) -> String {
+    fn call(&mut self, call: Call) -> Result<String, LoadError> {
         if !self.machine.loaded() && !matches!(call, Call::Load(_)) {
-            return "no state".to_string();
+            return Ok("no state".to_string());
         }
-        let answer = operate(&mut self.machine, call);
-        format!("{answer} | {}", self.state())
+        let answer = operate(&mut self.machine, call)?;
+        Ok(format!("{answer} | {}", self.state()))
     }
 
     /// Position, function, depth, saved and the four digests.
@@ -145,17 +145,19 @@ impl Replay {
     }
 }
 
-/// One of the machine's own operations, and its answer in words.
-fn operate(machine: &mut Machine, call: Call) -> String {
+/// One of the machine's own operations, and its answer in words. A load that isn't refused and yet not accepted is an
+/// error: no list of calls has an answer for it.
+fn operate(machine: &mut Machine, call: Call) -> Result<String, LoadError> {
     let accepted = |answer: Result<(), Refusal>| match answer {
         Ok(()) => "ok 0".to_string(),
         Err(refusal) => refused(refusal),
     };
-    match call {
+    Ok(match call {
         // The number of entities has no use before the machine has entity fields.
         Call::Load(_entities) => match machine.load() {
             Ok(()) => "ok".to_string(),
-            Err(refusal) => refused(refusal),
+            Err(LoadError::Refused(refusal)) => refused(refusal),
+            Err(error) => return Err(error),
         },
         Call::Enter(function) => accepted(machine.enter(function)),
         Call::Carry => accepted(machine.carry_on()),
@@ -180,7 +182,7 @@ fn operate(machine: &mut Machine, call: Call) -> String {
             };
             format!("{word} {}", run.count)
         }
-    }
+    })
 }
 
 fn refused(refusal: Refusal) -> String {
@@ -265,7 +267,10 @@ pub fn replay(program: Vec<u8>, input: impl BufRead, mut output: impl Write) -> 
         }
         match parse(line) {
             Some(Line::Change(change)) => replay.change(change),
-            Some(Line::Call(call)) => writeln!(output, "{line} => {}", replay.call(call))?,
+            Some(Line::Call(call)) => {
+                let answer = replay.call(call).map_err(io::Error::other)?;
+                writeln!(output, "{line} => {answer}")?;
+            }
             None => {
                 let message = format!("line {} is no call: {line}", number + 1);
                 return Err(io::Error::new(io::ErrorKind::InvalidData, message));

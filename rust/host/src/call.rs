@@ -2,14 +2,16 @@
 
 use std::error::Error;
 use std::fmt;
+use std::thread;
 
+use crate::caller::Caller;
 use crate::machine::{Handover, Machine, RunOutcome};
 use crate::refusal::Refusal;
 
 /// Why a call did not end by itself.
 #[derive(Clone, Copy, Debug, PartialEq, Eq, Hash)]
 pub enum Cause<E> {
-    /// The entry, a statement or a carry on was refused.
+    /// The entry or a statement was refused.
     Refused(Refusal),
     /// The limit's statements were completed, and the function hadn't returned.
     Spent,
@@ -17,21 +19,17 @@ pub enum Cause<E> {
     Host(E),
 }
 
-/// A call that did not end by itself. All that it entered has been left, unless [`CallError::abandon`] says
-/// otherwise.
+/// A call that did not end by itself. All that it entered has been left.
 #[derive(Clone, Copy, Debug, PartialEq, Eq, Hash)]
 pub struct CallError<E> {
     /// Why it ended.
     pub cause: Cause<E>,
-    /// How many statements were completed.
+    /// How many statements were completed, hand-overs included.
     pub count: u32,
-    /// The position where it ended, before anything was left.
+    /// The position where it ended, before anything was left; where the host gave it up, of what was handed over.
     pub position: i64,
-    /// The function in which it ended.
+    /// The function in which that is.
     pub function: usize,
-    /// Why what was entered could not be left, if it couldn't. This takes a host that changed the program's bytes,
-    /// the buffers or the context during the call, or left more than the call had entered.
-    pub abandon: Option<Refusal>,
 }
 
 impl<E: fmt::Display> fmt::Display for CallError<E> {
@@ -45,24 +43,58 @@ impl<E: fmt::Display> fmt::Display for CallError<E> {
             f,
             ", after {} statements, at position {} in function {}",
             self.count, self.position, self.function
-        )?;
-        match self.abandon {
-            Some(refusal) => write!(f, "; what was entered could not be left: {refusal}"),
-            None => Ok(()),
-        }
+        )
     }
 }
 
 impl<E: fmt::Debug + fmt::Display> Error for CallError<E> {}
 
+/// A position, and the function that it is in.
+#[derive(Clone, Copy, Debug)]
+pub(crate) struct Place {
+    pub position: i64,
+    pub function: usize,
+}
+
+impl Place {
+    fn ended<E>(self, cause: Cause<E>, count: u32) -> CallError<E> {
+        CallError {
+            cause,
+            count,
+            position: self.position,
+            function: self.function,
+        }
+    }
+}
+
+/// A function that was entered. However the call of it ends, by a panic of the host's closure too, it is left.
+struct Entered<'a> {
+    machine: &'a mut Machine,
+    /// The depth before the entry.
+    depth: usize,
+}
+
+impl Drop for Entered<'_> {
+    fn drop(&mut self) {
+        if self.machine.depth() == self.depth {
+            return;
+        }
+        // What was entered has local cells that can be restored, since the entry was accepted and nothing that a closure
+        // has can change the file or the context: nothing is there to refuse.
+        let left = self.machine.abandon(self.depth as i64);
+        assert!(left.is_ok() || thread::panicking(), "{left:?}");
+    }
+}
+
 impl Machine {
     /// Enters a function, runs it to its end, and gives how many statements that took.
     ///
-    /// What is handed over goes to `host`, which carries it out on the machine; then the run goes on after it. `host`
+    /// What is handed over goes to `host`, which carries it out through a [`Caller`]; then the run goes on after it. `host`
     /// may call functions of the program itself, and may give the call up with an error of its own. `limit`, 1 to
     /// 99,999, is for the whole call: what runs inside, `host`'s own calls apart, completes at most so many
-    /// statements. However the call ends, the call depth is again what it was, and so are the position, the current
-    /// function and the local cells of all that was entered.
+    /// statements, and what `host` carried out counts as one. However the call ends, by a panic of `host` too, the call
+    /// depth is again what it was, and so are the position, the current function and the local cells of all that was
+    /// entered.
     ///
     /// ```
     /// use host::assemble::{Assembly, Function};
@@ -86,11 +118,12 @@ impl Machine {
     ///     Handover::Builtin(7) => machine.write_float(1, 0.25).map_err(|refusal| refusal.to_string()),
     ///     other => Err(format!("{other:?} isn't known here")),
     /// })?;
-    /// assert_eq!(count, 2);
+    /// assert_eq!(count, 3);
     /// assert_eq!(machine.read_float(1)?, 0.5);
     ///
     /// let error = machine.call(1, 1_000, |_, _| Err("no builtins today")).unwrap_err();
     /// assert_eq!(error.cause, Cause::Host("no builtins today"));
+    /// assert_eq!((error.count, error.position, error.function), (0, 1, 1));
     /// assert_eq!(machine.depth(), 0);
     /// # Ok::<(), Box<dyn std::error::Error>>(())
     /// ```
@@ -98,28 +131,24 @@ impl Machine {
         &mut self,
         function: i64,
         limit: i64,
-        mut host: impl FnMut(Handover, &mut Machine) -> Result<(), E>,
+        mut host: impl FnMut(Handover, &mut Caller<'_>) -> Result<(), E>,
     ) -> Result<u32, CallError<E>> {
-        let before = self.depth() as i64;
-        let mut count = 0;
-        let entered = self.enter(function);
-        let ended = match entered {
-            Ok(()) => self.run_through(before, limit, &mut count, &mut host),
-            Err(refusal) => Err(Cause::Refused(refusal)),
+        let depth = self.depth();
+        let place = self.place();
+        self.enter(function)
+            .map_err(|refusal| place.ended(Cause::Refused(refusal), 0))?;
+        let entered = Entered {
+            machine: self,
+            depth,
         };
-        let Err(cause) = ended else {
-            return Ok(count);
-        };
-        let (position, function) = (self.position(), self.function());
-        // Where the entry was refused there is nothing to leave.
-        let abandon = entered.ok().and_then(|()| self.abandon(before).err());
-        Err(CallError {
-            cause,
-            count,
-            position,
-            function,
-            abandon,
-        })
+        entered.machine.run_through(depth as i64, limit, &mut host)
+    }
+
+    fn place(&self) -> Place {
+        Place {
+            position: self.position(),
+            function: self.function(),
+        }
     }
 
     /// Runs until the depth is `target`, through all that is handed over, and counts the completed statements.
@@ -127,22 +156,44 @@ impl Machine {
         &mut self,
         target: i64,
         limit: i64,
-        count: &mut u32,
-        host: &mut impl FnMut(Handover, &mut Machine) -> Result<(), E>,
-    ) -> Result<(), Cause<E>> {
+        host: &mut impl FnMut(Handover, &mut Caller<'_>) -> Result<(), E>,
+    ) -> Result<u32, CallError<E>> {
+        let mut count = 0;
         loop {
-            // What was handed over came before the limit's last statement, so that something is left.
-            let run = self.run(target, limit - i64::from(*count));
-            *count += run.count;
-            match run.outcome {
-                RunOutcome::Ended => return Ok(()),
-                RunOutcome::Spent => return Err(Cause::Spent),
-                RunOutcome::Refused(refusal) => return Err(Cause::Refused(refusal)),
-                RunOutcome::HandedOver(handover) => {
-                    host(handover, self).map_err(Cause::Host)?;
-                    self.carry_on().map_err(Cause::Refused)?;
+            let run = self.run(target, limit - i64::from(count));
+            count += run.count;
+            let place = self.place();
+            let handover = match run.outcome {
+                RunOutcome::Ended => return Ok(count),
+                RunOutcome::Spent => return Err(place.ended(Cause::Spent, count)),
+                RunOutcome::Refused(refusal) => {
+                    return Err(place.ended(Cause::Refused(refusal), count))
                 }
+                RunOutcome::HandedOver(handover) => handover,
+            };
+            // Before the host writes its result, which may take the place of the function's number: a Call through cell
+            // 1, 2 or 3 would then be refused 27.
+            self.carry_on()
+                .map_err(|refusal| place.ended(Cause::Refused(refusal), count))?;
+            self.ask(handover, place, host)
+                .map_err(|error| place.ended(Cause::Host(error), count))?;
+            count += 1;
+            if i64::from(count) == limit {
+                return Err(self.place().ended(Cause::Spent, count));
             }
         }
+    }
+
+    /// Has the host carry out what was handed over. Through what it is given it can't change the context.
+    fn ask<E>(
+        &mut self,
+        handover: Handover,
+        place: Place,
+        host: &mut impl FnMut(Handover, &mut Caller<'_>) -> Result<(), E>,
+    ) -> Result<(), E> {
+        let before = cfg!(debug_assertions).then(|| *self.context());
+        let answered = host(handover, &mut Caller::new(self, place));
+        debug_assert!(before.is_none_or(|before| before == *self.context()));
+        answered
     }
 }

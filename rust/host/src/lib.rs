@@ -7,7 +7,8 @@
 //! document 01 with its sentence. [`Machine::call`] does what a server does with a function: it enters, runs, has
 //! the host answer what is handed over, and leaves the machine at the depth where it was, however the call went.
 //!
-//! What the library promises is proved. What this crate does around it is not: it is Rust, tested.
+//! What the library promises is proved. What this crate does around it is not: it is Rust, tested. A load checks what
+//! both stand on: that the library is the crate's own, and the processor's floating-point mode ([`LoadError`]).
 //!
 //! ```
 //! use host::assemble::{Assembly, Function};
@@ -30,7 +31,7 @@
 //! assert_eq!(run.outcome, host::RunOutcome::Ended);
 //! assert_eq!(run.count, 2);
 //! assert_eq!(f32::from_bits(machine.read(1)?), 3.75);
-//! # Ok::<(), host::Refusal>(())
+//! # Ok::<(), Box<dyn std::error::Error>>(())
 //! ```
 
 #![deny(missing_docs)]
@@ -42,7 +43,10 @@ compile_error!("the static library is compiled for x86-64 Linux");
 
 pub mod assemble;
 mod call;
+mod caller;
 mod context;
+mod float_mode;
+mod layout;
 #[allow(unsafe_code)]
 mod library;
 mod machine;
@@ -50,8 +54,15 @@ mod program;
 mod refusal;
 
 pub use call::{CallError, Cause};
+pub use caller::Caller;
 pub use context::{Context, FileRecord, Lump, StackFrame, FRAMES};
-pub use library::Reply;
+pub use float_mode::{check_float_mode, FloatModeError};
+pub use layout::LayoutError;
 pub use machine::{Handover, Machine, Outcome, Run, RunOutcome, CELLS, SAVED_STORE};
 pub use program::{Definition, Function, Program};
-pub use refusal::Refusal;
+pub use refusal::{LoadError, Refusal};
+
+/// The Rust of docs/EMBEDDING.md, compiled and run with the tests.
+#[cfg(doctest)]
+#[doc = include_str!("../../../docs/EMBEDDING.md")]
+struct Embedding;

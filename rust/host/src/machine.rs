@@ -1,8 +1,9 @@
 //! The machine: lent buffers, the context, and the operations.
 
 use crate::context::{Context, StackFrame};
-use crate::library::{self, Reply};
-use crate::refusal::Refusal;
+use crate::float_mode::check_float_mode;
+use crate::library::{self, Answer, Reply};
+use crate::refusal::{LoadError, Refusal};
 
 /// The most cells that a file may have; so many are enough to lend to any file.
 pub const CELLS: usize = 32_768;
@@ -10,7 +11,10 @@ pub const CELLS: usize = 32_768;
 /// The least length of the saved store; no operation writes past it.
 pub const SAVED_STORE: usize = 2_048;
 
-/// What is handed to the host, with its number. The position stays at the statement until [`Machine::carry_on`].
+/// What is handed to the host, with its number.
+///
+/// After [`Machine::run`] or [`Machine::statement`] the position stays at the statement until [`Machine::carry_on`].
+/// [`Machine::call`] has carried on before it asks the host.
 #[derive(Clone, Copy, Debug, PartialEq, Eq, Hash)]
 pub enum Handover {
     /// A Call of a builtin: 1 to 78. Its arguments are in the cells from 4 on, three to each; its result goes to
@@ -71,15 +75,15 @@ pub struct Run {
 /// machine.write(40, 7)?;
 /// assert_eq!(machine.read(40), Ok(7));
 /// assert_eq!(machine.read(64), Err(Refusal::new(15)));
-/// # Ok::<(), Refusal>(())
+/// # Ok::<(), Box<dyn std::error::Error>>(())
 /// ```
 #[derive(Clone, Debug)]
 pub struct Machine {
     program: Vec<u8>,
     cells: Vec<u32>,
     saved: Vec<u32>,
-    context: Context,
-    loaded: bool,
+    /// The context, with the answer to the operation that it comes from.
+    reply: Reply,
 }
 
 impl Machine {
@@ -91,8 +95,7 @@ impl Machine {
             program,
             cells,
             saved,
-            context: Context::default(),
-            loaded: false,
+            reply: Reply::default(),
         }
     }
 
@@ -100,13 +103,15 @@ impl Machine {
 
     /// Checks the file, fills the cells with the file's own, and starts at the beginning.
     ///
-    /// Cells past the file's count stay as they are, and so does the saved store. A refused load changes nothing:
-    /// what an earlier one made stands.
-    pub fn load(&mut self) -> Result<(), Refusal> {
+    /// Cells past the file's count stay as they are, and so does the saved store. A load that isn't accepted changes
+    /// nothing: what an earlier one made stands. Beside the file it checks what it stands on: the library that is
+    /// linked, and this thread's floating-point mode.
+    pub fn load(&mut self) -> Result<(), LoadError> {
+        library::layout().map_err(|error| LoadError::Library(error.clone()))?;
+        check_float_mode().map_err(LoadError::FloatMode)?;
         let reply = library::load(&self.program, &mut self.cells, &self.saved);
-        accepted(&reply)?;
-        self.context = reply.context;
-        self.loaded = true;
+        accepted(reply.answer).map_err(LoadError::Refused)?;
+        self.reply = reply;
         Ok(())
     }
 
@@ -115,30 +120,30 @@ impl Machine {
     /// Its arguments are copied from the cells from 4 on, three to each, to its local cells. At most 31 functions can be
     /// entered and not left.
     pub fn enter(&mut self, function: i64) -> Result<(), Refusal> {
-        let reply = library::enter(
-            &self.context,
+        library::enter(
+            &mut self.reply,
             &self.program,
             function,
             &mut self.cells,
             &mut self.saved,
         );
-        self.keep(&reply)
+        accepted(self.reply.answer)
     }
 
     /// Carries out the statement at the position.
     pub fn statement(&mut self) -> Outcome {
-        let reply = library::statement(
-            &self.context,
+        library::statement(
+            &mut self.reply,
             &self.program,
             &mut self.cells,
             &mut self.saved,
         );
-        self.context = reply.context;
-        match reply.word {
+        let Answer { word, detail, .. } = self.reply.answer;
+        match word {
             library::ACCEPTED => Outcome::Completed,
-            library::BUILTIN => Outcome::HandedOver(Handover::Builtin(reply.detail)),
-            library::OPCODE => Outcome::HandedOver(Handover::Opcode(reply.detail)),
-            _ => Outcome::Refused(Refusal::new(reply.detail)),
+            library::BUILTIN => Outcome::HandedOver(Handover::Builtin(detail)),
+            library::OPCODE => Outcome::HandedOver(Handover::Opcode(detail)),
+            _ => Outcome::Refused(Refusal::new(detail)),
         }
     }
 
@@ -149,71 +154,72 @@ impl Machine {
     /// both. After a refusal, or where the limit is spent, the functions that were entered still are:
     /// [`Machine::abandon`] leaves them.
     pub fn run(&mut self, target: i64, limit: i64) -> Run {
-        let reply = library::run(
-            &self.context,
+        library::run(
+            &mut self.reply,
             &self.program,
             target,
             limit,
             &mut self.cells,
             &mut self.saved,
         );
-        self.context = reply.context;
-        let outcome = match reply.word {
+        let Answer {
+            word,
+            detail,
+            count,
+        } = self.reply.answer;
+        let outcome = match word {
             library::ENDED => RunOutcome::Ended,
             library::SPENT => RunOutcome::Spent,
-            library::BUILTIN => RunOutcome::HandedOver(Handover::Builtin(reply.detail)),
-            library::OPCODE => RunOutcome::HandedOver(Handover::Opcode(reply.detail)),
-            _ => RunOutcome::Refused(Refusal::new(reply.detail)),
+            library::BUILTIN => RunOutcome::HandedOver(Handover::Builtin(detail)),
+            library::OPCODE => RunOutcome::HandedOver(Handover::Opcode(detail)),
+            _ => RunOutcome::Refused(Refusal::new(detail)),
         };
-        Run {
-            outcome,
-            count: reply.count,
-        }
+        Run { outcome, count }
     }
 
-    /// Goes past the statement that was handed over. Where the one at the position would not be handed over, it is
-    /// refused 27.
+    /// Goes past the statement that was handed over. Where the one at the position would not be handed over, with the
+    /// cells as they now are, it is refused 27: a host that writes a builtin's result first may have overwritten the
+    /// cell that named the builtin.
     pub fn carry_on(&mut self) -> Result<(), Refusal> {
-        let reply = library::carry_on(&self.context, &self.program, &self.cells, &self.saved);
-        self.keep(&reply)
+        library::carry_on(&mut self.reply, &self.program, &self.cells, &self.saved);
+        accepted(self.reply.answer)
     }
 
     /// Leaves functions, the innermost first, until the call depth is `depth`. Nothing is returned from them.
     pub fn abandon(&mut self, depth: i64) -> Result<(), Refusal> {
-        let reply = library::abandon(
-            &self.context,
+        library::abandon(
+            &mut self.reply,
             &self.program,
             depth,
             &mut self.cells,
             &self.saved,
         );
-        self.keep(&reply)
+        accepted(self.reply.answer)
     }
 
     /// The 32 bits of a cell.
     pub fn read(&self, address: i64) -> Result<u32, Refusal> {
-        let reply = library::read(
-            &self.context,
+        let answer = library::read(
+            self.context(),
             &self.program,
             address,
             &self.cells,
             &self.saved,
         );
-        accepted(&reply)?;
-        Ok(reply.detail)
+        accepted(answer)?;
+        Ok(answer.detail)
     }
 
     /// Sets the 32 bits of a cell, whatever its type.
     pub fn write(&mut self, address: i64, value: u32) -> Result<(), Refusal> {
-        let reply = library::write(
-            &self.context,
+        accepted(library::write(
+            &self.reply.context,
             &self.program,
             address,
             value,
             &mut self.cells,
             &self.saved,
-        );
-        self.keep(&reply)
+        ))
     }
 
     /// The cell as a float.
@@ -226,41 +232,56 @@ impl Machine {
         self.write(address, value.to_bits())
     }
 
-    fn keep(&mut self, reply: &Reply) -> Result<(), Refusal> {
-        self.context = reply.context;
-        accepted(reply)
+    /// The vector in a cell and the two after it.
+    pub fn read_vector(&self, address: i64) -> Result<[f32; 3], Refusal> {
+        let next = |cells| address.saturating_add(cells);
+        Ok([
+            self.read_float(address)?,
+            self.read_float(next(1))?,
+            self.read_float(next(2))?,
+        ])
+    }
+
+    /// Sets a cell and the two after it to a vector. Where one of them isn't there, nothing is set.
+    pub fn write_vector(&mut self, address: i64, value: [f32; 3]) -> Result<(), Refusal> {
+        // Where the last is there and the first can be written, so can the others.
+        self.read(address.saturating_add(2))?;
+        for (address, value) in (address..).zip(value) {
+            self.write_float(address, value)?;
+        }
+        Ok(())
     }
 
     // ---- what is there between calls
 
-    /// Whether a load was accepted, or a context was set.
+    /// Whether a load was accepted, or a context other than zeros was set.
     pub fn loaded(&self) -> bool {
-        self.loaded
+        self.reply.context != Context::default()
     }
 
     /// The number of the statement that is next.
     pub fn position(&self) -> i64 {
-        self.context.pc
+        self.reply.context.pc
     }
 
     /// The number of the function that is being executed.
     pub fn function(&self) -> usize {
-        self.context.current_function
+        self.reply.context.current_function
     }
 
     /// The call depth: how many functions are entered and not left.
     pub fn depth(&self) -> usize {
-        self.context.depth
+        self.reply.context.depth
     }
 
     /// How many cells of the saved store are in use.
     pub fn saved_count(&self) -> usize {
-        self.context.saved
+        self.reply.context.saved
     }
 
     /// All frames, the lowest first.
     pub fn frames(&self) -> &[StackFrame] {
-        &self.context.frames
+        &self.reply.context.frames
     }
 
     /// The lent cells, those past the file's count too.
@@ -280,15 +301,14 @@ impl Machine {
 
     /// The context; zeros before a load is accepted.
     pub fn context(&self) -> &Context {
-        &self.context
+        &self.reply.context
     }
 
     // ---- for hosts that keep states, restore them or make them up
 
     /// Puts another context in place. One that doesn't belong to the buffers is refused 13 by every operation.
     pub fn set_context(&mut self, context: Context) {
-        self.context = context;
-        self.loaded = true;
+        self.reply.context = context;
     }
 
     /// The program file's bytes, to be changed. Operations read them as they are; another length, other lumps or
@@ -308,10 +328,10 @@ impl Machine {
     }
 }
 
-fn accepted(reply: &Reply) -> Result<(), Refusal> {
-    if reply.word == library::ACCEPTED {
+fn accepted(answer: Answer) -> Result<(), Refusal> {
+    if answer.word == library::ACCEPTED {
         Ok(())
     } else {
-        Err(Refusal::new(reply.detail))
+        Err(Refusal::new(answer.detail))
     }
 }

@@ -1,12 +1,8 @@
 //! What a host looks up in a program file: functions, definitions and texts, by number or by name.
 
+use crate::context::{FileRecord, Lump};
+use crate::library::{self, DefinitionRecord, FunctionRecord};
 use crate::machine::Machine;
-
-/// The place of a part's offset in the header.
-const GLOBAL_DEFINITIONS: usize = 16;
-const FIELD_DEFINITIONS: usize = 24;
-const FUNCTIONS: usize = 32;
-const STRINGS: usize = 40;
 
 /// A function record.
 #[derive(Clone, Copy, Debug, Default, PartialEq, Eq, Hash)]
@@ -40,10 +36,38 @@ pub struct Definition {
     pub name: i32,
 }
 
-/// The records of a program file, read from its bytes.
+impl From<FunctionRecord> for Function {
+    fn from(record: FunctionRecord) -> Function {
+        Function {
+            first: record.first as i32,
+            local: record.start as i32,
+            locals: record.locals as i32,
+            name: record.name as i32,
+            source: record.srcfile as i32,
+            arguments: record.argc as i32,
+            sizes: record.argsz,
+        }
+    }
+}
+
+impl From<DefinitionRecord> for Definition {
+    fn from(record: DefinitionRecord) -> Definition {
+        Definition {
+            kind: record.kind & 0x7fff,
+            save: record.kind & 0x8000 != 0,
+            cell: record.offset,
+            name: record.name as i32,
+        }
+    }
+}
+
+/// A reader of the library, for definitions of cells or of fields.
+type ReadDefinition = fn(&[u8], &FileRecord, i64) -> Option<DefinitionRecord>;
+
+/// The records of a program file, read from its bytes by the library.
 ///
-/// Any bytes will do: what isn't there is `None`. Names and texts are bytes, up to a zero byte or the end of the
-/// strings, as they stand in the file.
+/// Any bytes will do: what isn't there is `None`. A part that doesn't lie in the file has no records. Names and texts
+/// are bytes, up to a zero byte or the end of the strings, as they stand in the file.
 ///
 /// ```
 /// use host::assemble::{Assembly, Function};
@@ -66,37 +90,30 @@ pub struct Definition {
 #[derive(Clone, Copy, Debug)]
 pub struct Program<'a> {
     bytes: &'a [u8],
+    /// What the header says; nothing but zeros where there is none.
+    recorded: FileRecord,
 }
 
 impl<'a> Program<'a> {
     /// The records in these bytes.
     pub fn new(bytes: &'a [u8]) -> Program<'a> {
-        Program { bytes }
+        let recorded = library::read_header(bytes).unwrap_or_default();
+        Program { bytes, recorded }
     }
 
     /// The number of functions that the header names.
     pub fn function_count(&self) -> usize {
-        self.count(FUNCTIONS)
+        count(&self.recorded.functions)
     }
 
     /// The function of a number.
     pub fn function(&self, number: i64) -> Option<Function> {
-        let record: &[u8; 36] = self.record(FUNCTIONS, number)?;
-        let at = |place| i32_at(record, place);
-        Some(Function {
-            first: at(0)?,
-            local: at(4)?,
-            locals: at(8)?,
-            name: at(16)?,
-            source: at(20)?,
-            arguments: at(24)?,
-            sizes: record[28..].try_into().ok()?,
-        })
+        library::read_function(self.bytes, &self.recorded, number).map(Function::from)
     }
 
     /// The number of the first function with a name, as `ExecutionContext::find_function_by_name` of the Rust.
     pub fn find_function_by_name(&self, name: impl AsRef<[u8]>) -> Option<i64> {
-        let functions = (0..self.function_count() as i64).map_while(|number| self.function(number));
+        let functions = (0..).map_while(|number| self.function(number));
         let names = functions.map(|function| self.text(function.name.into()));
         let mut numbered = (0..).zip(names);
         let found = numbered.find(|(_, found)| *found == Some(name.as_ref()));
@@ -110,38 +127,52 @@ impl<'a> Program<'a> {
 
     /// The number of definitions of cells that the header names.
     pub fn definition_count(&self) -> usize {
-        self.count(GLOBAL_DEFINITIONS)
+        count(&self.recorded.globaldefs)
     }
 
     /// The definition of a cell, by its number in the file.
     pub fn definition(&self, number: i64) -> Option<Definition> {
-        self.definition_in(GLOBAL_DEFINITIONS, number)
+        library::read_definition(self.bytes, &self.recorded, number).map(Definition::from)
     }
 
     /// The first definition of a cell with a name.
     pub fn find_definition_by_name(&self, name: impl AsRef<[u8]>) -> Option<Definition> {
-        self.find_in(GLOBAL_DEFINITIONS, name.as_ref())
+        self.find_by_name(library::read_definition, name.as_ref())
     }
 
     /// The first definition of a cell, by the cell's number.
     pub fn find_definition_of_cell(&self, cell: u16) -> Option<Definition> {
-        let mut all = self.definitions_in(GLOBAL_DEFINITIONS);
+        let mut all = self.all(library::read_definition);
         all.find(|definition| definition.cell == cell)
     }
 
     /// The number of definitions of fields that the header names.
     pub fn field_count(&self) -> usize {
-        self.count(FIELD_DEFINITIONS)
+        count(&self.recorded.fielddefs)
     }
 
     /// The definition of a field, by its number in the file.
     pub fn field(&self, number: i64) -> Option<Definition> {
-        self.definition_in(FIELD_DEFINITIONS, number)
+        library::read_field(self.bytes, &self.recorded, number).map(Definition::from)
     }
 
     /// The first definition of a field with a name.
     pub fn find_field_by_name(&self, name: impl AsRef<[u8]>) -> Option<Definition> {
-        self.find_in(FIELD_DEFINITIONS, name.as_ref())
+        self.find_by_name(library::read_field, name.as_ref())
+    }
+
+    /// The statement at a position: its opcode and three operands. There is none where the opcode isn't one.
+    ///
+    /// ```
+    /// # use host::{assemble::Assembly, Program};
+    /// let file = Assembly { statements: vec![[61, -3, 0, 0]], ..Assembly::default() }.bytes();
+    /// assert_eq!(Program::new(&file).statement(0), Some([61, -3, 0, 0]));
+    /// assert_eq!(Program::new(&file).statement(1), None);
+    /// ```
+    pub fn statement(&self, position: i64) -> Option<[i16; 4]> {
+        let record = library::read_statement(self.bytes, &self.recorded, position)?;
+        let numbers = [record.opcode, record.arg1, record.arg2, record.arg3];
+        Some(numbers.map(|number| number as i16))
     }
 
     /// The text of a string number: the bytes from there to a zero byte or to the end of the strings.
@@ -170,60 +201,25 @@ impl<'a> Program<'a> {
 
     /// All strings, one after the other.
     fn strings(&self) -> Option<&'a [u8]> {
-        let offset = usize::try_from(self.header(STRINGS)?).ok()?;
-        self.bytes
-            .get(offset..offset.checked_add(self.count(STRINGS))?)
+        let Lump { offset, count } = self.recorded.strings;
+        self.bytes.get(offset..offset.checked_add(count)?)
     }
 
-    fn definitions_in(self, part: usize) -> impl Iterator<Item = Definition> + 'a {
-        let numbers = 0..self.count(part) as i64;
-        numbers.map_while(move |number| self.definition_in(part, number))
+    /// All definitions that a reader gives, in the file's order.
+    fn all(self, read: ReadDefinition) -> impl Iterator<Item = Definition> + 'a {
+        let records = (0..).map_while(move |number| read(self.bytes, &self.recorded, number));
+        records.map(Definition::from)
     }
 
-    fn find_in(&self, part: usize, name: &[u8]) -> Option<Definition> {
-        let mut all = self.definitions_in(part);
+    fn find_by_name(&self, read: ReadDefinition, name: &[u8]) -> Option<Definition> {
+        let mut all = self.all(read);
         all.find(|definition| self.text(definition.name.into()) == Some(name))
-    }
-
-    fn definition_in(&self, part: usize, number: i64) -> Option<Definition> {
-        let record: &[u8; 8] = self.record(part, number)?;
-        let kind = u16::from_le_bytes([record[0], record[1]]);
-        Some(Definition {
-            kind: kind & 0x7fff,
-            save: kind & 0x8000 != 0,
-            cell: u16::from_le_bytes([record[2], record[3]]),
-            name: i32_at(record, 4)?,
-        })
-    }
-
-    /// A record of N bytes, by its number.
-    fn record<const N: usize>(&self, part: usize, number: i64) -> Option<&'a [u8; N]> {
-        let number = usize::try_from(number).ok()?;
-        if self.count(part) <= number {
-            return None;
-        }
-        let offset = usize::try_from(self.header(part)?).ok()?;
-        let start = offset.checked_add(number.checked_mul(N)?)?;
-        self.bytes
-            .get(start..start.checked_add(N)?)?
-            .try_into()
-            .ok()
-    }
-
-    /// The number of records of a part; 0 where the header has none or a negative one.
-    fn count(&self, part: usize) -> usize {
-        let count = self.header(part + 4).unwrap_or(0);
-        usize::try_from(count).unwrap_or(0)
-    }
-
-    fn header(&self, place: usize) -> Option<i32> {
-        i32_at(self.bytes, place)
     }
 }
 
-fn i32_at(bytes: &[u8], place: usize) -> Option<i32> {
-    let four = bytes.get(place..place.checked_add(4)?)?;
-    Some(i32::from_le_bytes(four.try_into().ok()?))
+/// The number of records of a part; 0 where the header has a negative one.
+fn count(lump: &Lump) -> usize {
+    i32::try_from(lump.count).map_or(0, |_| lump.count)
 }
 
 impl Machine {

@@ -3,6 +3,9 @@
 use std::error::Error;
 use std::fmt;
 
+use crate::float_mode::FloatModeError;
+use crate::layout::LayoutError;
+
 /// The sentences of the numbers 1 to 29.
 const SENTENCES: [&str; 29] = [
     "the file is shorter than 60 bytes or longer than 1,048,576",
@@ -83,3 +86,36 @@ impl fmt::Display for Refusal {
 }
 
 impl Error for Refusal {}
+
+/// Why a load isn't accepted. Whatever it is, nothing has changed.
+#[derive(Clone, Debug, PartialEq, Eq)]
+pub enum LoadError {
+    /// The library that is linked isn't this crate's.
+    Library(LayoutError),
+    /// The processor doesn't compute floats as the machine needs it.
+    FloatMode(FloatModeError),
+    /// The file, or what is lent, is refused.
+    Refused(Refusal),
+}
+
+impl LoadError {
+    /// The refusal, if it is one.
+    pub fn refusal(&self) -> Option<Refusal> {
+        match self {
+            LoadError::Refused(refusal) => Some(*refusal),
+            LoadError::Library(_) | LoadError::FloatMode(_) => None,
+        }
+    }
+}
+
+impl fmt::Display for LoadError {
+    fn fmt(&self, f: &mut fmt::Formatter<'_>) -> fmt::Result {
+        match self {
+            LoadError::Library(error) => error.fmt(f),
+            LoadError::FloatMode(error) => error.fmt(f),
+            LoadError::Refused(refusal) => refusal.fmt(f),
+        }
+    }
+}
+
+impl Error for LoadError {}

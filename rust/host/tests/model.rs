@@ -90,8 +90,8 @@ fn shown(file: Vec<u8>) -> String {
         return "refused,1".to_string();
     }
     let mut machine = Machine::new(file, vec![0; CELLS], vec![0; SAVED_STORE]);
-    if let Err(refusal) = machine.load() {
-        return format!("refused,{}", refusal.number());
+    if let Err(error) = machine.load() {
+        return format!("refused,{}", error.refusal().unwrap().number());
     }
     let (word, detail, count) = match machine.enter(1) {
         Ok(()) => run(&mut machine, 0, 99_999),
@@ -227,7 +227,7 @@ fn set_number(context: &mut Context, field: usize, value: i64) {
 fn perform(machine: &mut Machine, name: &str, given: &[i64]) -> Answer {
     let alone = |answer: Result<(), Refusal>| accepted(answer.map(|()| 0));
     match (name, given) {
-        ("load", []) => alone(machine.load()),
+        ("load", []) => alone(machine.load().map_err(|error| error.refusal().unwrap())),
         ("enter", [function]) => alone(machine.enter(*function)),
         ("statement", []) => statement(machine),
         ("run", [target, limit]) => run(machine, *target, *limit),

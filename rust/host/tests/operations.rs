@@ -4,10 +4,16 @@ use std::fs;
 use std::path::Path;
 
 use host::assemble::{statement, Assembly, Function};
-use host::{Handover, Machine, Outcome, Refusal, Run, RunOutcome, CELLS, SAVED_STORE};
+use host::{
+    Context, Handover, LoadError, Machine, Outcome, Refusal, Run, RunOutcome, CELLS, SAVED_STORE,
+};
 
 fn number(refusal: Result<(), Refusal>) -> u32 {
     refusal.unwrap_err().number()
+}
+
+fn load_number(refused: Result<(), LoadError>) -> u32 {
+    refused.unwrap_err().refusal().unwrap().number()
 }
 
 /// Document 01's file for the show program, made as 01 describes it.
@@ -194,7 +200,7 @@ fn a_refused_load() {
     machine.enter(1).unwrap();
     let before = machine.clone();
     machine.program_mut()[0] = 7;
-    assert_eq!(number(machine.load()), 2);
+    assert_eq!(load_number(machine.load()), 2);
     assert_eq!(machine.context(), before.context());
     assert_eq!(machine.cells(), before.cells());
     machine.program_mut()[0] = 6;
@@ -217,15 +223,44 @@ fn a_state_is_restored() {
     assert_eq!((machine.cells(), machine.saved()), (&cells[..], &saved[..]));
 }
 
+/// A context of zeros is no state, wherever it comes from.
+#[test]
+fn a_context_of_zeros() {
+    let mut machine = machine(&shown());
+    machine.load().unwrap();
+    let kept = *machine.context();
+    machine.set_context(Context::default());
+    assert!(!machine.loaded());
+    assert_eq!(machine.read(0), Err(Refusal::STATE));
+    machine.set_context(kept);
+    assert!(machine.loaded());
+}
+
+#[test]
+fn vectors() {
+    let mut machine = machine(&shown());
+    machine.load().unwrap();
+    machine.write_vector(61, [1.0, -2.5, 0.25]).unwrap();
+    assert_eq!(machine.read_vector(61), Ok([1.0, -2.5, 0.25]));
+    assert_eq!(machine.read_float(62), Ok(-2.5));
+    let before = machine.clone();
+    for address in [-3, -2, -1, 62, 63, 64, i64::MIN, i64::MAX, i64::MAX - 1] {
+        let refused = Err(Refusal::new(15));
+        assert_eq!(machine.write_vector(address, [7.0; 3]), refused);
+        assert_eq!(machine.read_vector(address).map(drop), refused);
+        assert_eq!(machine.cells(), before.cells());
+    }
+}
+
 #[test]
 fn empty_buffers() {
     let mut machine = Machine::new(Vec::new(), Vec::new(), Vec::new());
-    assert_eq!(number(machine.load()), 1);
+    assert_eq!(load_number(machine.load()), 1);
     assert_eq!(number(machine.enter(0)), 13);
     assert_eq!(machine.statement(), Outcome::Refused(Refusal::STATE));
     assert_eq!(number(machine.carry_on()), 13);
     let mut machine = Machine::new(shown().bytes(), vec![0; CELLS], Vec::new());
-    assert_eq!(number(machine.load()), 12);
+    assert_eq!(load_number(machine.load()), 12);
 }
 
 /// The sentences are those of the table in README.md.

@@ -2,8 +2,12 @@
 
 mod common;
 
-use common::{random_file, random_machine, Chance};
-use host::{Context, Machine, Outcome, Program, Refusal, RunOutcome, SAVED_STORE};
+use std::panic::{catch_unwind, resume_unwind, AssertUnwindSafe};
+
+use common::{random_assembly, random_file, random_machine, Chance};
+use host::{
+    Caller, Context, Definition, Machine, Outcome, Program, Refusal, RunOutcome, SAVED_STORE,
+};
 
 #[derive(Clone, Copy, Debug)]
 enum Call {
@@ -35,7 +39,9 @@ fn random_call(chance: &mut Chance) -> Call {
 fn perform(machine: &mut Machine, call: Call) -> Result<(), (Refusal, u32)> {
     let alone = |refusal| (refusal, 0);
     match call {
-        Call::Load => machine.load().map_err(alone),
+        Call::Load => machine
+            .load()
+            .map_err(|error| alone(error.refusal().unwrap())),
         Call::Enter(function) => machine.enter(function).map_err(alone),
         Call::CarryOn => machine.carry_on().map_err(alone),
         Call::Abandon(depth) => machine.abandon(depth).map_err(alone),
@@ -282,11 +288,71 @@ fn buffers_that_a_host_changes() {
     assert!(accepted > 2_000 && refused > 2_000, "{accepted} {refused}");
 }
 
+/// What a host does with what is handed over: its result, calls of its own, giving up, a panic.
+fn answer(
+    chance: &mut Chance,
+    machine: &mut Caller<'_>,
+    seen: &mut Answers,
+) -> Result<(), &'static str> {
+    seen.handed += 1;
+    for cell in 1..=3 {
+        machine.write(cell, chance.below(8) as u32).unwrap();
+    }
+    match chance.below(12) {
+        0 => {
+            seen.panics += 1;
+            // As a panic, without its message.
+            resume_unwind(Box::new("a builtin fails"))
+        }
+        1 | 2 => Err("given up"),
+        3..=5 if seen.nested < 3 => {
+            seen.nested += 1;
+            let (function, limit) = (chance.between(0, 7), chance.between(1, 30));
+            let called = machine.call(function, limit, |_, machine| answer(chance, machine, seen));
+            seen.nested -= 1;
+            seen.nested_calls += u32::from(called.is_ok_and(|count| count > 0));
+            Ok(())
+        }
+        _ => Ok(()),
+    }
+}
+
+#[derive(Debug, Default)]
+struct Answers {
+    handed: u32,
+    panics: u32,
+    /// How deep the calls of hosts are at present.
+    nested: u32,
+    nested_calls: u32,
+    ended: u32,
+    failed: u32,
+    caught: u32,
+}
+
+/// One call on the machine, which is then as it was, however the call ended.
+fn call_and_compare(chance: &mut Chance, machine: &mut Machine, seen: &mut Answers) {
+    let before = *machine.context();
+    let (function, limit) = (chance.between(-1, 8), chance.between(1, 200));
+    seen.nested = 0;
+    let called = catch_unwind(AssertUnwindSafe(|| {
+        machine.call(function, limit, |_, machine| answer(chance, machine, seen))
+    }));
+    match called {
+        Ok(Ok(count)) => seen.ended += u32::from(count > 0),
+        Ok(Err(error)) => {
+            seen.failed += 1;
+            assert!(i64::from(error.count) <= limit);
+        }
+        Err(_panic) => seen.caught += 1,
+    }
+    assert_eq!(machine.context(), &before);
+}
+
 /// Calls leave the depth where it was, and the position, however they end.
 #[test]
 fn calls_leave_the_depth() {
-    let (mut ended, mut failed, mut handed) = (0, 0, 0);
-    for seed in 0..2_000 {
+    let mut seen = Answers::default();
+    for seed in 0..3_000 {
         let mut chance = Chance::new(3_000_000 + seed);
         let mut machine = random_machine(&mut chance);
         if machine.load().is_err() {
@@ -296,35 +362,39 @@ fn calls_leave_the_depth() {
             if chance.one_in(3) {
                 machine.enter(chance.between(0, 7)).ok();
             }
-            let before = *machine.context();
-            let give_up = chance.one_in(4);
-            let called = machine.call(
-                chance.between(-1, 8),
-                chance.between(1, 200),
-                |_, machine| {
-                    handed += 1;
-                    machine.write(1, 7).unwrap();
-                    if give_up {
-                        Err("given up")
-                    } else {
-                        Ok(())
-                    }
-                },
-            );
-            match called {
-                Ok(count) => ended += u32::from(count > 0),
-                Err(error) => {
-                    failed += 1;
-                    assert_eq!(error.abandon, None);
-                }
-            }
-            assert_eq!(machine.context(), &before);
+            call_and_compare(&mut chance, &mut machine, &mut seen);
         }
     }
-    assert!(
-        ended > 300 && failed > 3_000 && handed > 300,
-        "{ended} {failed} {handed}"
-    );
+    assert!(seen.ended > 300 && seen.failed > 3_000, "{seen:?}");
+    assert!(seen.caught > 100 && seen.handed > 1_000, "{seen:?}");
+    assert!(seen.panics > 100 && seen.nested_calls > 50, "{seen:?}");
+}
+
+/// What the assembler put in comes out again.
+#[test]
+fn records_of_assembled_files() {
+    for seed in 0..500 {
+        let mut assembly = random_assembly(&mut Chance::new(5_000_000 + seed));
+        assembly.fields = vec![(0x8007, 65_535, -1), (2, 0, 9)];
+        let file = assembly.bytes();
+        let program = Program::new(&file);
+        let numbers = || 0..;
+        let functions = numbers().map_while(|number| program.function(number));
+        assert!(functions.eq(assembly.functions.iter().copied()));
+        let statements = numbers().map_while(|number| program.statement(number));
+        assert!(statements.eq(assembly.statements.iter().copied()));
+        let plain = |found: Definition| {
+            let save = if found.save { 0x8000 } else { 0 };
+            (found.kind | save, found.cell, found.name)
+        };
+        let definitions = numbers().map_while(|number| program.definition(number).map(plain));
+        assert!(definitions.eq(assembly.definitions.iter().copied()));
+        let fields = numbers().map_while(|number| program.field(number).map(plain));
+        assert!(fields.eq(assembly.fields.iter().copied()));
+        assert_eq!(program.function_count(), assembly.functions.len());
+        assert_eq!(program.definition_count(), assembly.definitions.len());
+        assert_eq!(program.field_count(), 2);
+    }
 }
 
 #[test]

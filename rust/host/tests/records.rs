@@ -80,6 +80,18 @@ fn definitions() {
 }
 
 #[test]
+fn statements() {
+    let mut file = file();
+    file.statements = vec![[0, 0, 0, 0], [61, -3, 0, 0], [66, 1, 2, 3], [-1, 0, 0, 0]];
+    let bytes = file.bytes();
+    let program = Program::new(&bytes);
+    assert_eq!(program.statement(1), Some([61, -3, 0, 0]));
+    for position in [-1, 2, 3, 4, i64::MIN, i64::MAX] {
+        assert_eq!(program.statement(position), None);
+    }
+}
+
+#[test]
 fn texts() {
     let mut file = file();
     file.strings.extend(b"no zero after \xff this");

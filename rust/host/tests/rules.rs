@@ -4,7 +4,7 @@
 use std::fs;
 use std::path::{Path, PathBuf};
 
-use host::{Cause, Handover, Machine, Refusal, RunOutcome, CELLS, SAVED_STORE};
+use host::{Caller, Cause, Handover, Machine, Refusal, RunOutcome, CELLS, SAVED_STORE};
 
 fn rules() -> PathBuf {
     Path::new(env!("CARGO_MANIFEST_DIR")).join("../../tests/rules")
@@ -77,8 +77,9 @@ fn toss(coin: f32) -> (f32, String) {
         }
         other => panic!("{other:?}"),
     });
-    // AddF, StoreF, StoreF; Ge, IfNot, EqF, IfNot, StoreV, Return; and a Goto where the home side kicks off, a StoreF where the guests do
-    assert_eq!(count, Ok(10));
+    // AddF, StoreF, StoreF; Ge, IfNot, EqF, IfNot, StoreV, Return; a Goto where the home side kicks off, a StoreF where the guests do;
+    // and two hand-overs
+    assert_eq!(count, Ok(12));
     let side = machine.read_float(1).unwrap();
     (side, String::from_utf8(printed).unwrap())
 }
@@ -95,7 +96,7 @@ fn a_match_ends_after_refused_calls() {
     let goal = function(&machine, "goal");
     let appeal = function(&machine, "appeal");
     let end_of_match = function(&machine, "end_of_match");
-    let no_host = |handover: Handover, _: &mut Machine| Err::<(), Handover>(handover);
+    let no_host = |handover: Handover, _: &mut Caller<'_>| Err::<(), Handover>(handover);
     for _ in 0..100 {
         let error = machine.call(goal, 99_999, no_host).unwrap_err();
         assert_eq!(error.cause, Cause::Refused(Refusal::new(16)));

@@ -2,7 +2,7 @@
 //! end-of-match function is still entered, and its result stands.
 
 use host::assemble::{statement, Assembly, Function};
-use host::{Cause, Handover, Machine, Refusal, StackFrame, CELLS, SAVED_STORE};
+use host::{Caller, Cause, Handover, Machine, Refusal, StackFrame, CELLS, SAVED_STORE};
 
 const RED: i64 = 28;
 const BLUE: i64 = 29;
@@ -62,7 +62,7 @@ fn machine() -> Machine {
     machine
 }
 
-fn no_builtins(handover: Handover, _: &mut Machine) -> Result<(), Handover> {
+fn no_builtins(handover: Handover, _: &mut Caller<'_>) -> Result<(), Handover> {
     Err(handover)
 }
 
@@ -76,7 +76,7 @@ fn end_of_match(machine: &mut Machine) -> f32 {
         announced.push(machine.read_float(4).unwrap());
         Ok::<(), Refusal>(())
     });
-    assert_eq!(called, Ok(3));
+    assert_eq!(called, Ok(4));
     let result = machine.read_float(1).unwrap();
     assert_eq!(announced, [result]);
     result
@@ -97,7 +97,6 @@ fn the_league_table_has_the_result() {
         for (function, cause) in calls {
             let error = machine.call(function, 2_000, no_builtins).unwrap_err();
             assert_eq!(error.cause, cause);
-            assert_eq!(error.abandon, None);
             assert_eq!((machine.depth(), machine.saved_count()), (0, 0));
             assert_eq!((machine.position(), machine.function()), (0, 0));
             assert_eq!(machine.frames(), [StackFrame::default(); 31]);
@@ -142,11 +141,13 @@ fn a_call_within_a_call() {
 fn a_limit_is_the_whole_calls() {
     let mut machine = machine();
     let function = machine.find_function_by_name("EndOfMatch").unwrap();
-    let bprint = |_: Handover, _: &mut Machine| Ok::<(), Refusal>(());
-    assert_eq!(machine.call(function, 3, bprint), Ok(3));
-    let error = machine.call(function, 2, bprint).unwrap_err();
-    assert_eq!((error.cause, error.count), (Cause::Spent, 2));
-    assert_eq!((error.position, error.function), (9, 5));
+    let bprint = |_: Handover, _: &mut Caller<'_>| Ok::<(), Refusal>(());
+    assert_eq!(machine.call(function, 4, bprint), Ok(4));
+    for (limit, position) in [(3, 10), (2, 9)] {
+        let error = machine.call(function, limit, bprint).unwrap_err();
+        assert_eq!((error.cause, error.count), (Cause::Spent, limit as u32));
+        assert_eq!((error.position, error.function), (position, 5));
+    }
     for limit in [0, -1, 100_000] {
         let error = machine.call(function, limit, bprint).unwrap_err();
         assert_eq!(error.cause, Cause::Refused(Refusal::new(28)));
@@ -160,31 +161,5 @@ fn a_call_before_a_load() {
     let mut machine = Machine::new(rules(), vec![0; CELLS], vec![0; SAVED_STORE]);
     let error = machine.call(1, 2_000, no_builtins).unwrap_err();
     assert_eq!(error.cause, Cause::Refused(Refusal::STATE));
-    assert_eq!((error.count, error.abandon), (0, None));
-}
-
-/// Hosts that take away what the call stands on: what is entered stays, and the error says so.
-#[test]
-fn hosts_that_leave_nothing_to_leave() {
-    let mut machine = machine();
-    let function = machine.find_function_by_name("EndOfMatch").unwrap();
-    let error = machine.call(function, 1_000, |_, machine| {
-        machine.program_mut().push(0);
-        Err("another file")
-    });
-    let error = error.unwrap_err();
-    assert_eq!(error.abandon, Some(Refusal::STATE));
-    assert_eq!(
-        error.to_string(),
-        "another file, after 2 statements, at position 9 in function 5; what was entered could not be left: \
-         refused 13: the file, the lent cells, the saved store or the state do not belong together"
-    );
-    machine.program_mut().pop();
-    assert_eq!((machine.depth(), machine.abandon(0)), (1, Ok(())));
-
-    machine.enter(4).unwrap();
-    let error = machine.call(function, 1_000, |_, machine| machine.abandon(0));
-    let error = error.unwrap_err();
-    assert_eq!(error.cause, Cause::Refused(Refusal::new(27)));
-    assert_eq!(error.abandon, Some(Refusal::new(29)));
+    assert_eq!(error.count, 0);
 }

@@ -4,22 +4,13 @@ use borrow.Author.Needs.{needs}
 use Rattle.arithmetic.proofs.check_floats.Statement.{statement}
 use Rattle.arithmetic.proofs.check_floats.Tie as tie
 
-check-cell-requires : tie.Need-check-cell-requires
-check-cell-requires c κs = search needs
-
 returns : tie.Need-returns
 unfolding access
 returns c = stop _ _ _ (c .if1 .taken) (c .before .check-cell .ensures)
 
-check-cell-requires-2 : tie.Need-check-cell-requires-2
-check-cell-requires-2 c κs = search needs
-
 returns-2 : tie.Need-returns-2
 unfolding access
 returns-2 c = passed (c .before .before .before .check-cell .ensures) (c .before .before .if1 .left) (stop _ _ _ (c .if2 .taken) (c .before .check-cell2 .ensures))
-
-check-cell-requires-3 : tie.Need-check-cell-requires-3
-check-cell-requires-3 c κs = search needs
 
 returns-3 : tie.Need-returns-3
 unfolding access
@@ -29,9 +20,9 @@ pub check-floats-spec : {M : Type 1} → statement M
 check-floats-spec =
     tie.close
     (tie.spec
-    check-cell-requires
+    (λ c κs. search needs)
     returns
-    check-cell-requires-2
+    (λ c κs. search needs)
     returns-2
-    check-cell-requires-3
+    (λ c κs. search needs)
     returns-3)

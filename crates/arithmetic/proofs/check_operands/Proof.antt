@@ -4,19 +4,7 @@ use Rattle.arithmetic.proofs.check_operands.Statement.{statement}
 use Rattle.arithmetic.proofs.check_operands.Tie as tie
 
 returns : tie.Need-returns
-returns c = untyped-three _ _ _ _ _ _ _ (c .before .before .pre .1) (c .if1 .taken)
-
-cell-of-requires : tie.Need-cell-of-requires
-cell-of-requires c κs = search needs
-
-cell-of-requires-2 : tie.Need-cell-of-requires-2
-cell-of-requires-2 c κs = search needs
-
-cell-of-requires-3 : tie.Need-cell-of-requires-3
-cell-of-requires-3 c κs = search needs
-
-check-floats-requires : tie.Need-check-floats-requires
-check-floats-requires c κs = search needs
+returns c = untyped-three _ _ _ _ _ (c .before .before .pre) (c .if1 .taken)
 
 returns-2 : tie.Need-returns-2
 returns-2 c = rw (← c .before .before .before .cell-of .ensures, ← c .before .before .cell-of2 .ensures, ← c .before .cell-of3 .ensures) (c .check-floats .ensures)
@@ -26,8 +14,8 @@ check-operands-spec =
     tie.close
     (tie.spec
     returns
-    cell-of-requires
-    cell-of-requires-2
-    cell-of-requires-3
-    check-floats-requires
+    (λ c κs. search needs)
+    (λ c κs. search needs)
+    (λ c κs. search needs)
+    (λ c κs. search needs)
     returns-2)

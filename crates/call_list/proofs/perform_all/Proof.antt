@@ -56,9 +56,6 @@ mul-place-of c = omega (arith, c .loop-test .taken, c .before .before .before .b
 shared-slice-copy-out-place-of : tie.Need-shared-slice-copy-out-place-of Inv-loop μ-loop
 shared-slice-copy-out-place-of c = omega (arith, c .loop-test .taken, c .before .before .before .before .before .before .pre .0 .0)
 
-place-of-requires : tie.Need-place-of-requires Inv-loop μ-loop
-place-of-requires c κs = search needs
-
 add-perform-call : tie.Need-add-perform-call Inv-loop μ-loop
 add-perform-call c = omega (arith, c .before .before .loop-test .taken, c .before .before .before .before .before .before .before .before .pre .0 .0)
 
@@ -147,8 +144,7 @@ perform-all-spec =
     mul-at
     mul-place-of
     shared-slice-copy-out-place-of
-    place-of-requires
-    add-perform-call
+    (λ c κs. search needs) add-perform-call
     mul-perform-call
     shared-slice-copy-out-perform-call
     add-perform-call-2

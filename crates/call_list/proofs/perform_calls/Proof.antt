@@ -12,23 +12,11 @@ returns c = part-of-a-call _ _ _ _ (c .if1 .taken)
 returns-2 : tie.Need-returns-2
 returns-2 c = no-room _ _ _ _ (c .if2 .taken)
 
-all-formed-requires : tie.Need-all-formed-requires
-all-formed-requires c κs = search needs
-
 returns-3 : tie.Need-returns-3
 returns-3 c = ill-formed _ _ _ _ (sym (c .before .all-formed .ensures) ∙ not-true _ (c .if3 .taken))
 
 perform-all-requires : tie.Need-perform-all-requires
 perform-all-requires c κs = ((omega arith, omega (arith, c .before .before .before .before .before .if2 .left)), sym (c .before .before .before .before .all-formed .ensures) ∙ not-false _ (c .before .before .before .if3 .left))
-
-same-length : tie.Need-same-length
-same-length c = search needs
-
-same-length-2 : tie.Need-same-length-2
-same-length-2 c = search needs
-
-same-length-3 : tie.Need-same-length-3
-same-length-3 c = search needs
 
 returns-4 : tie.Need-returns-4
 returns-4 c = let p = c .before .before .before .before .before .before .perform-all .ensures in all-performed _ _ _ _ (c .before .before .before .before .before .before .before .before .before .before .before .before .before .if1 .left) (c .before .before .before .before .before .before .before .before .before .before .before .before .if2 .left) (sym (c .before .before .before .before .before .before .before .before .before .before .before .all-formed .ensures) ∙ not-false _ (c .before .before .before .before .before .before .before .before .before .before .if3 .left)) _ _ (p .0) (p .1)
@@ -39,10 +27,6 @@ perform-calls-spec =
     (tie.spec
     returns
     returns-2
-    all-formed-requires
-    returns-3
+    (λ c κs. search needs) returns-3
     perform-all-requires
-    same-length
-    same-length-2
-    same-length-3
-    returns-4)
+    (λ c. search needs) (λ c. search needs) (λ c. search needs) returns-4)

@@ -1,23 +1,19 @@
+use mathlib.Core.Path.{_∙_}
 use Rattle.call_list.specs.Encoding.{answerReply}
 use Rattle.call_list.proofs.Replies.{known}
 use borrow.Author.Needs.{needs}
 use Rattle.call_list.proofs.reply_answer.Statement.{statement}
 use Rattle.call_list.proofs.reply_answer.Tie as tie
 
-enum-told : tie.Need-enum-told
-enum-told c = search needs
-
 returns : tie.Need-returns
-returns c = known answerReply _ _ _ (c .enum-told .given .1)
-
-enum-known-answer : tie.Need-enum-known-answer
-enum-known-answer c = search needs
-
-cast-t5 : tie.Need-cast-t5
-cast-t5 c = search needs
+returns c = c .reply .ensures ∙ known answerReply _ _ _ (c .before .enum-told .given .1)
 
 returns-2 : tie.Need-returns-2
-returns-2 c = known answerReply _ _ _ (c .before .answer .given .1)
+returns-2 c = c .reply2 .ensures ∙ known answerReply _ _ _ (c .before .before .answer .given .1)
 
 pub reply-answer-spec : {M : Type 1} → statement M
-reply-answer-spec = tie.close (tie.spec enum-told returns enum-known-answer cast-t5 returns-2)
+reply-answer-spec =
+    tie.close
+    (tie.spec
+    (λ c. search needs) (λ c κs. search needs) returns
+    (λ c. search needs) (λ c. search needs) (λ c κs. search needs) returns-2)

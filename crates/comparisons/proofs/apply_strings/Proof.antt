@@ -3,18 +3,6 @@ use borrow.Author.Needs.{needs}
 use Rattle.comparisons.proofs.apply_strings.Statement.{statement}
 use Rattle.comparisons.proofs.apply_strings.Tie as tie
 
-value-op-requires : tie.Need-value-op-requires
-value-op-requires c κs = search needs
-
-mul-cells : tie.Need-mul-cells
-mul-cells c = search needs
-
-slice-write-cells : tie.Need-slice-write-cells
-slice-write-cells c = search needs
-
-same-length : tie.Need-same-length
-same-length c = search needs
-
 returns : tie.Need-returns
 returns c = simp (eq-eqb _ _ (c .before .if1 .taken)) (cc)
 
@@ -30,18 +18,6 @@ mul-value-op-2 c = let h = c .before .before .before .pre .0 (c .before .if1 .le
 slice-read-value-op-2 : tie.Need-slice-read-value-op-2
 slice-read-value-op-2 c = let h = c .before .before .before .before .pre .0 (c .before .before .if1 .left) in search needs
 
-value-op-requires-2 : tie.Need-value-op-requires-2
-value-op-requires-2 c κs = search needs
-
-mul-cells-2 : tie.Need-mul-cells-2
-mul-cells-2 c = search needs
-
-slice-write-cells-2 : tie.Need-slice-write-cells-2
-slice-write-cells-2 c = search needs
-
-same-length-2 : tie.Need-same-length-2
-same-length-2 c = search needs
-
 returns-2 : tie.Need-returns-2
 returns-2 c = simp (ne-eqb _ _ (c .before .before .before .if1 .left)) (cc)
 
@@ -49,17 +25,17 @@ pub apply-strings-spec : {M : Type 1} → statement M
 apply-strings-spec =
     tie.close
     (tie.spec
-    value-op-requires
-    mul-cells
-    slice-write-cells
-    same-length
+    (λ c κs. search needs)
+    (λ c. search needs)
+    (λ c. search needs)
+    (λ c. search needs)
     returns
     mul-value-op
     slice-read-value-op
     mul-value-op-2
     slice-read-value-op-2
-    value-op-requires-2
-    mul-cells-2
-    slice-write-cells-2
-    same-length-2
+    (λ c κs. search needs)
+    (λ c. search needs)
+    (λ c. search needs)
+    (λ c. search needs)
     returns-2)

@@ -4,29 +4,17 @@ use borrow.Author.Needs.{needs}
 use Rattle.comparisons.proofs.check_eq_s.Statement.{statement}
 use Rattle.comparisons.proofs.check_eq_s.Tie as tie
 
-check-operand-requires : tie.Need-check-operand-requires
-check-operand-requires c κs = search needs
-
 returns : tie.Need-returns
 unfolding access
 returns c = stop _ _ _ (c .if1 .taken) (c .before .check-operand .ensures)
-
-check-operand-requires-2 : tie.Need-check-operand-requires-2
-check-operand-requires-2 c κs = search needs
 
 returns-2 : tie.Need-returns-2
 unfolding access
 returns-2 c = passed (c .before .before .before .check-operand .ensures) (c .before .before .if1 .left) (stop _ _ _ (c .if2 .taken) (c .before .check-operand2 .ensures))
 
-check-strings-requires : tie.Need-check-strings-requires
-check-strings-requires c κs = search needs
-
 returns-3 : tie.Need-returns-3
 unfolding access
 returns-3 c = passed (c .before .before .before .before .before .check-operand .ensures) (c .before .before .before .before .if1 .left) (passed (c .before .before .before .check-operand2 .ensures) (c .before .before .if2 .left) (stop _ _ _ (c .if3 .taken) (c .before .check-strings .ensures)))
-
-check-cell-requires : tie.Need-check-cell-requires
-check-cell-requires c κs = search needs
 
 returns-4 : tie.Need-returns-4
 unfolding access
@@ -36,11 +24,11 @@ pub check-eq-s-spec : {M : Type 1} → statement M
 check-eq-s-spec =
     tie.close
     (tie.spec
-    check-operand-requires
+    (λ c κs. search needs)
     returns
-    check-operand-requires-2
+    (λ c κs. search needs)
     returns-2
-    check-strings-requires
+    (λ c κs. search needs)
     returns-3
-    check-cell-requires
+    (λ c κs. search needs)
     returns-4)

@@ -3,20 +3,11 @@ use borrow.Author.Needs.{needs}
 use Rattle.comparisons.proofs.check_not_s.Statement.{statement}
 use Rattle.comparisons.proofs.check_not_s.Tie as tie
 
-check-unused-requires : tie.Need-check-unused-requires
-check-unused-requires c κs = search needs
-
 returns : tie.Need-returns
 returns c = stop _ _ _ (c .if1 .taken) (c .before .check-unused .ensures)
 
-check-operand-requires : tie.Need-check-operand-requires
-check-operand-requires c κs = search needs
-
 returns-2 : tie.Need-returns-2
 returns-2 c = passed (c .before .before .before .check-unused .ensures) (c .before .before .if1 .left) (stop _ _ _ (c .if2 .taken) (c .before .check-operand .ensures))
-
-check-move-requires : tie.Need-check-move-requires
-check-move-requires c κs = search needs
 
 returns-3 : tie.Need-returns-3
 returns-3 c = passed (c .before .before .before .before .check-unused .ensures) (c .before .before .before .if1 .left) (passed (c .before .before .check-operand .ensures) (c .before .if2 .left) (c .check-move .ensures))
@@ -25,9 +16,9 @@ pub check-not-s-spec : {M : Type 1} → statement M
 check-not-s-spec =
     tie.close
     (tie.spec
-    check-unused-requires
+    (λ c κs. search needs)
     returns
-    check-operand-requires
+    (λ c κs. search needs)
     returns-2
-    check-move-requires
+    (λ c κs. search needs)
     returns-3)

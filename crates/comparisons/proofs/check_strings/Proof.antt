@@ -8,15 +8,9 @@ use Rattle.comparisons.proofs.check_strings.Tie as tie
 returns : tie.Need-returns
 returns c = pair-same _ _ _ (c .if1 .taken)
 
-check-cell-requires : tie.Need-check-cell-requires
-check-cell-requires c κs = search needs
-
 returns-2 : tie.Need-returns-2
 unfolding access
 returns-2 c = pair-other _ _ _ _ (c .before .before .if1 .left) (stop _ _ _ (c .if2 .taken) (c .before .check-cell .ensures))
-
-check-cell-requires-2 : tie.Need-check-cell-requires-2
-check-cell-requires-2 c κs = search needs
 
 returns-3 : tie.Need-returns-3
 unfolding access
@@ -24,4 +18,4 @@ returns-3 c = pair-other _ _ _ _ (c .before .before .before .if1 .left) (passed 
 
 pub check-strings-spec : {M : Type 1} → statement M
 check-strings-spec =
-    tie.close (tie.spec returns check-cell-requires returns-2 check-cell-requires-2 returns-3)
+    tie.close (tie.spec returns (λ c κs. search needs) returns-2 (λ c κs. search needs) returns-3)

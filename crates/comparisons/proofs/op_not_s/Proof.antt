@@ -7,12 +7,6 @@ use borrow.Author.Needs.{needs}
 use Rattle.comparisons.proofs.op_not_s.Statement.{statement}
 use Rattle.comparisons.proofs.op_not_s.Tie as tie
 
-check-not-s-requires : tie.Need-check-not-s-requires
-check-not-s-requires c κs = search needs
-
-same-length : tie.Need-same-length
-same-length c = search needs
-
 returns : tie.Need-returns
 returns c = refused _ _ (negatesS-is _ _ _ _ _) _ (c .if1 .taken) (c .before .check-not-s .ensures)
 
@@ -21,9 +15,6 @@ apply-not-s-requires c κs =
     let h = reach-move _ _ _ _ _ _ _ (neither _ _ (neither _ _ (sym (c .before .before .check-not-s .ensures) ∙ c .before .if1 .left) .1) .1) in
     (omega arith, omega arith)
 
-same-length-2 : tie.Need-same-length-2
-same-length-2 c = search needs
-
 returns-2 : tie.Need-returns-2
 returns-2 c = accepted _ _ (negatesS-is _ _ _ _ _) _ (sym (c .before .before .before .before .before .check-not-s .ensures) ∙ c .before .before .before .before .if1 .left) (c .before .before .apply-not-s .ensures)
 
@@ -31,9 +22,9 @@ pub op-not-s-spec : {M : Type 1} → statement M
 op-not-s-spec =
     tie.close
     (tie.spec
-    check-not-s-requires
-    same-length
+    (λ c κs. search needs)
+    (λ c. search needs)
     returns
     apply-not-s-requires
-    same-length-2
+    (λ c. search needs)
     returns-2)

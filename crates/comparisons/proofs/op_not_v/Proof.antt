@@ -7,12 +7,6 @@ use borrow.Author.Needs.{needs}
 use Rattle.comparisons.proofs.op_not_v.Statement.{statement}
 use Rattle.comparisons.proofs.op_not_v.Tie as tie
 
-check-unary-requires : tie.Need-check-unary-requires
-check-unary-requires c κs = search needs
-
-same-length : tie.Need-same-length
-same-length c = search needs
-
 returns : tie.Need-returns
 returns c = refused _ _ (negatesV-is _ _ _ _ _) _ (c .if1 .taken) (c .before .check-unary .ensures)
 
@@ -21,9 +15,6 @@ apply-not-v-requires c κs =
     let h = reach-move _ _ _ _ _ _ _ (neither _ _ (sym (c .before .before .check-unary .ensures) ∙ c .before .if1 .left) .1) in
     (omega (arith, h .0 .third-below), omega arith)
 
-same-length-2 : tie.Need-same-length-2
-same-length-2 c = search needs
-
 returns-2 : tie.Need-returns-2
 returns-2 c = accepted _ _ (negatesV-is _ _ _ _ _) _ (sym (c .before .before .before .before .before .check-unary .ensures) ∙ c .before .before .before .before .if1 .left) (c .before .before .apply-not-v .ensures)
 
@@ -31,9 +22,9 @@ pub op-not-v-spec : {M : Type 1} → statement M
 op-not-v-spec =
     tie.close
     (tie.spec
-    check-unary-requires
-    same-length
+    (λ c κs. search needs)
+    (λ c. search needs)
     returns
     apply-not-v-requires
-    same-length-2
+    (λ c. search needs)
     returns-2)

@@ -7,15 +7,6 @@ use borrow.Author.Needs.{needs}
 use Rattle.comparisons.proofs.op_nots.Statement.{statement}
 use Rattle.comparisons.proofs.op_nots.Tie as tie
 
-must-be-natural-requires : tie.Need-must-be-natural-requires
-must-be-natural-requires c κs = search needs
-
-check-unary-requires : tie.Need-check-unary-requires
-check-unary-requires c κs = search needs
-
-same-length : tie.Need-same-length
-same-length c = search needs
-
 returns : tie.Need-returns
 returns c = refused _ _ (negates-is _ _ _ _ _ _ _) _ (c .if1 .taken) (rw (c .before .before .before .must-be-natural .ensures) at (c .before .check-unary .ensures))
 
@@ -24,9 +15,6 @@ apply-nots-requires c κs =
     let h = reach-move _ _ _ _ _ _ _ (neither _ _ (sym (c .before .before .check-unary .ensures) ∙ c .before .if1 .left) .1) in
     (omega arith, omega arith)
 
-same-length-2 : tie.Need-same-length-2
-same-length-2 c = search needs
-
 returns-2 : tie.Need-returns-2
 returns-2 c = accepted _ _ (negates-is _ _ _ _ _ _ _) _ (sym (rw (c .before .before .before .before .before .before .before .must-be-natural .ensures) at (c .before .before .before .before .before .check-unary .ensures)) ∙ c .before .before .before .before .if1 .left) (c .before .before .apply-nots .ensures)
 
@@ -34,10 +22,10 @@ pub op-nots-spec : {M : Type 1} → statement M
 op-nots-spec =
     tie.close
     (tie.spec
-    must-be-natural-requires
-    check-unary-requires
-    same-length
+    (λ c κs. search needs)
+    (λ c κs. search needs)
+    (λ c. search needs)
     returns
     apply-nots-requires
-    same-length-2
+    (λ c. search needs)
     returns-2)

@@ -6,12 +6,6 @@ use borrow.Author.Needs.{needs}
 use Rattle.comparisons.proofs.op_values.Statement.{statement}
 use Rattle.comparisons.proofs.op_values.Tie as tie
 
-check-values-requires : tie.Need-check-values-requires
-check-values-requires c κs = search needs
-
-same-length : tie.Need-same-length
-same-length c = search needs
-
 returns : tie.Need-returns
 returns c = refused _ _ (values-is _ _ _ _ _ _ _) _ (c .if1 .taken) (c .before .check-values .ensures)
 
@@ -20,9 +14,6 @@ apply-values-requires c κs =
     let h = reach-values _ _ _ _ _ _ _ _ (sym (c .before .before .check-values .ensures) ∙ c .before .if1 .left) in
     (omega arith, omega arith, omega arith)
 
-same-length-2 : tie.Need-same-length-2
-same-length-2 c = search needs
-
 returns-2 : tie.Need-returns-2
 returns-2 c = accepted _ _ (values-is _ _ _ _ _ _ _) _ (sym (c .before .before .before .before .before .check-values .ensures) ∙ c .before .before .before .before .if1 .left) (c .before .before .apply-values .ensures)
 
@@ -30,9 +21,9 @@ pub op-values-spec : {M : Type 1} → statement M
 op-values-spec =
     tie.close
     (tie.spec
-    check-values-requires
-    same-length
+    (λ c κs. search needs)
+    (λ c. search needs)
     returns
     apply-values-requires
-    same-length-2
+    (λ c. search needs)
     returns-2)

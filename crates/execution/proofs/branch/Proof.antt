@@ -7,9 +7,6 @@ use borrow.Author.Needs.{needs}
 use Rattle.execution.proofs.branch.Statement.{statement}
 use Rattle.execution.proofs.branch.Tie as tie
 
-check-cell-requires : tie.Need-check-cell-requires
-check-cell-requires c κs = search needs
-
 returns : tie.Need-returns
 returns c = branch-refused _ _ _ _ _ _ _ (c .if1 .taken) (c .before .check-cell .ensures)
 
@@ -19,17 +16,8 @@ mul-is-zero c = let h = cell-reach _ _ _ (sym (c .before .check-cell .ensures) �
 shared-slice-read-is-zero : tie.Need-shared-slice-read-is-zero
 shared-slice-read-is-zero c = let h = cell-reach _ _ _ (sym (c .before .before .check-cell .ensures) ∙ c .before .if1 .left) in search needs
 
-is-zero-requires : tie.Need-is-zero-requires
-is-zero-requires c κs = search needs
-
-jump-requires : tie.Need-jump-requires
-jump-requires c κs = search needs
-
 returns-2 : tie.Need-returns-2
 returns-2 c = rw (toZ-ofZ {w = w64} {z = c .jump .result} (record { sfits = c .jump .ok })) (branch-jumps _ _ _ _ _ _ (sym (c .before .before .before .before .before .check-cell .ensures) ∙ c .before .before .before .before .if1 .left) _ _ (c .before .before .is-zero .ensures) (c .before .if2 .taken) (c .jump .ensures))
-
-after-requires : tie.Need-after-requires
-after-requires c κs = search needs
 
 returns-3 : tie.Need-returns-3
 returns-3 c = rw (toZ-ofZ {w = w64} {z = c .after .result} (record { sfits = c .after .ok })) (branch-passes _ _ _ _ _ _ (sym (c .before .before .before .before .before .check-cell .ensures) ∙ c .before .before .before .before .if1 .left) _ _ (c .before .before .is-zero .ensures) (c .before .if2 .left) (c .after .ensures))
@@ -38,12 +26,12 @@ pub branch-spec : {M : Type 1} → statement M
 branch-spec =
     tie.close
     (tie.spec
-    check-cell-requires
+    (λ c κs. search needs)
     returns
     mul-is-zero
     shared-slice-read-is-zero
-    is-zero-requires
-    jump-requires
+    (λ c κs. search needs)
+    (λ c κs. search needs)
     returns-2
-    after-requires
+    (λ c κs. search needs)
     returns-3)

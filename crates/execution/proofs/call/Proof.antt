@@ -5,9 +5,6 @@ use borrow.Author.Needs.{needs}
 use Rattle.execution.proofs.call.Statement.{statement}
 use Rattle.execution.proofs.call.Tie as tie
 
-check-cell-requires : tie.Need-check-cell-requires
-check-cell-requires c κs = search needs
-
 returns : tie.Need-returns
 returns c = call-refused _ _ _ _ _ (c .if1 .taken) (c .before .check-cell .ensures)
 
@@ -17,9 +14,6 @@ mul-callee c = let h = cell-reach _ _ _ (sym (c .before .check-cell .ensures) �
 shared-slice-read-callee : tie.Need-shared-slice-read-callee
 shared-slice-read-callee c = let h = cell-reach _ _ _ (sym (c .before .before .check-cell .ensures) ∙ c .before .if1 .left) in search needs
 
-callee-requires : tie.Need-callee-requires
-callee-requires c κs = search needs
-
 returns-2 : tie.Need-returns-2
 returns-2 c = call-goes _ _ _ _ _ (sym (c .before .before .before .check-cell .ensures) ∙ c .before .before .if1 .left) (c .callee .ensures _)
 
@@ -27,9 +21,9 @@ pub call-spec : {M : Type 1} → statement M
 call-spec =
     tie.close
     (tie.spec
-    check-cell-requires
+    (λ c κs. search needs)
     returns
     mul-callee
     shared-slice-read-callee
-    callee-requires
+    (λ c κs. search needs)
     returns-2)

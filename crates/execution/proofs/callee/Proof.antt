@@ -9,26 +9,11 @@ use Rattle.execution.proofs.callee.Tie as tie
 returns : tie.Need-returns
 returns c = λ cells. call-none _ _ (c .if1 .taken)
 
-id-from-i32-requires : tie.Need-id-from-i32-requires
-id-from-i32-requires c κs = search needs
-
-enum-known-f : tie.Need-enum-known-f
-enum-known-f c = search needs
-
-enum-told : tie.Need-enum-told
-enum-told c = search needs
-
 returns-2 : tie.Need-returns-2
 returns-2 c = λ cells. call-missing _ _ (c .before .before .before .if1 .left) _ (length-records _ _ _ _) (sym (c .enum-told .given .1) ∙ c .before .before .id-from-i32 .ensures)
 
 get-def-requires : tie.Need-get-def-requires
-get-def-requires c κs = (search needs, function-found (c .before .before .before .before .before .before .args .value) (c .before .before .before .before .before .before .args .nfunctions) (c .before .f .given .0 .0) (sym (c .before .f .given .1) ∙ c .before .before .before .id-from-i32 .ensures) .1)
-
-is-builtin-requires : tie.Need-is-builtin-requires
-is-builtin-requires c κs = search needs
-
-builtin-known-requires : tie.Need-builtin-known-requires
-builtin-known-requires c κs = search needs
+get-def-requires c κs = function-found _ _ _ (sym (c .before .f .given .1) ∙ c .before .before .before .id-from-i32 .ensures) .1
 
 builtin-of-requires : tie.Need-builtin-of-requires
 builtin-of-requires c κs = cc
@@ -47,13 +32,13 @@ callee-spec =
     tie.close
     (tie.spec
     returns
-    id-from-i32-requires
-    enum-known-f
-    enum-told
+    (λ c κs. search needs)
+    (λ c. search needs)
+    (λ c. search needs)
     returns-2
     get-def-requires
-    is-builtin-requires
-    builtin-known-requires
+    (λ c κs. search needs)
+    (λ c κs. search needs)
     builtin-of-requires
     returns-3
     returns-4

@@ -5,20 +5,11 @@ use borrow.Author.Needs.{needs}
 use Rattle.execution.proofs.completed.Statement.{statement}
 use Rattle.execution.proofs.completed.Tie as tie
 
-enum-told : tie.Need-enum-told
-enum-told c = search needs
-
-after-requires : tie.Need-after-requires
-after-requires c κs = search needs
-
 returns : tie.Need-returns
 returns c = rw (toZ-ofZ {w = w64} {z = c .after .result} (record { sfits = c .after .ok })) (completed-next _ _ _ (cc) (c .after .ensures))
-
-enum-known-answer : tie.Need-enum-known-answer
-enum-known-answer c = search needs
 
 returns-2 : tie.Need-returns-2
 returns-2 c = completed-refused _ _ _ (cc)
 
 pub completed-spec : {M : Type 1} → statement M
-completed-spec = tie.close (tie.spec enum-told after-requires returns enum-known-answer returns-2)
+completed-spec = tie.close (tie.spec (λ c. search needs) (λ c κs. search needs) returns (λ c. search needs) returns-2)

@@ -1,61 +1,48 @@
 use mir.Facts.{toZ-ofZ}
 use mir.Val.{SFits}
 use mir.Syntax.{w64}
-use mathlib.Core.Path.{sym, _∙_}
+use mathlib.Core.Path.{_≡_, sym, ap, _∙_}
+use mathlib.Core.List.{List}
 use native.Mathlib.Omega.{arith}
-use Rattle.definition.specs.File.{readStatement}
-use Rattle.definition.specs.RecordLaws.{length-records}
-use Rattle.functions.specs.Answers.{lump}
-use Rattle.functions.specs.Laws.{fetch-accepts, lump-fitting}
+use Rattle.definition.specs.declared.Statement.{Statement}
+use Rattle.definition.specs.File.{contentsAt}
+use Rattle.functions.specs.Answers.{fetched}
+use Rattle.functions.specs.Laws.{fetch-accepts, lump-fitting, count-statements}
+use Rattle.functions.specs.Parts.{statementsIn}
+use Rattle.functions.specs.PartLaws.{part-statements}
 use Rattle.execution.proofs.Fetching.{not-fetched, is-fetched}
 use borrow.Author.Needs.{needs}
 use Rattle.execution.proofs.does.Statement.{statement}
 use Rattle.execution.proofs.does.Tie as tie
 
-fetch-requires : tie.Need-fetch-requires
-fetch-requires c κs = search needs
-
-enum-known-fetched : tie.Need-enum-known-fetched
-enum-known-fetched c = search needs
+-- what was fetched, of the file's statements
+fetched-here : (c : tie.After-fetch) → let s = c .before .before .before .before in c .fetch .result ≡ fetched (contentsAt (s .args .recorded) (s .args .file .now) .statements) (s .args .pc)
+fetched-here c =
+    let s = c .before .before .before .before in
+    let g : SFits w64 (s .args .pc) = search needs in
+    (rw (toZ-ofZ g) at (c .fetch .ensures)) ∙ rw (c .before .part .ensures, part-statements _ _ (s .pre .lumps))
 
 returns : tie.Need-returns
-returns c =
-    let f = c .before .before .before in
-    let s = f .before .before .before in
-    let g : SFits w64 (s .args .pc) = search needs in
-    not-fetched _ _ _ (s .args .pc) _ _ (sym (c .before .fetched .given .1) ∙ (rw (toZ-ofZ g) at (f .fetch .ensures)))
-
-enum-known-fetched-2 : tie.Need-enum-known-fetched-2
-enum-known-fetched-2 c = search needs
+returns c = not-fetched _ _ _ _ (sym (c .before .fetched .given .1) ∙ fetched-here (c .before .before .before))
 
 execute-requires : tie.Need-execute-requires
 execute-requires c κs =
-    let f = c .before .before .before .before in
-    let s = f .before .before .before in
-    let g : SFits w64 (s .args .pc) = search needs in
-    let a = fetch-accepts _ (s .args .pc) _ _ (sym (c .before .before .fetched2 .given .1) ∙ (rw (toZ-ofZ g) at (f .fetch .ensures))) in
-    let n = length-records (readStatement (s .args .file .now)) 8 (s .args .nstatements) (s .args .statements) in
-    let l = lump-fitting 8 _ (lump (s .args .statements) (s .args .nstatements)) (s .pre .0) in
-    (s .pre .1, s .pre .2, s .pre .3, s .pre .4, omega (arith, a .there, n, l .count), a .opcode)
-
-same-length : tie.Need-same-length
-same-length c = search needs
+    let s = c .before .before .before .before .before .before .before .before in
+    let a = fetch-accepts _ _ _ _ (sym (c .before .before .fetched2 .given .1) ∙ fetched-here (c .before .before .before .before)) in
+    (s .pre, (omega (arith, a .there, count-statements (s .args .recorded) (s .args .file .now), lump-fitting 8 _ (s .args .recorded .statements) (s .pre .lumps .statements) .count), a .opcode))
 
 returns-2 : tie.Need-returns-2
-returns-2 c =
-    let f = c .before .before .before .before .before in
-    let s = f .before .before .before .before .before in
-    let g : SFits w64 (s .args .pc) = search needs in
-    is-fetched _ _ _ (s .args .pc) _ _ _ _ _ (sym (f .fetched2 .given .1) ∙ (rw (toZ-ofZ g) at (f .before .before .fetch .ensures))) (c .before .before .execute .ensures)
+returns-2 c = is-fetched _ _ _ _ _ _ _ (sym (c .before .before .before .before .before .fetched2 .given .1) ∙ fetched-here (c .before .before .before .before .before .before .before)) (c .before .before .execute .ensures)
 
 pub does-spec : {M : Type 1} → statement M
 does-spec =
     tie.close
     (tie.spec
-    fetch-requires
-    enum-known-fetched
+    (λ c κs. search needs)
+    (λ c κs. search needs)
+    (λ c. search needs)
     returns
-    enum-known-fetched-2
+    (λ c. search needs)
     execute-requires
-    same-length
+    (λ c. search needs)
     returns-2)

@@ -15,12 +15,8 @@ unfolding componentOp opcodes shapeOf
 component-op-spec =
     tie.close
     (tie.spec
-    (λ c κs. tt)
-    (λ c. row _ _ _ _ (c .before .match .keys1) (c .mul-f .ensures))
-    (λ c κs. tt)
-    (λ c. row _ _ _ _ (c .before .match .keys2) (c .mul-f2 .ensures))
-    (λ c κs. tt)
-    (λ c. row _ _ _ _ (c .before .match .keys3) (c .add-f .ensures))
-    (λ c κs. tt)
-    (λ c. row _ _ _ _ (c .before .match .keys4) (c .sub-f .ensures))
+    (λ c κs. tt) (λ c. row _ _ _ _ (c .before .match .keys1) (c .mul-f .ensures))
+    (λ c κs. tt) (λ c. row _ _ _ _ (c .before .match .keys2) (c .mul-f2 .ensures))
+    (λ c κs. tt) (λ c. row _ _ _ _ (c .before .match .keys3) (c .add-f .ensures))
+    (λ c κs. tt) (λ c. row _ _ _ _ (c .before .match .keys4) (c .sub-f .ensures))
     (λ c. last vectorsOf (λ x y. 0) (λ (f : Binary). f (c .before .args .x) (c .before .args .y)) (3 ∷ 4 ∷ 7 ∷ 9 ∷ []) (c .before .args .op) tt (c .match .rest)))

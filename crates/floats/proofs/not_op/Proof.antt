@@ -15,10 +15,7 @@ unfolding notOp opcodes shapeOf
 not-op-spec =
     tie.close
     (tie.spec
-    (λ c κs. tt)
-    (λ c. row _ _ _ (c .before .match .keys1) (c .not-f .ensures))
-    (λ c κs. tt)
-    (λ c. row _ _ _ (c .before .match .keys2) (c .not-n .ensures))
-    (λ c κs. tt)
-    (λ c. row _ _ _ (c .before .match .keys3) (c .not-n2 .ensures))
+    (λ c κs. tt) (λ c. row _ _ _ (c .before .match .keys1) (c .not-f .ensures))
+    (λ c κs. tt) (λ c. row _ _ _ (c .before .match .keys2) (c .not-n .ensures))
+    (λ c κs. tt) (λ c. row _ _ _ (c .before .match .keys3) (c .not-n2 .ensures))
     (λ c. last negatesOf (λ a. 0) (λ (f : Unary). f (c .before .args .a)) (44 ∷ 47 ∷ 48 ∷ []) (c .before .args .op) tt (c .match .rest)))

@@ -3,17 +3,11 @@ use borrow.Author.Needs.{needs}
 use Rattle.globals.proofs.check_unary.Statement.{statement}
 use Rattle.globals.proofs.check_unary.Tie as tie
 
-check-unused-requires : tie.Need-check-unused-requires
-check-unused-requires c κs = search needs
-
 returns : tie.Need-returns
 returns c = stop _ _ _ (c .if1 .taken) (c .before .check-unused .ensures)
-
-check-move-requires : tie.Need-check-move-requires
-check-move-requires c κs = search needs
 
 returns-2 : tie.Need-returns-2
 returns-2 c = passed (c .before .before .check-unused .ensures) (c .before .if1 .left) (c .check-move .ensures)
 
 pub check-unary-spec : {M : Type 1} → statement M
-check-unary-spec = tie.close (tie.spec check-unused-requires returns check-move-requires returns-2)
+check-unary-spec = tie.close (tie.spec (λ c κs. search needs) returns (λ c κs. search needs) returns-2)

@@ -8,18 +8,6 @@ use borrow.Author.Needs.{needs}
 use Rattle.host.proofs.host_enter.Statement.{statement}
 use Rattle.host.proofs.host_enter.Tie as tie
 
-enter-requires : tie.Need-enter-requires
-enter-requires c κs = search needs
-
-reply-answer-requires : tie.Need-reply-answer-requires
-reply-answer-requires c κs = search needs
-
-same-length : tie.Need-same-length
-same-length c = search needs
-
-same-length-2 : tie.Need-same-length-2
-same-length-2 c = search needs
-
 returns : tie.Need-returns
 returns c =
     let s = c .before .before .before .before .before .before .before .before .before .before .before in
@@ -28,4 +16,4 @@ returns c =
 
 pub host-enter-spec : {M : Type 1} → statement M
 host-enter-spec =
-    tie.close (tie.spec enter-requires reply-answer-requires same-length same-length-2 returns)
+    tie.close (tie.spec (λ c κs. search needs) (λ c κs. search needs) (λ c. search needs) (λ c. search needs) returns)

@@ -5,8 +5,8 @@ use borrow.Author.Needs.{needs}
 use Rattle.host.proofs.host_statement.Statement.{statement}
 use Rattle.host.proofs.host_statement.Tie as tie
 
-statement-requires : tie.Need-statement-requires
-statement-requires c κs = search needs
+step-once-requires : tie.Need-step-once-requires
+step-once-requires c κs = search needs
 
 reply-statement-requires : tie.Need-reply-statement-requires
 reply-statement-requires c κs = search needs
@@ -18,9 +18,9 @@ same-length-2 : tie.Need-same-length-2
 same-length-2 c = search needs
 
 returns : tie.Need-returns
-returns c = call-steps _ _ _ _ _ 1 (pos 0) (pos 0) _ (c .reply-statement .ensures) refl (c .before .before .before .before .before .statement .ensures)
+returns c = call-steps _ _ _ _ _ 1 (pos 0) (pos 0) _ (c .reply-statement .ensures) refl (c .before .before .before .before .before .step-once .ensures)
 
 pub host-statement-spec : {M : Type 1} → statement M
 host-statement-spec =
     tie.close
-    (tie.spec statement-requires reply-statement-requires same-length same-length-2 returns)
+    (tie.spec step-once-requires reply-statement-requires same-length same-length-2 returns)

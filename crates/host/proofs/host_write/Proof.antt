@@ -9,15 +9,6 @@ use borrow.Author.Needs.{needs}
 use Rattle.host.proofs.host_write.Statement.{statement}
 use Rattle.host.proofs.host_write.Tie as tie
 
-write-requires : tie.Need-write-requires
-write-requires c κs = search needs
-
-reply-answer-requires : tie.Need-reply-answer-requires
-reply-answer-requires c κs = search needs
-
-same-length : tie.Need-same-length
-same-length c = search needs
-
 returns : tie.Need-returns
 returns c =
     let s = c .before .before .before .before .before .before .before .before in
@@ -25,4 +16,4 @@ returns c =
     call-writes _ _ _ _ _ 6 _ (pos (s .args .value)) _ (c .reply-answer .ensures) (λ e. omega (arith, e)) (λ e. omega (arith, e)) (λ e. omega (arith, e)) (λ e. omega (arith, e)) (λ e. omega (arith, e)) (λ e. omega (arith, e)) _ refl (rw (toZ-ofZ fits) at (c .before .before .before .write .ensures))
 
 pub host-write-spec : {M : Type 1} → statement M
-host-write-spec = tie.close (tie.spec write-requires reply-answer-requires same-length returns)
+host-write-spec = tie.close (tie.spec (λ c κs. search needs) (λ c κs. search needs) (λ c. search needs) returns)

@@ -1,4 +1,3 @@
-use Rattle.loader.proofs.Each.{fails, holds, passed}
 use Rattle.definition.specs.File.{lumpsFit}
 use mathlib.Core.Path.{sym, ap, _∙_}
 use native.Mathlib.Omega.{arith}
@@ -6,7 +5,6 @@ use Rattle.loader.proofs.Header.{short, long, other-version, other-chec
 use borrow.Author.Needs.{needs}
 use Rattle.loader.proofs.header_refusal.Statement.{statement}
 use Rattle.loader.proofs.header_refusal.Tie as tie
-use Rattle.loader.proofs.header_refusal.Reads as reads
 
 returns : tie.Need-returns
 returns c = short _ (c .if1 .taken)
@@ -14,49 +12,22 @@ returns c = short _ (c .if1 .taken)
 returns-2 : tie.Need-returns-2
 returns-2 c = long _ (omega arith) (c .if2 .taken)
 
-u32-at-requires : tie.Need-u32-at-requires
-u32-at-requires c κs = search needs
-
 returns-3 : tie.Need-returns-3
 returns-3 c = other-version _ (omega arith) (omega arith) _ (c .before .u32-at .ensures) (c .if3 .taken)
 
-u32-at-requires-2 : tie.Need-u32-at-requires-2
-u32-at-requires-2 c κs = search needs
-
 returns-4 : tie.Need-returns-4
-returns-4 c = let a = c .before .before .before in other-check _ (omega arith) (omega arith) _ (a .u32-at .ensures) (c .before .before .if3 .left) _ (c .before .u32-at2 .ensures) (c .if4 .taken)
-
-file-of-requires : tie.Need-file-of-requires
-file-of-requires c κs = search needs
-
-lumps-fit-requires : tie.Need-lumps-fit-requires
-lumps-fit-requires c κs = search needs
+returns-4 c =
+    let a = c .before .before .before in
+    other-check _ (omega arith) (omega arith) _ (a .u32-at .ensures) (c .before .before .if3 .left) _ (c .before .u32-at2 .ensures) (c .if4 .taken)
 
 returns-5 : tie.Need-returns-5
 returns-5 c =
     let b = c .before .before .before .before in
     let a = b .before .before in
     lumps-are _ (omega arith) (omega arith) _ (a .u32-at .ensures) (b .before .if3 .left) _ (b .u32-at2 .ensures) _ _ (c .before .before .before .if4 .left)
-    (ap lumpsFit (sym (c .before .before .file-of .ensures)) ∙ sym (c .before .lumps-fit .ensures)) (holds _ 4 _ _ (c .if5 .taken) passed)
-
-returns-6 : tie.Need-returns-6
-returns-6 c =
-    let b = c .before .before .before .before in
-    let a = b .before .before in
-    lumps-are _ (omega arith) (omega arith) _ (a .u32-at .ensures) (b .before .if3 .left) _ (b .u32-at2 .ensures) _ _ (c .before .before .before .if4 .left)
-    (ap lumpsFit (sym (c .before .before .file-of .ensures)) ∙ sym (c .before .lumps-fit .ensures)) (fails _ 4 _ (c .if5 .left))
+    (ap lumpsFit (sym (c .before .before .file-of .ensures)) ∙ sym (c .before .lumps-fit .ensures)) (c .otherwise .ensures)
 
 pub header-refusal-spec : {M : Type 1} → statement M
 header-refusal-spec =
-    tie.close
-    (tie.spec
-    returns
-    returns-2
-    u32-at-requires
-    returns-3
-    u32-at-requires-2
-    returns-4
-    file-of-requires
-    lumps-fit-requires
-    returns-5
-    returns-6)
+    tie.close (tie.spec returns returns-2 (λ c κs. search needs) returns-3 (λ c κs. search needs) returns-4 (λ c κs. search needs)
+    (λ c κs. search needs) (λ c κs. search needs) returns-5)

@@ -6,9 +6,6 @@ use borrow.Author.Needs.{needs}
 use Rattle.loader.proofs.load_refusal.Statement.{statement}
 use Rattle.loader.proofs.load_refusal.Tie as tie
 
-header-refusal-requires : tie.Need-header-refusal-requires
-header-refusal-requires c κs = search needs
-
 returns : tie.Need-returns
 returns c = header-refuses _ _ _ _ (c .before .header-refusal .ensures) (c .if1 .taken)
 
@@ -26,9 +23,6 @@ returns-2 c =
     let f = c .before .before in
     records-refuse _ _ _ _ (f .before .before .header-refusal .ensures) (f .before .if1 .left) _ (f .file-of .ensures) _ (c .before .records-refusal .ensures) (c .if2 .taken)
 
-cells-refusal-requires : tie.Need-cells-refusal-requires
-cells-refusal-requires c κs = search needs
-
 returns-3 : tie.Need-returns-3
 returns-3 c =
     let n = c .before .before in
@@ -38,12 +32,4 @@ returns-3 c =
 
 pub load-refusal-spec : {M : Type 1} → statement M
 load-refusal-spec =
-    tie.close
-    (tie.spec
-    header-refusal-requires
-    returns
-    file-of-requires
-    records-refusal-requires
-    returns-2
-    cells-refusal-requires
-    returns-3)
+    tie.close (tie.spec (λ c κs. search needs) returns file-of-requires records-refusal-requires returns-2 (λ c κs. search needs) returns-3)

@@ -16,7 +16,7 @@ use borrow.Author.Needs.{needs}
 use Rattle.server.proofs.run.Statement.{statement}
 use Rattle.server.proofs.run.Tie as tie
 
-sound-here : (c : tie.Else1) → let s = c .before .before .before .before .before .before .before in sound (programOf (s .args .file .now)) (config (s .args .context) (s .args .cells .now) (s .args .saved .now)) ≡ true
+sound-here : (c : tie.Else1) → let s = c .before .before .before .before .before .before .before in sound (programOf (s .args .file .now)) (config (s .args .context) (s .args .cells .now) (s .args .store .now)) ≡ true
 sound-here c = sym (c .before .check-state .ensures) ∙ not-false _ (c .if1 .left)
 
 most : (c : tie.After-place-of) → c .place-of .result ≡ placeOf 0 (c .before .before .before .before .before .before .before .before .args .limit)
@@ -29,32 +29,8 @@ down c =
     let g : SFits w64 (c .before .before .before .before .before .before .before .before .before .before .before .args .target) = search needs in
     (rw (toZ-ofZ g) at (c .place-of2 .ensures))
 
-check-state-requires : tie.Need-check-state-requires
-check-state-requires c κs = search needs
-
-not-run-requires : tie.Need-not-run-requires
-not-run-requires c κs = search needs
-
-same-length : tie.Need-same-length
-same-length c = search needs
-
-same-length-2 : tie.Need-same-length-2
-same-length-2 c = search needs
-
 returns : tie.Need-returns
 returns c = run-13 _ _ _ _ _ _ _ (sym (c .before .before .check-state .ensures) ∙ not-true _ (c .before .if1 .taken)) (c .not-run .ensures)
-
-place-of-requires : tie.Need-place-of-requires
-place-of-requires c κs = search needs
-
-not-run-requires-2 : tie.Need-not-run-requires-2
-not-run-requires-2 c κs = search needs
-
-same-length-3 : tie.Need-same-length-3
-same-length-3 c = search needs
-
-same-length-4 : tie.Need-same-length-4
-same-length-4 c = search needs
 
 returns-2 : tie.Need-returns-2
 returns-2 c =
@@ -63,18 +39,6 @@ returns-2 c =
     (λ z. run-28-none _ _ _ _ _ _ (sound-here (m .before)) _ (most m) (z .taken) _ (c .not-run2 .ensures))
     (λ z. run-28-over _ _ _ _ _ _ (sound-here (m .before)) _ (most m) (ltb-true _ _ (z .1 .taken)) _ (c .not-run2 .ensures))
     (c .before .if2 .came)
-
-place-of-requires-2 : tie.Need-place-of-requires-2
-place-of-requires-2 c κs = search needs
-
-not-run-requires-3 : tie.Need-not-run-requires-3
-not-run-requires-3 c κs = search needs
-
-same-length-5 : tie.Need-same-length-5
-same-length-5 c = search needs
-
-same-length-6 : tie.Need-same-length-6
-same-length-6 c = search needs
 
 returns-3 : tie.Need-returns-3
 returns-3 c =
@@ -85,13 +49,7 @@ cast-run-for : tie.Need-cast-run-for
 cast-run-for c = let few = ltb-false 99999 (c .before .before .before .before .before .place-of .result) (c .before .before .before .if3 .left) in omega (arith, few)
 
 run-for-requires : tie.Need-run-for-requires
-run-for-requires c κs = (passed _ _ _ _ (sound-here (c .before .before .before .before .before .before .before .before)), c .before .before .if4 .left)
-
-same-length-7 : tie.Need-same-length-7
-same-length-7 c = search needs
-
-same-length-8 : tie.Need-same-length-8
-same-length-8 c = search needs
+run-for-requires c κs = (passed _ _ _ _ (sound-here (c .before .before .before .before .before .before .before .before)), λ h. absurd (omega (arith, h, c .before .before .if4 .left)))
 
 returns-4 : tie.Need-returns-4
 returns-4 c =
@@ -102,23 +60,23 @@ pub run-spec : {M : Type 1} → statement M
 run-spec =
     tie.close
     (tie.spec
-    check-state-requires
-    not-run-requires
-    same-length
-    same-length-2
+    (λ c κs. search needs)
+    (λ c κs. search needs)
+    (λ c. search needs)
+    (λ c. search needs)
     returns
-    place-of-requires
-    not-run-requires-2
-    same-length-3
-    same-length-4
+    (λ c κs. search needs)
+    (λ c κs. search needs)
+    (λ c. search needs)
+    (λ c. search needs)
     returns-2
-    place-of-requires-2
-    not-run-requires-3
-    same-length-5
-    same-length-6
+    (λ c κs. search needs)
+    (λ c κs. search needs)
+    (λ c. search needs)
+    (λ c. search needs)
     returns-3
     cast-run-for
     run-for-requires
-    same-length-7
-    same-length-8
+    (λ c. search needs)
+    (λ c. search needs)
     returns-4)

@@ -12,60 +12,60 @@ use Rattle.definition.specs.Load.{programOf}
 use Rattle.definition.specs.Statements.{Does}
 use Rattle.definition.specs.Machine.{zeroFrame}
 use Rattle.execution.specs.Execution.{executed, execution}
-use Rattle.progs.specs.Contexts.{config, Within, Standing}
+use Rattle.progs.specs.Contexts.{config, Within, AtStatement}
 use Rattle.progs.specs.Numbers.{entryOf, entering, leavingOf, returning}
 use Rattle.progs.proofs.FileLaws.{functions-here}
-use Rattle.progs.proofs.DoesLaws.{does-here, defs-fit}
+use Rattle.progs.proofs.DoesLaws.{does-here}
 use Rattle.progs.proofs.NumberLaws.{by-count}
 use Rattle.progs.proofs.ReturnLaws.{return-by-count}
 use Rattle.server.specs.declared.Ran.{Ran}
-use Rattle.server.specs.Stepping.{ranOf}
+use Rattle.server.specs.Stepping.{ranOf, Apart}
 use Rattle.server.proofs.RunLaws.{RunLeft, run-start, run-spent}
-use Rattle.server.proofs.StepLaws.{does-stands, stands-call, within-lent}
+use Rattle.server.proofs.StepLaws.{does-call-at, call-at, within-lent}
 use Rattle.server.proofs.TurnLaws.{next-within, entered-within, left-within, turn-next, turn-refused, turn-handed, turn-entry-refused, turn-enters, turn-room, turn-return-refused, turn-ended, turn-again, turn-left}
 use Rattle.server.proofs.run_for.Statement.{statement}
 use Rattle.server.proofs.run_for.Tie as tie
 
 abbrev Inv-loop : tie.InvT-loop
-Inv-loop file limit target cells₀ saved₀ statements defs functions globals now₀ count₀ cells saved now count =
-    ((((length cells ≡ length cells₀) × (length saved ≡ length saved₀)) × Within file now (length cells) (length saved)) × (target < now .depth))
+Inv-loop file limit target cells₀ saved₀ recorded functions cells-of-file now₀ count₀ cells saved now count =
+    ((((length cells ≡ length cells₀) × (length saved ≡ length saved₀)) × Within file now (length cells) (length saved)) × Apart target (now .depth))
     × RunLeft (programOf file) limit target (config now₀ cells₀ saved₀) (config now cells saved) count
 
 abbrev μ-loop : tie.MeasureT-loop
-μ-loop file limit target cells₀ saved₀ statements defs functions globals now₀ count₀ cells saved now count = limit - count
+μ-loop file limit target cells₀ saved₀ recorded functions cells-of-file now₀ count₀ cells saved now count = limit - count
 
 -- what the statement at the position did
 did : (c : tie.After-does Inv-loop μ-loop)
     → let l = c .before .before .before .before in
-    let s = c .before .before .before .before .before .before .before .before .before .before .before .before .before in
-    executed (c .does .result) (c .does .last .1 .1 .1 .1 .1 .1 .1 .1 .0) ≡ execution (programOf (s .args .file .now) .does (l .loop .now .pc) (l .loop .cells)) (l .loop .cells)
+    let s = c .before .before .before .before .before .before .before .before .before .before in
+    executed (c .does .result) (c .does .last .1 .1 .0) ≡ execution (programOf (s .args .file .now) .does (l .loop .now .pc) (l .loop .cells)) (l .loop .cells)
 did c =
     let l = c .before .before .before .before in
-    let s = c .before .before .before .before .before .before .before .before .before .before .before .before .before in
+    let s = c .before .before .before .before .before .before .before .before .before .before in
     let g : SFits w64 (l .loop .now .pc) = search needs in
     (rw (toZ-ofZ g) at (c .does .ensures)) ∙ ap (λ (d : Does). execution d (l .loop .cells)) (does-here _ _ (s .pre .0 .loaded) _ _)
 
 -- the file's count of cells, which no statement changes
-count-here : (c : tie.At-loop Inv-loop μ-loop) → c .before .before .before .before .before .before .before .before .before .args .context .file .globals .count ≡ c .loop .now .file .globals .count
-count-here c = ap (λ (r : FileRecord). r .globals .count) (c .before .before .before .before .before .before .before .before .before .pre .0 .loaded .same ∙ sym (c .loop .inv .0 .0 .1 .loaded .same))
+count-here : (c : tie.At-loop Inv-loop μ-loop) → c .before .before .before .before .before .before .args .context .file .globals .count ≡ c .loop .now .file .globals .count
+count-here c = ap (λ (r : FileRecord). r .globals .count) (c .before .before .before .before .before .before .pre .0 .loaded .same ∙ sym (c .loop .inv .0 .0 .1 .loaded .same))
 
 -- what a Call did to the cells
 entry-did : (c : tie.After-enter-cells Inv-loop μ-loop)
     → let l = c .before .before .before .before .before .before .before .before .before .before .before .before .before .before .before in
-    let s = c .before .before .before .before .before .before .before .before .before .before .before .before .before .before .before .before .before .before .before .before .before .before .before .before in
-    entryOf (c .enter-cells .result) (c .enter-cells .last .1 .1 .1 .1 .1 .1 .1 .0) (c .enter-cells .last .1 .1 .1 .1 .1 .1 .1 .1 .0) ≡ entering (programOf (s .args .file .now)) (c .before .before .before .before .before .before .before .done2 .given .0 .0) (l .loop .now) (c .before .before .before .before .before .before .before .before .before .before .before .does .last .1 .1 .1 .1 .1 .1 .1 .1 .0) (l .loop .saved)
+    let s = c .before .before .before .before .before .before .before .before .before .before .before .before .before .before .before .before .before .before .before .before .before in
+    entryOf (c .enter-cells .result) (c .enter-cells .last .1 .1 .1 .1 .1 .0) (c .enter-cells .last .1 .1 .1 .1 .1 .1 .0) ≡ entering (programOf (s .args .file .now)) (c .before .before .before .before .before .before .before .done2 .given .0 .0) (l .loop .now) (c .before .before .before .before .before .before .before .before .before .before .before .does .last .1 .1 .0) (l .loop .store)
 entry-did c =
-    let s = c .before .before .before .before .before .before .before .before .before .before .before .before .before .before .before .before .before .before .before .before .before .before .before .before in
-    c .enter-cells .ensures (programOf (s .args .file .now)) (functions-here _ _ (s .pre .0 .loaded)) ∙ by-count _ _ _ _ _ _ (count-here (c .before .before .before .before .before .before .before .before .before .before .before .before .before .before .before))
+    let s = c .before .before .before .before .before .before .before .before .before .before .before .before .before .before .before .before .before .before .before .before .before in
+    c .enter-cells .ensures (programOf (s .args .file .now)) (functions-here _ _ (s .pre .0 .loaded) _ (c .before .before .before .before .before .before .before .before .before .before .before .before .before .before .before .before .part .ensures)) ∙ by-count _ _ _ _ _ _ (count-here (c .before .before .before .before .before .before .before .before .before .before .before .before .before .before .before))
 
 -- what a Return did to the cells
 leaving-did : (c : tie.After-return-cells Inv-loop μ-loop)
     → let l = c .before .before .before .before .before .before .before .before .before .before .before .before in
-    let s = c .before .before .before .before .before .before .before .before .before .before .before .before .before .before .before .before .before .before .before .before .before in
-    leavingOf (c .return-cells .result) (c .return-cells .last .1 .1 .1 .1 .1 .1 .1 .1 .0) ≡ returning (programOf (s .args .file .now)) (c .before .before .before .before .done3 .given .0 .0) (l .loop .now) (c .before .before .before .before .before .before .before .before .does .last .1 .1 .1 .1 .1 .1 .1 .1 .0) (l .loop .saved)
+    let s = c .before .before .before .before .before .before .before .before .before .before .before .before .before .before .before .before .before .before in
+    leavingOf (c .return-cells .result) (c .return-cells .last .1 .1 .1 .1 .1 .1 .0) ≡ returning (programOf (s .args .file .now)) (c .before .before .before .before .done3 .given .0 .0) (l .loop .now) (c .before .before .before .before .before .before .before .before .does .last .1 .1 .0) (l .loop .store)
 leaving-did c =
-    let s = c .before .before .before .before .before .before .before .before .before .before .before .before .before .before .before .before .before .before .before .before .before in
-    c .return-cells .ensures (programOf (s .args .file .now)) (functions-here _ _ (s .pre .0 .loaded)) ∙ return-by-count _ _ _ _ _ _ (count-here (c .before .before .before .before .before .before .before .before .before .before .before .before))
+    let s = c .before .before .before .before .before .before .before .before .before .before .before .before .before .before .before .before .before .before in
+    c .return-cells .ensures (programOf (s .args .file .now)) (functions-here _ _ (s .pre .0 .loaded) _ (c .before .before .before .before .before .before .before .before .before .before .before .before .before .part .ensures)) ∙ return-by-count _ _ _ _ _ _ (count-here (c .before .before .before .before .before .before .before .before .before .before .before .before))
 
 room : (c : tie.Else1 Inv-loop μ-loop) → (c .before .before .before .before .before .before .before .before .before .before .before .before .before .before .before .before .before .before .before .before .before .loop .now .depth < 31) × (c .before .before .before .before .before .before .before .before .before .before .before .before .before .before .before .before .before .before .before .before .before .loop .now .saved + c .before .before .before .before .before .before .enter-cells .result .locals ≤ 2048)
 room c = turn-room _ _ _ _ _ _ _ _ (c .before .before .before .before .before .before .before .before .before .before .before .before .before .before .before .before .before .before .before .before .before .loop .inv .1) (c .before .before .before .before .before .before .before .before .before .before .before .before .before .before .before .before .before .before .before .before .loop-test .taken) _ _ (did (c .before .before .before .before .before .before .before .before .before .before .before .before .before .before .before .before .before)) _ (c .before .before .before .before .before .before .before .before .before .before .before .before .before .done2 .given .1) _ _ _ (entry-did (c .before .before .before .before .before .before)) (c .if1 .left)
@@ -77,50 +77,38 @@ frame-fits : (c : tie.After-struct-told4 Inv-loop μ-loop) → SFits w64 (getD (
 frame-fits c = search needs
 
 -- a Call is one of the statements
-stands-here : (c : tie.After-done2 Inv-loop μ-loop) → Standing (c .before .before .before .before .before .before .before .before .loop .now .pc)
-stands-here c = stands-call _ _ _ (c .done2 .given .1) (does-stands _ (c .before .before .before .before .before .before .before .before .loop .now) _ _ _ (c .before .before .before .before .before .before .before .before .loop .inv .0 .0 .1 .loaded) (did (c .before .before .before .before)))
+called-at : (c : tie.After-done2 Inv-loop μ-loop) → AtStatement (c .before .before .before .before .before .before .before .before .loop .now .pc)
+called-at c = call-at _ _ _ (c .done2 .given .1) (does-call-at _ (c .before .before .before .before .before .before .before .before .loop .now) _ _ _ (c .before .before .before .before .before .before .before .before .loop .inv .0 .0 .1 .loaded) (did (c .before .before .before .before)))
 
 loop-holds : tie.Need-loop-holds Inv-loop μ-loop
-loop-holds c = let s = c .before .before .before .before .before .before .before .before in ((((refl, refl), s .pre .0), s .pre .1), run-start _ _ _ _ (λ z. absurd (omega (arith, z, s .pre .1))))
+loop-holds c = let s = c .before .before .before .before .before in ((((refl, refl), s .pre .0), s .pre .1), run-start _ _ _ _ (λ z. let over = s .pre .1 (omega (arith, z)) in absurd (omega (arith, z, over, s .pre .0 .depth))))
 
 add-completed : tie.Need-add-completed Inv-loop μ-loop
-add-completed c = omega (arith, c .loop-test .taken, c .before .before .before .before .before .before .before .before .before .before .good .1 .1 .0)
+add-completed c = omega (arith, c .loop-test .taken, c .before .before .before .before .before .before .before .good .1 .1 .0)
 
 does-requires : tie.Need-does-requires Inv-loop μ-loop
 does-requires c κs =
-    let w = c .before .before .before .before .before .before .before .before .before .before .before .before .pre .0 in
-    (w .loaded .lumps .statements, defs-fit _ _ (w .loaded), w .loaded .lumps .functions, omega (arith, w .lent, c .before .before .before .loop .inv .0 .0 .0 .0), w .most)
-
-enum-known-done : tie.Need-enum-known-done Inv-loop μ-loop
-enum-known-done c = search needs
-
-enum-known-done-2 : tie.Need-enum-known-done-2 Inv-loop μ-loop
-enum-known-done-2 c = search needs
-
-place-of-requires : tie.Need-place-of-requires Inv-loop μ-loop
-place-of-requires c κs = search needs
+    let w = c .before .before .before .before .before .before .before .before .before .pre .0 in
+    record { lumps = w .loaded .lumps; most = w .most; lends = omega (arith, w .lent, c .before .before .before .loop .inv .0 .0 .0 .0) }
 
 after-requires : tie.Need-after-requires Inv-loop μ-loop
 after-requires c κs =
     let l = c .before .before .before .before .before .before .before .before .before .before .before in
     let g : SFits w64 (l .loop .now .pc) = search needs in
-    let w = stands-here (c .before .before .before) in
+    let w = called-at (c .before .before .before) in
     omega (arith, w .small, (rw (toZ-ofZ g) at (c .place-of .ensures)))
 
 enter-cells-requires : tie.Need-enter-cells-requires Inv-loop μ-loop
 enter-cells-requires c κs =
-    let v = c .before .before .before .before .before .before .before .before .before .before .before .before .before .before .before .before .before .before .before .before .before .before .before .pre .0 in
+    let v = c .before .before .before .before .before .before .before .before .before .before .before .before .before .before .before .before .before .before .before .before .pre .0 in
     let i = c .before .before .before .before .before .before .before .before .before .before .before .before .before .before .loop .inv .0 .0 in
-    (v .loaded .lumps .functions, (i .1 .held, i .1 .store, omega (arith, v .lent, c .before .before .before .before .before .before .before .before .before .before .does .kept .1 .1 .1 .1 .1 .1 .1 .1 .0, i .0 .0)))
-
-ends-requires : tie.Need-ends-requires Inv-loop μ-loop
-ends-requires c κs = search needs
+    (i .1 .held, i .1 .store, omega (arith, v .lent, c .before .before .before .before .before .before .before .before .before .before .does .kept .1 .1 .0, i .0 .0))
 
 same-length : tie.Need-same-length Inv-loop μ-loop
-same-length c = c .before .before .before .before .before .before .before .enter-cells .kept .1 .1 .1 .1 .1 .1 .1 .0 ∙ c .before .before .before .before .before .before .before .before .before .before .before .before .before .before .before .before .before .before .does .kept .1 .1 .1 .1 .1 .1 .1 .1 .0 ∙ c .before .before .before .before .before .before .before .before .before .before .before .before .before .before .before .before .before .before .before .before .before .before .loop .inv .0 .0 .0 .0
+same-length c = c .before .before .before .before .before .before .before .enter-cells .kept .1 .1 .1 .1 .1 .0 ∙ c .before .before .before .before .before .before .before .before .before .before .before .before .before .before .before .before .before .before .does .kept .1 .1 .0 ∙ c .before .before .before .before .before .before .before .before .before .before .before .before .before .before .before .before .before .before .before .before .before .before .loop .inv .0 .0 .0 .0
 
 same-length-2 : tie.Need-same-length-2 Inv-loop μ-loop
-same-length-2 c = c .before .before .before .before .before .before .before .enter-cells .kept .1 .1 .1 .1 .1 .1 .1 .1 .0 ∙ c .before .before .before .before .before .before .before .before .before .before .before .before .before .before .before .before .before .before .before .before .before .before .loop .inv .0 .0 .0 .1
+same-length-2 c = c .before .before .before .before .before .before .before .enter-cells .kept .1 .1 .1 .1 .1 .1 .0 ∙ c .before .before .before .before .before .before .before .before .before .before .before .before .before .before .before .before .before .before .before .before .before .before .loop .inv .0 .0 .0 .1
 
 returns : tie.Need-returns Inv-loop μ-loop
 returns c = turn-entry-refused _ _ _ _ _ _ _ _ (c .before .before .before .before .before .before .before .before .before .before .before .before .before .before .before .before .before .before .before .before .before .before .loop .inv .1) (c .before .before .before .before .before .before .before .before .before .before .before .before .before .before .before .before .before .before .before .before .before .loop-test .taken) _ _ (did (c .before .before .before .before .before .before .before .before .before .before .before .before .before .before .before .before .before .before)) _ (c .before .before .before .before .before .before .before .before .before .before .before .before .before .before .done2 .given .1) _ _ _ (entry-did (c .before .before .before .before .before .before .before)) (c .before .if1 .taken) _ (c .ends .ensures)
@@ -137,20 +125,14 @@ add-now c = omega (arith, room c .0)
 add-now-2 : tie.Need-add-now-2 Inv-loop μ-loop
 add-now-2 c = omega (arith, room (c .before) .1)
 
-enum-known-done-3 : tie.Need-enum-known-done-3 Inv-loop μ-loop
-enum-known-done-3 c = search needs
-
 return-cells-requires : tie.Need-return-cells-requires Inv-loop μ-loop
 return-cells-requires c κs =
-    let v = c .before .before .before .before .before .before .before .before .before .before .before .before .before .before .before .before .before .before .before .before .pre .0 in
+    let v = c .before .before .before .before .before .before .before .before .before .before .before .before .before .before .before .before .before .pre .0 in
     let i = c .before .before .before .before .before .before .before .before .before .before .before .loop .inv .0 .0 in
-    (v .loaded .lumps .functions, (i .1 .held, i .1 .store, v .least, omega (arith, v .lent, c .before .before .before .before .before .before .before .does .kept .1 .1 .1 .1 .1 .1 .1 .1 .0, i .0 .0)))
-
-ends-requires-2 : tie.Need-ends-requires-2 Inv-loop μ-loop
-ends-requires-2 c κs = search needs
+    (i .1 .held, i .1 .store, v .least, omega (arith, v .lent, c .before .before .before .before .before .before .before .does .kept .1 .1 .0, i .0 .0))
 
 same-length-3 : tie.Need-same-length-3 Inv-loop μ-loop
-same-length-3 c = c .before .before .before .before .before .return-cells .kept .1 .1 .1 .1 .1 .1 .1 .1 .0 ∙ c .before .before .before .before .before .before .before .before .before .before .before .before .before .does .kept .1 .1 .1 .1 .1 .1 .1 .1 .0 ∙ c .before .before .before .before .before .before .before .before .before .before .before .before .before .before .before .before .before .loop .inv .0 .0 .0 .0
+same-length-3 c = c .before .before .before .before .before .return-cells .kept .1 .1 .1 .1 .1 .1 .0 ∙ c .before .before .before .before .before .before .before .before .before .before .before .before .before .does .kept .1 .1 .0 ∙ c .before .before .before .before .before .before .before .before .before .before .before .before .before .before .before .before .before .loop .inv .0 .0 .0 .0
 
 same-length-4 : tie.Need-same-length-4 Inv-loop μ-loop
 same-length-4 c = c .before .before .before .before .before .before .before .before .before .before .before .before .before .before .before .before .before .loop .inv .0 .0 .0 .1
@@ -176,11 +158,8 @@ element-set-from-none c = omega (arith, some-left (c .before) .0, c .before .bef
 sub-now : tie.Need-sub-now Inv-loop μ-loop
 sub-now c = omega (arith, some-left (c .before .before) .1)
 
-ends-requires-3 : tie.Need-ends-requires-3 Inv-loop μ-loop
-ends-requires-3 c κs = search needs
-
 same-length-5 : tie.Need-same-length-5 Inv-loop μ-loop
-same-length-5 c = c .before .before .before .before .before .before .before .before .before .return-cells .kept .1 .1 .1 .1 .1 .1 .1 .1 .0 ∙ c .before .before .before .before .before .before .before .before .before .before .before .before .before .before .before .before .before .does .kept .1 .1 .1 .1 .1 .1 .1 .1 .0 ∙ c .before .before .before .before .before .before .before .before .before .before .before .before .before .before .before .before .before .before .before .before .before .loop .inv .0 .0 .0 .0
+same-length-5 c = c .before .before .before .before .before .before .before .before .before .return-cells .kept .1 .1 .1 .1 .1 .1 .0 ∙ c .before .before .before .before .before .before .before .before .before .before .before .before .before .before .before .before .before .does .kept .1 .1 .0 ∙ c .before .before .before .before .before .before .before .before .before .before .before .before .before .before .before .before .before .before .before .before .before .loop .inv .0 .0 .0 .0
 
 same-length-6 : tie.Need-same-length-6 Inv-loop μ-loop
 same-length-6 c = c .before .before .before .before .before .before .before .before .before .before .before .before .before .before .before .before .before .before .before .before .before .loop .inv .0 .0 .0 .1
@@ -190,14 +169,8 @@ returns-3 c =
     let k = frame-fits (c .before .before) in
     turn-ended _ _ _ _ _ _ _ _ (c .before .before .before .before .before .before .before .before .before .before .before .before .before .before .before .before .before .before .before .before .before .loop .inv .1) (c .before .before .before .before .before .before .before .before .before .before .before .before .before .before .before .before .before .before .before .before .loop-test .taken) _ _ (did (c .before .before .before .before .before .before .before .before .before .before .before .before .before .before .before .before .before)) _ (c .before .before .before .before .before .before .before .before .before .before .before .before .before .done3 .given .1) _ _ (leaving-did (c .before .before .before .before .before .before .before .before .before)) (c .before .before .before .before .before .if2 .left) (c .before .if3 .taken) _ (rw (toZ-ofZ k) at (c .ends3 .ensures))
 
-enum-known-done-4 : tie.Need-enum-known-done-4 Inv-loop μ-loop
-enum-known-done-4 c = search needs
-
-ends-requires-4 : tie.Need-ends-requires-4 Inv-loop μ-loop
-ends-requires-4 c κs = search needs
-
 same-length-7 : tie.Need-same-length-7 Inv-loop μ-loop
-same-length-7 c = c .before .before .before .before .before .before .does .kept .1 .1 .1 .1 .1 .1 .1 .1 .0 ∙ c .before .before .before .before .before .before .before .before .before .before .loop .inv .0 .0 .0 .0
+same-length-7 c = c .before .before .before .before .before .before .does .kept .1 .1 .0 ∙ c .before .before .before .before .before .before .before .before .before .before .loop .inv .0 .0 .0 .0
 
 same-length-8 : tie.Need-same-length-8 Inv-loop μ-loop
 same-length-8 c = c .before .before .before .before .before .before .before .before .before .before .loop .inv .0 .0 .0 .1
@@ -205,14 +178,8 @@ same-length-8 c = c .before .before .before .before .before .before .before .bef
 returns-4 : tie.Need-returns-4 Inv-loop μ-loop
 returns-4 c = turn-refused _ _ _ _ _ _ _ _ (c .before .before .before .before .before .before .before .before .before .before .loop .inv .1) (c .before .before .before .before .before .before .before .before .before .loop-test .taken) _ _ (did (c .before .before .before .before .before .before)) _ _ (c .before .before .done4 .given .1) (c .ends4 .ensures)
 
-enum-known-done-5 : tie.Need-enum-known-done-5 Inv-loop μ-loop
-enum-known-done-5 c = search needs
-
-ends-requires-5 : tie.Need-ends-requires-5 Inv-loop μ-loop
-ends-requires-5 c κs = search needs
-
 same-length-9 : tie.Need-same-length-9 Inv-loop μ-loop
-same-length-9 c = c .before .before .before .before .before .before .does .kept .1 .1 .1 .1 .1 .1 .1 .1 .0 ∙ c .before .before .before .before .before .before .before .before .before .before .loop .inv .0 .0 .0 .0
+same-length-9 c = c .before .before .before .before .before .before .does .kept .1 .1 .0 ∙ c .before .before .before .before .before .before .before .before .before .before .loop .inv .0 .0 .0 .0
 
 same-length-10 : tie.Need-same-length-10 Inv-loop μ-loop
 same-length-10 c = c .before .before .before .before .before .before .before .before .before .before .loop .inv .0 .0 .0 .1
@@ -228,7 +195,7 @@ loop-again c =
     let d = c .before .before .before .before .before in
     let l = c .before .before .before .before .before .before .before .before .before in
     let i = l .loop .inv in
-    let k = d .does .kept .1 .1 .1 .1 .1 .1 .1 .1 .0 in
+    let k = d .does .kept .1 .1 .0 in
     let g : SFits w64 (c .before .done .given .0 .0) = search needs in
     ((((k ∙ i .0 .0 .0 .0, i .0 .0 .0 .1), rw (toZ-ofZ g) (within-lent _ _ _ _ _ _ (next-within _ _ _ _ (i .0 .0 .1) _) k refl)), i .0 .1), rw (toZ-ofZ g) (turn-next _ _ _ _ _ _ _ _ (l .loop .inv .1) (c .before .before .before .before .before .before .before .before .loop-test .taken) _ _ (did (d)) _ _ (c .before .done .given .1) refl))
 
@@ -241,13 +208,13 @@ loop-again-2 c =
     let l = c .before .before .before .before .before .before .before .before .before .before .before .before .before .before .before .before .before .before .before .before .before .before .before in
     let n = c .before .before .before .before .before .before .before .before .enter-cells in
     let i = l .loop .inv in
-    let k = n .kept .1 .1 .1 .1 .1 .1 .1 .0 ∙ d .does .kept .1 .1 .1 .1 .1 .1 .1 .1 .0 in
-    let m = n .kept .1 .1 .1 .1 .1 .1 .1 .1 .0 in
+    let k = n .kept .1 .1 .1 .1 .1 .0 ∙ d .does .kept .1 .1 .0 in
+    let m = n .kept .1 .1 .1 .1 .1 .1 .0 in
     let a = c .before .before .before .before .before .before .before .before .before .before .before .after in
     let g : SFits w64 (l .loop .now .pc) = search needs in
     let f : SFits w64 (n .result .first) = search needs in
     let back = a .ensures ∙ ap (λ (j : ℕ). pos j +ℤ pos 1) (rw (toZ-ofZ g) at (c .before .before .before .before .before .before .before .before .before .before .before .before .place-of .ensures)) in
-    ((((k ∙ i .0 .0 .0 .0, m ∙ i .0 .0 .0 .1), rw (toZ-ofZ f, toZ-ofZ {w = w64} {z = a .result} (record { sfits = a .ok })) (within-lent _ _ _ _ _ _ (entered-within _ _ _ _ (i .0 .0 .1) _ _ _ _ (room (c .before .before))) k m)), omega (arith, i .0 .1)), rw (toZ-ofZ f, toZ-ofZ {w = w64} {z = a .result} (record { sfits = a .ok })) (turn-enters _ _ _ _ _ _ _ _ (l .loop .inv .1) (c .before .before .before .before .before .before .before .before .before .before .before .before .before .before .before .before .before .before .before .before .before .before .loop-test .taken) _ _ (did (d)) _ (c .before .before .before .before .before .before .before .before .before .before .before .before .before .before .before .done2 .given .1) _ _ _ (entry-did (c .before .before .before .before .before .before .before .before)) (c .before .before .if1 .left) (i .0 .1) (stands-here (c .before .before .before .before .before .before .before .before .before .before .before .before .before .before .before)) _ back))
+    ((((k ∙ i .0 .0 .0 .0, m ∙ i .0 .0 .0 .1), rw (toZ-ofZ f, toZ-ofZ {w = w64} {z = a .result} (record { sfits = a .ok })) (within-lent _ _ _ _ _ _ (entered-within _ _ _ _ (i .0 .0 .1) _ _ _ _ (room (c .before .before))) k m)), (λ h. i .0 .1 (omega (arith, h)))), rw (toZ-ofZ f, toZ-ofZ {w = w64} {z = a .result} (record { sfits = a .ok })) (turn-enters _ _ _ _ _ _ _ _ (l .loop .inv .1) (c .before .before .before .before .before .before .before .before .before .before .before .before .before .before .before .before .before .before .before .before .before .before .loop-test .taken) _ _ (did (d)) _ (c .before .before .before .before .before .before .before .before .before .before .before .before .before .before .before .done2 .given .1) _ _ _ (entry-did (c .before .before .before .before .before .before .before .before)) (c .before .before .if1 .left) (i .0 .1) (called-at (c .before .before .before .before .before .before .before .before .before .before .before .before .before .before .before)) _ back))
 
 loop-less-3 : tie.Need-loop-less-3 Inv-loop μ-loop
 loop-less-3 c = omega (arith, c .before .before .before .before .before .before .before .before .before .before .before .before .before .before .before .before .before .before .before .loop-test .taken)
@@ -258,12 +225,9 @@ loop-again-3 c =
     let l = c .before .before .before .before .before .before .before .before .before .before .before .before .before .before .before .before .before .before .before .before in
     let n = c .before .before .before .before .before .before .before .before .return-cells in
     let i = l .loop .inv in
-    let k = n .kept .1 .1 .1 .1 .1 .1 .1 .1 .0 ∙ d .does .kept .1 .1 .1 .1 .1 .1 .1 .1 .0 in
+    let k = n .kept .1 .1 .1 .1 .1 .1 .0 ∙ d .does .kept .1 .1 .0 in
     let z = toZ-ofZ (frame-fits (c .before)) in
-    ((((k ∙ i .0 .0 .0 .0, i .0 .0 .0 .1), rw z (within-lent _ _ _ _ _ _ (left-within _ _ _ _ (i .0 .0 .1) _) k refl)), omega (arith, i .0 .1, c .if3 .left, some-left (c .before .before .before .before) .0)), rw z (turn-again _ _ _ _ _ _ _ _ (l .loop .inv .1) (c .before .before .before .before .before .before .before .before .before .before .before .before .before .before .before .before .before .before .before .loop-test .taken) _ _ (did (d)) _ (c .before .before .before .before .before .before .before .before .before .before .before .before .done3 .given .1) _ _ (leaving-did (c .before .before .before .before .before .before .before .before)) (c .before .before .before .before .if2 .left) (c .if3 .left)))
-
-ends-requires-6 : tie.Need-ends-requires-6 Inv-loop μ-loop
-ends-requires-6 c κs = search needs
+    ((((k ∙ i .0 .0 .0 .0, i .0 .0 .0 .1), rw z (within-lent _ _ _ _ _ _ (left-within _ _ _ _ (i .0 .0 .1) _) k refl)), (λ h. i .0 .1 (omega (arith, h, c .if3 .left, some-left (c .before .before .before .before) .0)))), rw z (turn-again _ _ _ _ _ _ _ _ (l .loop .inv .1) (c .before .before .before .before .before .before .before .before .before .before .before .before .before .before .before .before .before .before .before .loop-test .taken) _ _ (did (d)) _ (c .before .before .before .before .before .before .before .before .before .before .before .before .done3 .given .1) _ _ (leaving-did (c .before .before .before .before .before .before .before .before)) (c .before .before .before .before .if2 .left) (c .if3 .left)))
 
 same-length-11 : tie.Need-same-length-11 Inv-loop μ-loop
 same-length-11 c = c .before .before .loop .inv .0 .0 .0 .0
@@ -272,7 +236,7 @@ same-length-12 : tie.Need-same-length-12 Inv-loop μ-loop
 same-length-12 c = c .before .before .loop .inv .0 .0 .0 .1
 
 returns-6 : tie.Need-returns-6 Inv-loop μ-loop
-returns-6 c = ap (λ (w : Ran). ranOf w (c .before .before .loop .cells) (c .before .before .loop .saved)) (c .ends6 .ensures) ∙ run-spent _ _ _ _ _ _ (c .before .loop-test .left) (c .before .before .loop .inv .1)
+returns-6 c = ap (λ (w : Ran). ranOf w (c .before .before .loop .cells) (c .before .before .loop .store)) (c .ends6 .ensures) ∙ run-spent _ _ _ _ _ _ (c .before .loop-test .left) (c .before .before .loop .inv .1)
 
 pub run-for-spec : {M : Type 1} → statement M
 run-for-spec =
@@ -280,15 +244,16 @@ run-for-spec =
     (tie.spec
     Inv-loop
     μ-loop
+    (λ c κs. search needs)
     loop-holds
     add-completed
     does-requires
-    enum-known-done
-    enum-known-done-2
-    place-of-requires
+    (λ c. search needs)
+    (λ c. search needs)
+    (λ c κs. search needs)
     after-requires
     enter-cells-requires
-    ends-requires
+    (λ c κs. search needs)
     same-length
     same-length-2
     returns
@@ -296,9 +261,9 @@ run-for-spec =
     element-set-from-frame
     add-now
     add-now-2
-    enum-known-done-3
+    (λ c. search needs)
     return-cells-requires
-    ends-requires-2
+    (λ c κs. search needs)
     same-length-3
     same-length-4
     returns-2
@@ -308,17 +273,17 @@ run-for-spec =
     mul-none
     element-set-from-none
     sub-now
-    ends-requires-3
+    (λ c κs. search needs)
     same-length-5
     same-length-6
     returns-3
-    enum-known-done-4
-    ends-requires-4
+    (λ c. search needs)
+    (λ c κs. search needs)
     same-length-7
     same-length-8
     returns-4
-    enum-known-done-5
-    ends-requires-5
+    (λ c. search needs)
+    (λ c κs. search needs)
     same-length-9
     same-length-10
     returns-5
@@ -328,7 +293,7 @@ run-for-spec =
     loop-again-2
     loop-less-3
     loop-again-3
-    ends-requires-6
+    (λ c κs. search needs)
     same-length-11
     same-length-12
     returns-6)

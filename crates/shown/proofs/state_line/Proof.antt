@@ -5,21 +5,6 @@ use borrow.Author.Needs.{needs}
 use Rattle.shown.proofs.state_line.Statement.{statement}
 use Rattle.shown.proofs.state_line.Tie as tie
 
-cell-at-requires : tie.Need-cell-at-requires
-cell-at-requires c κs = search needs
-
-cell-at-requires-2 : tie.Need-cell-at-requires-2
-cell-at-requires-2 c κs = search needs
-
-cell-at-requires-3 : tie.Need-cell-at-requires-3
-cell-at-requires-3 c κs = search needs
-
-show-line-requires : tie.Need-show-line-requires
-show-line-requires c κs = search needs
-
-same-length : tie.Need-same-length
-same-length c = search needs
-
 returns : tie.Need-returns
 returns c =
     let l = c .before .before in
@@ -29,11 +14,5 @@ returns c =
 
 pub state-line-spec : {M : Type 1} → statement M
 state-line-spec =
-    tie.close
-    (tie.spec
-    cell-at-requires
-    cell-at-requires-2
-    cell-at-requires-3
-    show-line-requires
-    same-length
+    tie.close (tie.spec (λ c κs. search needs) (λ c κs. search needs) (λ c κs. search needs) (λ c κs. search needs) (λ c. search needs)
     returns)

@@ -4,26 +4,8 @@ use lib.ListN.{length}
 use Rattle.statement_vectors.proofs.same_cells.Statement.{statement}
 use Rattle.statement_vectors.proofs.same_cells.Tie as tie
 
-abbrev Inv-loop : tie.InvT-loop
-Inv-loop cells want i₀ i = (i ≤ length cells) × (length cells ≤ length want)
-
-abbrev μ-loop : tie.MeasureT-loop
-μ-loop cells want i₀ i = length cells - i
-
 pub same-cells-spec : {M : Type 1} → statement M
 same-cells-spec =
-    tie.close
-    (tie.spec
-    Inv-loop
-    μ-loop
-    (λ c. search needs)
-    (λ c. search needs)
-    (λ c. search needs)
-    (λ c. search needs)
-    (λ c. search needs)
-    (λ c. search needs)
-    (λ c. search needs)
-    (λ c. search needs)
-    (λ c. search needs)
-    (λ c. search needs)
-    (λ c. search needs))
+    tie.close (tie.spec (λ cells want i₀ i. (i ≤ length cells) × (length cells ≤ length want)) (λ cells want i₀ i. length cells - i)
+    (λ c. search needs) (λ c. search needs) (λ c. search needs) (λ c. search needs) (λ c. search needs) (λ c. search needs)
+    (λ c. search needs) (λ c. search needs) (λ c. search needs) (λ c. search needs) (λ c. search needs))

@@ -9,11 +9,8 @@ returns c = raw-below _ _ _ (c .before .if1 .taken) (c .if2 .taken)
 returns-2 : tie.Need-returns-2
 returns-2 c = raw-above _ _ _ (c .before .if1 .taken) (c .if2 .left)
 
-check-cell-requires : tie.Need-check-cell-requires
-check-cell-requires c κs = search needs
-
 returns-3 : tie.Need-returns-3
 returns-3 c = raw-typed _ _ _ _ (c .before .if1 .left) (c .check-cell .ensures)
 
 pub check-raw-spec : {M : Type 1} → statement M
-check-raw-spec = tie.close (tie.spec returns returns-2 check-cell-requires returns-3)
+check-raw-spec = tie.close (tie.spec returns returns-2 (λ c κs. search needs) returns-3)

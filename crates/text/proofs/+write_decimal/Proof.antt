@@ -29,111 +29,13 @@ write-decimal-below t =
     (falls 1 write-decimal-kinds.ps _<_ μ-write-decimal t)
     write-decimal.Pre
 
-write-decimal-cast-write-byte : (t : ℕ) → write-decimal-lts.Need-cast-write-byte (
-  write-byte-reads.Asked,
-  write-byte-reads.Learnt,
-  write-decimal-below t,
-  write-decimal.Post,
-) (write-decimal-at t) write-decimal.Post
-write-decimal-cast-write-byte t c = search needs
-
-write-decimal-add-write-byte : (t : ℕ) → write-decimal-lts.Need-add-write-byte (
-  write-byte-reads.Asked,
-  write-byte-reads.Learnt,
-  write-decimal-below t,
-  write-decimal.Post,
-) (write-decimal-at t) write-decimal.Post
-write-decimal-add-write-byte t c = search needs
-
-write-decimal-write-byte-requires : (t : ℕ) → write-decimal-lts.Need-write-byte-requires (
-  write-byte-reads.Asked,
-  write-byte-reads.Learnt,
-  write-decimal-below t,
-  write-decimal.Post,
-) (write-decimal-at t) write-decimal.Post
-write-decimal-write-byte-requires t c κs = room-same (c .before .before .before .pre .1) (decimal-one _ (search needs))
-
-write-decimal-same-length : (t : ℕ) → write-decimal-lts.Need-same-length (
-  write-byte-reads.Asked,
-  write-byte-reads.Learnt,
-  write-decimal-below t,
-  write-decimal.Post,
-) (write-decimal-at t) write-decimal.Post
-write-decimal-same-length t c = search needs
-
-write-decimal-returns : (t : ℕ) → write-decimal-lts.Need-returns (
-  write-byte-reads.Asked,
-  write-byte-reads.Learnt,
-  write-decimal-below t,
-  write-decimal.Post,
-) (write-decimal-at t) write-decimal.Post
-write-decimal-returns t c = put-same _ (c .before .before .write-byte .ensures) (decimal-one _ (search needs))
-
-write-decimal-write-decimal-requires : (t : ℕ) → write-decimal-lts.Need-write-decimal-requires (
-  write-byte-reads.Asked,
-  write-byte-reads.Learnt,
-  write-decimal-below t,
-  write-decimal.Post,
-) (write-decimal-at t) write-decimal.Post
-write-decimal-write-decimal-requires t c κs = (omega arith, room-first _ _ _ (decimal-more _ (search needs)) (search needs))
-
-write-decimal-cast-write-byte-2 : (t : ℕ) → write-decimal-lts.Need-cast-write-byte-2 (
-  write-byte-reads.Asked,
-  write-byte-reads.Learnt,
-  write-decimal-below t,
-  write-decimal.Post,
-) (write-decimal-at t) write-decimal.Post
-write-decimal-cast-write-byte-2 t c = search needs
-
-write-decimal-add-write-byte-2 : (t : ℕ) → write-decimal-lts.Need-add-write-byte-2 (
-  write-byte-reads.Asked,
-  write-byte-reads.Learnt,
-  write-decimal-below t,
-  write-decimal.Post,
-) (write-decimal-at t) write-decimal.Post
-write-decimal-add-write-byte-2 t c = search needs
-
-write-decimal-write-byte-requires-2 : (t : ℕ) → write-decimal-lts.Need-write-byte-requires-2 (
-  write-byte-reads.Asked,
-  write-byte-reads.Learnt,
-  write-decimal-below t,
-  write-decimal.Post,
-) (write-decimal-at t) write-decimal.Post
-write-decimal-write-byte-requires-2 t c κs = room-second _ _ _ (decimal-more _ (search needs)) (c .before .before .before .write-decimal .ensures) (search needs)
-
-write-decimal-same-length-2 : (t : ℕ) → write-decimal-lts.Need-same-length-2 (
-  write-byte-reads.Asked,
-  write-byte-reads.Learnt,
-  write-decimal-below t,
-  write-decimal.Post,
-) (write-decimal-at t) write-decimal.Post
-write-decimal-same-length-2 t c = omega arith
-
-write-decimal-returns-2 : (t : ℕ) → write-decimal-lts.Need-returns-2 (
-  write-byte-reads.Asked,
-  write-byte-reads.Learnt,
-  write-decimal-below t,
-  write-decimal.Post,
-) (write-decimal-at t) write-decimal.Post
-write-decimal-returns-2 t c = put-both _ _ _ (decimal-more _ (search needs)) (c .before .before .before .before .before .before .write-decimal .ensures) (search needs)
-
 pub +write-decimal-spec : {M : Type 1} → statement M
-+write-decimal-spec = close μ-write-decimal λ t. write-decimal-lts.spec (
-  write-byte-reads.Asked,
-  write-byte-reads.Learnt,
-  write-decimal-below t,
-  write-decimal.Post,
-)
-    (write-decimal-at t)
-    write-decimal.Post
-    (write-decimal-cast-write-byte t)
-    (write-decimal-add-write-byte t)
-    (write-decimal-write-byte-requires t)
-    (write-decimal-same-length t)
-    (write-decimal-returns t)
-    (write-decimal-write-decimal-requires t)
-    (write-decimal-cast-write-byte-2 t)
-    (write-decimal-add-write-byte-2 t)
-    (write-decimal-write-byte-requires-2 t)
-    (write-decimal-same-length-2 t)
-    (write-decimal-returns-2 t)
++write-decimal-spec =
+    close μ-write-decimal λ t. write-decimal-lts.spec (write-byte-reads.Asked, write-byte-reads.Learnt, write-decimal-below t, write-decimal.Post)
+    (write-decimal-at t) write-decimal.Post (λ c. search needs) (λ c. search needs)
+    (λ c κs. room-same (c .before .before .before .pre .1) (decimal-one _ (search needs))) (λ c. search needs)
+    (λ c. put-same _ (c .before .before .write-byte .ensures) (decimal-one _ (search needs)))
+    (λ c κs. (omega arith, room-first _ _ _ (decimal-more _ (search needs)) (search needs))) (λ c. search needs) (λ c. search needs)
+    (λ c κs. room-second _ _ _ (decimal-more _ (search needs)) (c .before .before .before .write-decimal .ensures) (search needs))
+    (λ c. omega arith)
+    (λ c. put-both _ _ _ (decimal-more _ (search needs)) (c .before .before .before .before .before .before .write-decimal .ensures) (search needs))

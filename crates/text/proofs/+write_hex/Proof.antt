@@ -26,91 +26,11 @@ abbrev write-hex-below : ℕ → In 1 write-hex-kinds.ps
 write-hex-below t =
     and 1 write-hex-kinds.ps (falls 1 write-hex-kinds.ps _<_ μ-write-hex t) write-hex.Pre
 
-write-hex-returns : (t : ℕ) → write-hex-lts.Need-returns (
-  write-hex-below t,
-  write-hex.Post,
-  hex-digit-reads.Asked,
-  hex-digit-reads.Learnt,
-  write-byte-reads.Asked,
-  write-byte-reads.Learnt,
-) (write-hex-at t) write-hex.Post
-write-hex-returns t c = put-same _ (put-none _ _) (hex-none _ _ (search needs))
-
-write-hex-sub-write-hex : (t : ℕ) → write-hex-lts.Need-sub-write-hex (
-  write-hex-below t,
-  write-hex.Post,
-  hex-digit-reads.Asked,
-  hex-digit-reads.Learnt,
-  write-byte-reads.Asked,
-  write-byte-reads.Learnt,
-) (write-hex-at t) write-hex.Post
-write-hex-sub-write-hex t c = omega arith
-
-write-hex-write-hex-requires : (t : ℕ) → write-hex-lts.Need-write-hex-requires (
-  write-hex-below t,
-  write-hex.Post,
-  hex-digit-reads.Asked,
-  hex-digit-reads.Learnt,
-  write-byte-reads.Asked,
-  write-byte-reads.Learnt,
-) (write-hex-at t) write-hex.Post
-write-hex-write-hex-requires t c κs = (omega arith, room-first _ _ _ (hex-more _ _ (search needs) refl) (search needs))
-
-write-hex-hex-digit-requires : (t : ℕ) → write-hex-lts.Need-hex-digit-requires (
-  write-hex-below t,
-  write-hex.Post,
-  hex-digit-reads.Asked,
-  hex-digit-reads.Learnt,
-  write-byte-reads.Asked,
-  write-byte-reads.Learnt,
-) (write-hex-at t) write-hex.Post
-write-hex-hex-digit-requires t c κs = search needs
-
-write-hex-write-byte-requires : (t : ℕ) → write-hex-lts.Need-write-byte-requires (
-  write-hex-below t,
-  write-hex.Post,
-  hex-digit-reads.Asked,
-  hex-digit-reads.Learnt,
-  write-byte-reads.Asked,
-  write-byte-reads.Learnt,
-) (write-hex-at t) write-hex.Post
-write-hex-write-byte-requires t c κs = room-second _ _ _ (hex-more _ _ (search needs) (c .hex-digit .ensures)) (c .before .before .before .before .write-hex .ensures) (search needs)
-
-write-hex-same-length : (t : ℕ) → write-hex-lts.Need-same-length (
-  write-hex-below t,
-  write-hex.Post,
-  hex-digit-reads.Asked,
-  hex-digit-reads.Learnt,
-  write-byte-reads.Asked,
-  write-byte-reads.Learnt,
-) (write-hex-at t) write-hex.Post
-write-hex-same-length t c = omega arith
-
-write-hex-returns-2 : (t : ℕ) → write-hex-lts.Need-returns-2 (
-  write-hex-below t,
-  write-hex.Post,
-  hex-digit-reads.Asked,
-  hex-digit-reads.Learnt,
-  write-byte-reads.Asked,
-  write-byte-reads.Learnt,
-) (write-hex-at t) write-hex.Post
-write-hex-returns-2 t c = put-both _ _ _ (hex-more _ _ (search needs) (c .before .before .before .hex-digit .ensures)) (c .before .before .before .before .before .before .before .write-hex .ensures) (search needs)
-
 pub +write-hex-spec : {M : Type 1} → statement M
-+write-hex-spec = close μ-write-hex λ t. write-hex-lts.spec (
-  write-hex-below t,
-  write-hex.Post,
-  hex-digit-reads.Asked,
-  hex-digit-reads.Learnt,
-  write-byte-reads.Asked,
-  write-byte-reads.Learnt,
-)
-    (write-hex-at t)
-    write-hex.Post
-    (write-hex-returns t)
-    (write-hex-sub-write-hex t)
-    (write-hex-write-hex-requires t)
-    (write-hex-hex-digit-requires t)
-    (write-hex-write-byte-requires t)
-    (write-hex-same-length t)
-    (write-hex-returns-2 t)
++write-hex-spec =
+    close μ-write-hex λ t. write-hex-lts.spec (write-hex-below t, write-hex.Post, hex-digit-reads.Asked, hex-digit-reads.Learnt, write-byte-reads.Asked, write-byte-reads.Learnt)
+    (write-hex-at t) write-hex.Post (λ c. put-same _ (put-none _ _) (hex-none _ _ (search needs))) (λ c. omega arith)
+    (λ c κs. (omega arith, room-first _ _ _ (hex-more _ _ (search needs) refl) (search needs))) (λ c κs. search needs)
+    (λ c κs. room-second _ _ _ (hex-more _ _ (search needs) (c .hex-digit .ensures)) (c .before .before .before .before .write-hex .ensures) (search needs))
+    (λ c. omega arith)
+    (λ c. put-both _ _ _ (hex-more _ _ (search needs) (c .before .before .before .hex-digit .ensures)) (c .before .before .before .before .before .before .before .write-hex .ensures) (search needs))

@@ -31,9 +31,6 @@ left-1 c = rest-next (letters refusedWord) _ (left-0 (c .before .before .before 
 left-2 : (c : tie.After-write-field) → Left (c .before .before .before .before .before .before .before .before) (furtherFields []) (output (c .write-field .last .0) (c .write-field .result))
 left-2 c = rest-next _ _ (left-1 (c .before .before .before .before)) (c .write-field .ensures)
 
-slice-aggregate-write-bytes : tie.Need-slice-aggregate-write-bytes
-slice-aggregate-write-bytes c = search needs
-
 write-bytes-requires : tie.Need-write-bytes-requires
 write-bytes-requires c κs = rest-room (letters refusedWord) _ (left-0 (c .before .before .before))
 
@@ -43,9 +40,6 @@ write-field-requires c κs = rest-room _ _ (left-1 (c .before .before .before))
 write-byte-requires : tie.Need-write-byte-requires
 write-byte-requires c κs = left-2 (c .before .before .before) .room
 
-same-length : tie.Need-same-length
-same-length c = search needs
-
 returns : tie.Need-returns
 returns c =
     let l = c .before .before .before .before .before .before in
@@ -54,11 +48,4 @@ returns c =
 
 pub refused-line-spec : {M : Type 1} → statement M
 refused-line-spec =
-    tie.close
-    (tie.spec
-    slice-aggregate-write-bytes
-    write-bytes-requires
-    write-field-requires
-    write-byte-requires
-    same-length
-    returns)
+    tie.close (tie.spec (λ c. search needs) write-bytes-requires write-field-requires write-byte-requires (λ c. search needs) returns)

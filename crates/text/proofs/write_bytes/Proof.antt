@@ -30,46 +30,13 @@ whole xs i o h e = rw take-all at e
 loop-holds : tie.Need-loop-holds Inv-loop μ-loop
 loop-holds c = (omega arith, rw add-zero (put-none _ _))
 
-shared-slice-read-buf : tie.Need-shared-slice-read-buf Inv-loop μ-loop
-shared-slice-read-buf c = search needs
-
-add-buf : tie.Need-add-buf Inv-loop μ-loop
-add-buf c = search needs
-
-slice-write-buf : tie.Need-slice-write-buf Inv-loop μ-loop
-slice-write-buf c = search needs
-
-add-i : tie.Need-add-i Inv-loop μ-loop
-add-i c = search needs
-
-loop-less : tie.Need-loop-less Inv-loop μ-loop
-loop-less c = search needs
-
 loop-again : tie.Need-loop-again Inv-loop μ-loop
 loop-again c = (simp length-set (omega arith), more _ _ _ _ _ (search needs) (c .before .before .loop .inv .1))
-
-add-result : tie.Need-add-result Inv-loop μ-loop
-add-result c = search needs
-
-same-length : tie.Need-same-length Inv-loop μ-loop
-same-length c = search needs
 
 returns : tie.Need-returns Inv-loop μ-loop
 returns c = whole _ (c .before .loop .i) _ (search needs) (search needs)
 
 pub write-bytes-spec : {M : Type 1} → statement M
 write-bytes-spec =
-    tie.close
-    (tie.spec
-    Inv-loop
-    μ-loop
-    loop-holds
-    shared-slice-read-buf
-    add-buf
-    slice-write-buf
-    add-i
-    loop-less
-    loop-again
-    add-result
-    same-length
-    returns)
+    tie.close (tie.spec Inv-loop μ-loop loop-holds (λ c. search needs) (λ c. search needs) (λ c. search needs) (λ c. search needs)
+    (λ c. search needs) loop-again (λ c. search needs) (λ c. search needs) returns)

@@ -6,18 +6,12 @@ use Rattle.text.specs.Output.{room-second, put-both}
 use Rattle.text.proofs.write_cell_field.Statement.{statement}
 use Rattle.text.proofs.write_cell_field.Tie as tie
 
-write-byte-requires : tie.Need-write-byte-requires
-write-byte-requires c κs = search needs
-
 write-hex8-requires : tie.Need-write-hex8-requires
 write-hex8-requires c κs = room-second (44 ∷ []) _ _ refl (c .before .before .before .write-byte .ensures) (search needs)
-
-same-length : tie.Need-same-length
-same-length c = search needs
 
 returns : tie.Need-returns
 returns c = put-both (44 ∷ []) _ _ refl (c .before .before .before .before .before .before .write-byte .ensures) (search needs)
 
 pub write-cell-field-spec : {M : Type 1} → statement M
 write-cell-field-spec =
-    tie.close (tie.spec write-byte-requires write-hex8-requires same-length returns)
+    tie.close (tie.spec (λ c κs. search needs) write-hex8-requires (λ c. search needs) returns)

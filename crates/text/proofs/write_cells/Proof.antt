@@ -41,19 +41,10 @@ write-cell-field-requires-3 c κs = rest-room _ _ (rest-2 (c .before .before .be
 write-byte-requires : tie.Need-write-byte-requires
 write-byte-requires c κs = rest-3 (c .before .before .before) .room
 
-same-length : tie.Need-same-length
-same-length c = search needs
-
 returns : tie.Need-returns
 returns c = rest-end (rest-3 (c .before .before .before .before .before .before)) (c .before .before .write-byte .ensures)
 
 pub write-cells-spec : {M : Type 1} → statement M
 write-cells-spec =
-    tie.close
-    (tie.spec
-    write-cell-field-requires
-    write-cell-field-requires-2
-    write-cell-field-requires-3
-    write-byte-requires
-    same-length
-    returns)
+    tie.close (tie.spec write-cell-field-requires write-cell-field-requires-2 write-cell-field-requires-3 write-byte-requires
+    (λ c. search needs) returns)

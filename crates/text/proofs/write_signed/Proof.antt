@@ -14,17 +14,11 @@ minus c = negative-text _ (c .before .before .before .fits .n) (c .if1 .taken) (
 plain : (c : tie.Else1) → signedDecimal (c .before .before .before .args .n) ≡ decimal (c .before .magnitude .result)
 plain c = natural-text _ (c .before .before .before .fits .n) (c .if1 .left) (c .before .magnitude .ensures)
 
-magnitude-requires : tie.Need-magnitude-requires
-magnitude-requires c κs = search needs
-
 write-byte-requires : tie.Need-write-byte-requires
 write-byte-requires c κs = room-first _ _ _ (minus (c .before)) (search needs)
 
 write-decimal-requires : tie.Need-write-decimal-requires
 write-decimal-requires c κs = room-second _ _ _ (minus (c .before .before .before .before .before)) (c .before .before .before .write-byte .ensures) (search needs)
-
-same-length : tie.Need-same-length
-same-length c = search needs
 
 returns : tie.Need-returns
 returns c = put-both _ _ _ (minus (c .before .before .before .before .before .before .before .before)) (c .before .before .before .before .before .before .write-byte .ensures) (search needs)
@@ -32,21 +26,10 @@ returns c = put-both _ _ _ (minus (c .before .before .before .before .before .be
 write-decimal-requires-2 : tie.Need-write-decimal-requires-2
 write-decimal-requires-2 c κs = room-same (c .before .before .before .before .pre) (plain (c .before))
 
-same-length-2 : tie.Need-same-length-2
-same-length-2 c = search needs
-
 returns-2 : tie.Need-returns-2
 returns-2 c = put-same _ (c .before .before .write-decimal2 .ensures) (plain (c .before .before .before .before))
 
 pub write-signed-spec : {M : Type 1} → statement M
 write-signed-spec =
-    tie.close
-    (tie.spec
-    magnitude-requires
-    write-byte-requires
-    write-decimal-requires
-    same-length
-    returns
-    write-decimal-requires-2
-    same-length-2
-    returns-2)
+    tie.close (tie.spec (λ c κs. search needs) write-byte-requires write-decimal-requires (λ c. search needs) returns
+    write-decimal-requires-2 (λ c. search needs) returns-2)

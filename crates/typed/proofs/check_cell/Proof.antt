@@ -4,17 +4,8 @@ use borrow.Author.Needs.{needs}
 use Rattle.typed.proofs.check_cell.Statement.{statement}
 use Rattle.typed.proofs.check_cell.Tie as tie
 
-type-check-requires : tie.Need-type-check-requires
-type-check-requires c κs = search needs
-
-enum-told : tie.Need-enum-told
-enum-told c = search needs
-
 returns : tie.Need-returns
 returns c = cell-untyped _ _ _ (sym (c .enum-told .given .1) ∙ c .before .before .type-check .ensures)
-
-enum-told-2 : tie.Need-enum-told-2
-enum-told-2 c = search needs
 
 returns-2 : tie.Need-returns-2
 returns-2 c = cell-below _ _ _ (sym (c .before .enum-told2 .given .1) ∙ c .before .before .before .type-check .ensures) (c .if1 .taken)
@@ -24,4 +15,4 @@ returns-3 c = cell-above _ _ _ (sym (c .before .enum-told2 .given .1) ∙ c .bef
 
 pub check-cell-spec : {M : Type 1} → statement M
 check-cell-spec =
-    tie.close (tie.spec type-check-requires enum-told returns enum-told-2 returns-2 returns-3)
+    tie.close (tie.spec (λ c κs. search needs) (λ c. search needs) returns (λ c. search needs) returns-2 returns-3)

@@ -4,9 +4,6 @@ use borrow.Author.Needs.{needs}
 use Rattle.typed.proofs.check_read.Statement.{statement}
 use Rattle.typed.proofs.check_read.Tie as tie
 
-check-access-requires : tie.Need-check-access-requires
-check-access-requires c κs = search needs
-
 returns : tie.Need-returns
 returns c = read-stops _ _ _ _ _ _ (c .if1 .taken) (c .before .check-access .ensures)
 
@@ -25,4 +22,4 @@ returns-3 c = read-accepted _ _ _ _ _ (sym (c .before .before .before .check-acc
 pub check-read-spec : {M : Type 1} → statement M
 check-read-spec =
     tie.close
-    (tie.spec check-access-requires returns mul-if2 shared-slice-read-if2 returns-2 returns-3)
+    (tie.spec (λ c κs. search needs) returns mul-if2 shared-slice-read-if2 returns-2 returns-3)

@@ -5,13 +5,7 @@ use Rattle.typed.proofs.type_check.Statement.{statement}
 use Rattle.typed.proofs.type_check.Tie as tie
 
 returns : tie.Need-returns
-returns c = type-none _ _ _ _ _ (search needs)
-
-find-requires : tie.Need-find-requires
-find-requires c κs = search needs
-
-passes-requires : tie.Need-passes-requires
-passes-requires c κs = search needs
+returns c = type-none _ _ _ (search needs)
 
 returns-2 : tie.Need-returns-2
 returns-2 c = type-passed _ _ _ (cc)
@@ -20,4 +14,4 @@ returns-3 : tie.Need-returns-3
 returns-3 c = type-failed _ _ _ (cc)
 
 pub type-check-spec : {M : Type 1} → statement M
-type-check-spec = tie.close (tie.spec returns find-requires passes-requires returns-2 returns-3)
+type-check-spec = tie.close (tie.spec returns (λ c κs. search needs) (λ c κs. search needs) returns-2 returns-3)

@@ -13,14 +13,8 @@ use Rattle.view.proofs.Finding.{definition-outside, definition-absent, 
 use Rattle.view.proofs.definition_in.Statement.{statement}
 use Rattle.view.proofs.definition_in.Tie as tie
 
-lump-fits-requires : tie.Need-lump-fits-requires
-lump-fits-requires c κs = search needs
-
 returns : tie.Need-returns
 returns c = definition-outside _ _ _ (sym (c .before .lump-fits .ensures) ∙ not-true _ (c .if1 .taken))
-
-place-of-requires : tie.Need-place-of-requires
-place-of-requires c κs = search needs
 
 -- the lump is in the file
 fits : (e : tie.Else1) → lumpFits 8 (length (e .before .before .before .before .args .file .now)) (e .before .before .before .before .args .recorded .globaldefs) ≡ true
@@ -57,9 +51,9 @@ pub definition-in-spec : {M : Type 1} → statement M
 definition-in-spec =
     tie.close
     (tie.spec
-    lump-fits-requires
+    (λ c κs. search needs)
     returns
-    place-of-requires
+    (λ c κs. search needs)
     returns-2
     mul-read-definition
     add-read-definition

@@ -1,7 +1,7 @@
 //! Runs this machine, through the host's crate, and keeps what it answered and left.
 
 use crate::program::View;
-use host::{Handover, Machine, Outcome, RunOutcome};
+use host::{Handover, LoadError, Machine, Outcome, RunOutcome};
 
 #[derive(Clone, Copy, Debug, PartialEq, Eq, PartialOrd, Ord)]
 pub enum Answer {
@@ -60,7 +60,8 @@ impl Ours {
         let mut machine = Machine::new(bytes.to_vec(), vec![FILL; count + MORE], vec![FILL; 2_048 + MORE]);
         match machine.load() {
             Ok(()) => Ok(Ours { machine, count }),
-            Err(refusal) => Err(refusal.number()),
+            Err(LoadError::Refused(refusal)) => Err(refusal.number()),
+            Err(error) => panic!("{error}"),
         }
     }
 

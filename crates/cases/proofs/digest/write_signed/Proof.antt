@@ -18,9 +18,6 @@ short s = rw (toZ-ofZ (s .fits .n)) (signed-20 _ (s .fits .n .sfits))
 write-signed-requires : tie.Need-write-signed-requires
 write-signed-requires c κs = record { enough = omega (arith, short (c .before .before), c .before .before .pre) }
 
-same-length : tie.Need-same-length
-same-length c = search needs
-
 returns : tie.Need-returns
 unfolding put
 returns c =
@@ -30,4 +27,4 @@ returns c =
     (within, simp length-take (omega arith))
 
 pub write-signed-spec : {M : Type 1} → statement M
-write-signed-spec = tie.close (tie.spec write-signed-requires same-length returns)
+write-signed-spec = tie.close (tie.spec write-signed-requires (λ c. search needs) returns)

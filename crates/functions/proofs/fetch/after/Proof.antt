@@ -5,14 +5,8 @@ use borrow.Author.Needs.{needs}
 use Rattle.functions.proofs.fetch.after.Statement.{statement}
 use Rattle.functions.proofs.fetch.after.Tie as tie
 
-add-result : tie.Need-add-result
-add-result c = search needs
-
-cast-result : tie.Need-cast-result
-cast-result c = search needs
-
 returns : tie.Need-returns
 returns c = toZ-pos w64 (omega arith)
 
 pub after-spec : {M : Type 1} → statement M
-after-spec = tie.close (tie.spec add-result cast-result returns)
+after-spec = tie.close (tie.spec (λ c. search needs) (λ c. search needs) returns)

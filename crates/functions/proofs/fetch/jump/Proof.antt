@@ -1,4 +1,4 @@
-use mathlib.Core.Path.{_≡_, _∙_}
+use mathlib.Core.Path.{_≡_}
 use native.Mathlib.Omega.{arith}
 use lib.IntN.{pos, _+ℤ_}
 use mir.Syntax.{w64}
@@ -9,12 +9,6 @@ use Rattle.definition.specs.Cells.{signed}
 use Rattle.functions.proofs.Signs.{signed-short, signed-fits, jump-fits}
 use Rattle.functions.proofs.fetch.jump.Statement.{statement}
 use Rattle.functions.proofs.fetch.jump.Tie as tie
-
-cast-result : tie.Need-cast-result
-cast-result c = search needs
-
-signed-requires : tie.Need-signed-requires
-signed-requires c κs = search needs
 
 -- the two numbers, and that their sum fits
 index : (c : tie.After-signed) → toZ w64 (c .before .args .k) ≡ pos (c .before .args .k)
@@ -33,4 +27,4 @@ returns : tie.Need-returns
 returns c = rw (index c, by c) (toZ-ofZ (sum c))
 
 pub jump-spec : {M : Type 1} → statement M
-jump-spec = tie.close (tie.spec cast-result signed-requires add-result returns)
+jump-spec = tie.close (tie.spec (λ c. search needs) (λ c κs. search needs) add-result returns)

@@ -7,12 +7,6 @@ use borrow.Author.Needs.{needs}
 use Rattle.functions.proofs.fetch.signed.Statement.{statement}
 use Rattle.functions.proofs.fetch.signed.Tie as tie
 
-cast-result : tie.Need-cast-result
-cast-result c = search needs
-
-cast-result-2 : tie.Need-cast-result-2
-cast-result-2 c = search needs
-
 sub-result : tie.Need-sub-result
 sub-result c = rw (toZ-pos w64 {n = c .before .args .bits} (omega arith), signed-high (c .before .args .bits) (omega arith) (omega arith)) (signed-fits _ (omega arith))
 
@@ -23,4 +17,5 @@ returns-2 : tie.Need-returns-2
 returns-2 c = rw (toZ-pos w64 {n = c .before .args .bits} (omega arith), signed-high (c .before .args .bits) (omega arith) (omega arith)) (toZ-ofZ (signed-fits _ (omega arith)))
 
 pub signed-spec : {M : Type 1} → statement M
-signed-spec = tie.close (tie.spec cast-result cast-result-2 sub-result returns returns-2)
+signed-spec =
+    tie.close (tie.spec (λ c. search needs) (λ c. search needs) sub-result returns returns-2)

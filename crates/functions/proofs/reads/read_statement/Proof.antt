@@ -2,39 +2,7 @@ use borrow.Author.Needs.{needs}
 use Rattle.functions.proofs.reads.read_statement.Statement.{statement}
 use Rattle.functions.proofs.reads.read_statement.Tie as tie
 
-u16-at-requires : tie.Need-u16-at-requires
-u16-at-requires c κs = search needs
-
-add-u16-at : tie.Need-add-u16-at
-add-u16-at c = search needs
-
-u16-at-requires-2 : tie.Need-u16-at-requires-2
-u16-at-requires-2 c κs = search needs
-
-add-u16-at-2 : tie.Need-add-u16-at-2
-add-u16-at-2 c = search needs
-
-u16-at-requires-3 : tie.Need-u16-at-requires-3
-u16-at-requires-3 c κs = search needs
-
-add-u16-at-3 : tie.Need-add-u16-at-3
-add-u16-at-3 c = search needs
-
-u16-at-requires-4 : tie.Need-u16-at-requires-4
-u16-at-requires-4 c κs = search needs
-
-returns : tie.Need-returns
-returns c = cc
-
 pub read-statement-spec : {M : Type 1} → statement M
 read-statement-spec =
-    tie.close
-    (tie.spec
-    u16-at-requires
-    add-u16-at
-    u16-at-requires-2
-    add-u16-at-2
-    u16-at-requires-3
-    add-u16-at-3
-    u16-at-requires-4
-    returns)
+    tie.close (tie.spec (λ c κs. search needs) (λ c. search needs) (λ c κs. search needs) (λ c. search needs) (λ c κs. search needs)
+    (λ c. search needs) (λ c κs. search needs) (λ c. cc))

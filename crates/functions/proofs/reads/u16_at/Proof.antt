@@ -3,40 +3,8 @@ use borrow.Author.Needs.{needs}
 use Rattle.functions.proofs.reads.u16_at.Statement.{statement}
 use Rattle.functions.proofs.reads.u16_at.Tie as tie
 
-shared-slice-read-wide16 : tie.Need-shared-slice-read-wide16
-shared-slice-read-wide16 c = search needs
-
-wide16-requires : tie.Need-wide16-requires
-wide16-requires c κs = search needs
-
-add-wide16 : tie.Need-add-wide16
-add-wide16 c = search needs
-
-shared-slice-read-wide16-2 : tie.Need-shared-slice-read-wide16-2
-shared-slice-read-wide16-2 c = search needs
-
-wide16-requires-2 : tie.Need-wide16-requires-2
-wide16-requires-2 c κs = search needs
-
-mul-result : tie.Need-mul-result
-mul-result c = search needs
-
-add-result : tie.Need-add-result
-add-result c = search needs
-
-returns : tie.Need-returns
-unfolding byteAt u16At
-returns c = search needs
-
 pub u16-at-spec : {M : Type 1} → statement M
+unfolding byteAt u16At
 u16-at-spec =
-    tie.close
-    (tie.spec
-    shared-slice-read-wide16
-    wide16-requires
-    add-wide16
-    shared-slice-read-wide16-2
-    wide16-requires-2
-    mul-result
-    add-result
-    returns)
+    tie.close (tie.spec (λ c. search needs) (λ c κs. search needs) (λ c. search needs) (λ c. search needs) (λ c κs. search needs)
+    (λ c. search needs) (λ c. search needs) (λ c. search needs))

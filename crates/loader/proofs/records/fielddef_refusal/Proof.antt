@@ -1,24 +1,22 @@
-use borrow.Author.Tests.{le-leb, lt-leb, lt-ltb, le-ltb, eq-eqb, ne-eqb}
-use Rattle.loader.proofs.Each.{fails, holds, passed}
+use mathlib.Core.Path.{sym, _∙_}
 use borrow.Author.Needs.{needs}
+use borrow.Author.Tests.{lt-ltb, le-ltb}
+use Rattle.loader.proofs.Each.{fails, holds, judge-stop, judge-next}
 use Rattle.loader.proofs.records.fielddef_refusal.Statement.{statement}
 use Rattle.loader.proofs.records.fielddef_refusal.Tie as tie
 
-is-named-requires : tie.Need-is-named-requires
-is-named-requires c κs = search needs
-
 returns : tie.Need-returns
-returns c = holds _ 6 _ _ (cc) (holds _ 9 _ _ (lt-ltb _ _ (c .before .before .if2 .taken)) (holds _ 8 _ _ (le-leb _ _ (c .if3 .taken)) passed))
+returns c = judge-stop _ _ _ (c .if1 .taken) (c .before .name-refusal .ensures)
 
 returns-2 : tie.Need-returns-2
-returns-2 c = holds _ 6 _ _ (cc) (holds _ 9 _ _ (lt-ltb _ _ (c .before .before .if2 .taken)) (fails _ 8 _ (lt-leb _ _ (c .if3 .left))))
+returns-2 c =
+    judge-next _ _ _ (sym (c .before .before .before .name-refusal .ensures) ∙ c .before .before .if1 .left) (fails _ 9 _ (le-ltb _ _ (c .if2 .taken)))
 
 returns-3 : tie.Need-returns-3
-returns-3 c = holds _ 6 _ _ (cc) (fails _ 9 _ (le-ltb _ _ (c .if2 .left)))
-
-returns-4 : tie.Need-returns-4
-returns-4 c = fails _ 6 _ (cc)
+returns-3 c =
+    let n = c .before .before .before in
+    judge-next _ _ _ (sym (n .before .name-refusal .ensures) ∙ n .if1 .left) (holds _ 9 _ _ (lt-ltb _ _ (c .before .if2 .left)) (c .type-refusal .ensures))
 
 pub fielddef-refusal-spec : {M : Type 1} → statement M
 fielddef-refusal-spec =
-    tie.close (tie.spec is-named-requires returns returns-2 returns-3 returns-4)
+    tie.close (tie.spec (λ c κs. search needs) returns returns-2 (λ c κs. search needs) returns-3)

@@ -1,20 +1,15 @@
-use borrow.Author.Tests.{le-leb, lt-leb, lt-ltb, le-ltb, eq-eqb, ne-eqb}
-use Rattle.loader.proofs.Each.{fails, holds, passed}
+use mathlib.Core.Path.{sym, _∙_}
 use borrow.Author.Needs.{needs}
+use Rattle.loader.proofs.Each.{judge-stop, judge-next}
 use Rattle.loader.proofs.records.globaldef_refusal.Statement.{statement}
 use Rattle.loader.proofs.records.globaldef_refusal.Tie as tie
 
-is-named-requires : tie.Need-is-named-requires
-is-named-requires c κs = search needs
-
 returns : tie.Need-returns
-returns c = holds _ 6 _ _ (cc) (holds _ 8 _ _ (le-leb _ _ (c .if2 .taken)) passed)
+returns c = judge-stop _ _ _ (c .if1 .taken) (c .before .name-refusal .ensures)
 
 returns-2 : tie.Need-returns-2
-returns-2 c = holds _ 6 _ _ (cc) (fails _ 8 _ (lt-leb _ _ (c .if2 .left)))
-
-returns-3 : tie.Need-returns-3
-returns-3 c = fails _ 6 _ (cc)
+returns-2 c = judge-next _ _ _ (sym (c .before .before .name-refusal .ensures) ∙ c .before .if1 .left) (c .type-refusal .ensures)
 
 pub globaldef-refusal-spec : {M : Type 1} → statement M
-globaldef-refusal-spec = tie.close (tie.spec is-named-requires returns returns-2 returns-3)
+globaldef-refusal-spec =
+    tie.close (tie.spec (λ c κs. search needs) returns (λ c κs. search needs) returns-2)

@@ -1,65 +1,47 @@
-use native.Mathlib.Omega.{arith}
-use Rattle.definition.specs.File.{contentsAt}
-use Rattle.definition.specs.Load.{recordConditions}
-use Rattle.functions.specs.Laws.{all-fit}
-use Rattle.loader.proofs.Rows.{room, first-of-four, second-of-four, third-of-four, last-of-four}
+use Prim.Native.Nat.{ℕ}
+use mathlib.Core.Path.{sym, subst, _∙_}
+use lib.ListN.{length}
+use Rattle.functions.specs.Laws.{AllFit, all-fit}
+use Rattle.loader.proofs.Each.{judge-stop, judge-next}
+use Rattle.loader.proofs.Rows.{by-parts, first-of-three, second-of-three, last-of-three}
 use Rattle.loader.proofs.records.records_refusal.Statement.{statement}
 use Rattle.loader.proofs.records.records_refusal.Tie as tie
 
-functions-refusal-requires : tie.Need-functions-refusal-requires
-functions-refusal-requires c κs =
-    let s = c .before in
-    omega (arith, s .pre .1, room 36 (s .args .r .length) (s .args .r .functions) (all-fit (s .args .r) (s .pre .0) .functions))
+fit : (c : tie.After-shared-slice-known) → AllFit (length (c .before .args .file .now)) (c .before .args .r)
+fit c = subst (λ (n : ℕ). AllFit n (c .before .args .r)) (c .before .pre .1) (all-fit (c .before .args .r) (c .before .pre .0))
 
 returns : tie.Need-returns
-unfolding recordConditions contentsAt
-returns c = first-of-four _ _ _ _ _ (c .if1 .taken) (c .before .functions-refusal .ensures)
-
-statements-refusal-requires : tie.Need-statements-refusal-requires
-statements-refusal-requires c κs =
-    let s = c .before .before .before in
-    omega (arith, s .pre .1, room 8 (s .args .r .length) (s .args .r .statements) (all-fit (s .args .r) (s .pre .0) .statements))
+returns c =
+    let f = c .before in
+    rw (by-parts _ _ (fit (f .before))) (judge-stop _ _ _ (c .if1 .taken) (first-of-three _ _ _ _ (c .if1 .taken) (f .lump-refusal .ensures)))
 
 returns-2 : tie.Need-returns-2
-unfolding recordConditions contentsAt
-returns-2 c = let f = c .before .before in second-of-four _ _ _ _ _ _ (f .if1 .left) (f .before .functions-refusal .ensures) (c .if2 .taken) (c .before .statements-refusal .ensures)
-
-globaldefs-refusal-requires : tie.Need-globaldefs-refusal-requires
-globaldefs-refusal-requires c κs =
-    let s = c .before .before .before .before .before in
-    omega (arith, s .pre .1, room 8 (s .args .r .length) (s .args .r .globaldefs) (all-fit (s .args .r) (s .pre .0) .globaldefs))
+returns-2 c =
+    let f = c .before .before .before in
+    rw (by-parts _ _ (fit (f .before)))
+    (judge-stop _ _ _ (c .if2 .taken)
+    (second-of-three _ _ _ _ _ (c .before .before .if1 .left) (f .lump-refusal .ensures) (c .if2 .taken) (c .before .lump-refusal2 .ensures)))
 
 returns-3 : tie.Need-returns-3
-unfolding recordConditions contentsAt
 returns-3 c =
-    let s = c .before .before in
+    let s = c .before .before .before in
     let f = s .before .before in
-    third-of-four _ _ _ _ _ _ _ (f .if1 .left) (f .before .functions-refusal .ensures) (s .if2 .left) (s .before .statements-refusal .ensures) (c .if3 .taken)
-    (c .before .globaldefs-refusal .ensures)
-
-fielddefs-refusal-requires : tie.Need-fielddefs-refusal-requires
-fielddefs-refusal-requires c κs =
-    let s = c .before .before .before .before .before .before .before in
-    omega (arith, s .pre .1, room 8 (s .args .r .length) (s .args .r .fielddefs) (all-fit (s .args .r) (s .pre .0) .fielddefs))
+    rw (by-parts _ _ (fit (f .before)))
+    (judge-stop _ _ _ (c .if3 .taken)
+    (last-of-three _ _ _ _ _ _ (s .before .if1 .left) (f .lump-refusal .ensures) (c .before .before .if2 .left) (s .lump-refusal2 .ensures) (c .before .lump-refusal3 .ensures)))
 
 returns-4 : tie.Need-returns-4
-unfolding recordConditions contentsAt
 returns-4 c =
-    let g = c .before in
+    let g = c .before .before in
     let s = g .before .before in
     let f = s .before .before in
-    last-of-four _ _ _ _ _ _ _ _ (f .if1 .left) (f .before .functions-refusal .ensures) (s .if2 .left) (s .before .statements-refusal .ensures) (g .if3 .left)
-    (g .before .globaldefs-refusal .ensures) (c .fielddefs-refusal .ensures)
+    rw (by-parts _ _ (fit (f .before)))
+    (judge-next _ _ _
+    (sym (last-of-three _ _ _ _ _ _ (s .before .if1 .left) (f .lump-refusal .ensures) (g .before .if2 .left) (s .lump-refusal2 .ensures) (g .lump-refusal3 .ensures)) ∙ c .before .if3 .left)
+    (c .lump-refusal4 .ensures))
 
 pub records-refusal-spec : {M : Type 1} → statement M
 records-refusal-spec =
-    tie.close
-    (tie.spec
-    functions-refusal-requires
-    returns
-    statements-refusal-requires
-    returns-2
-    globaldefs-refusal-requires
-    returns-3
-    fielddefs-refusal-requires
-    returns-4)
+    tie.close (tie.spec (λ c κs. fit c .functions) returns (λ c κs. fit (c .before .before) .statements) returns-2
+    (λ c κs. fit (c .before .before .before .before) .globaldefs) returns-3
+    (λ c κs. fit (c .before .before .before .before .before .before) .fielddefs) returns-4)

@@ -18,10 +18,10 @@ use Rattle.progs.proofs.ExecutionContext.abandon.Statement.{statement}
 use Rattle.progs.proofs.ExecutionContext.abandon.Tie as tie
 
 -- check 13 passed
-sound-here : (c : tie.Else1) → let s = c .before .before .before .before .before .before in sound (programOf (s .args .file .now)) (config (s .args .self) (s .args .cells .now) (s .args .saved .now)) ≡ true
+sound-here : (c : tie.Else1) → let s = c .before .before .before .before .before .before in sound (programOf (s .args .file .now)) (config (s .args .self) (s .args .cells .now) (s .args .store .now)) ≡ true
 sound-here c = sym (c .before .check-state .ensures) ∙ not-false _ (c .if1 .left)
 
-within : (c : tie.Else1) → let s = c .before .before .before .before .before .before in Within (s .args .file .now) (s .args .self) (length (s .args .cells .now)) (length (s .args .saved .now))
+within : (c : tie.Else1) → let s = c .before .before .before .before .before .before in Within (s .args .file .now) (s .args .self) (length (s .args .cells .now)) (length (s .args .store .now))
 within c = passed _ _ _ _ (sound-here c)
 
 -- the depth that the target names
@@ -30,29 +30,11 @@ place c =
     let g : SFits w64 (c .before .before .before .before .before .before .before .before .args .target) = search needs in
     (rw (toZ-ofZ g) at (c .place-of .ensures))
 
-check-state-requires : tie.Need-check-state-requires
-check-state-requires c κs = search needs
-
-refused-requires : tie.Need-refused-requires
-refused-requires c κs = search needs
-
-same-length : tie.Need-same-length
-same-length c = search needs
-
 returns : tie.Need-returns
 returns c = abandon-13 _ _ _ _ _ _ (sym (c .before .before .check-state .ensures) ∙ not-true _ (c .before .if1 .taken)) (search needs)
 
 add-place-of : tie.Need-add-place-of
 add-place-of c = omega (arith, within (c .before) .depth)
-
-place-of-requires : tie.Need-place-of-requires
-place-of-requires c κs = search needs
-
-refused-requires-2 : tie.Need-refused-requires-2
-refused-requires-2 c κs = search needs
-
-same-length-2 : tie.Need-same-length-2
-same-length-2 c = search needs
 
 returns-2 : tie.Need-returns-2
 returns-2 c = abandon-29 _ _ _ _ _ _ (sound-here (c .before .before .before .before .before)) (place (c .before .before .before)) _ (c .before .if2 .taken) (search needs)
@@ -60,20 +42,11 @@ returns-2 c = abandon-29 _ _ _ _ _ _ (sound-here (c .before .before .before .bef
 leavings-refusal-requires : tie.Need-leavings-refusal-requires
 leavings-refusal-requires c κs = let w = within (c .before .before .before .before) in (w .loaded, w .depth)
 
-refused-requires-3 : tie.Need-refused-requires-3
-refused-requires-3 c κs = search needs
-
-same-length-3 : tie.Need-same-length-3
-same-length-3 c = search needs
-
 returns-3 : tie.Need-returns-3
 returns-3 c = abandon-refused _ _ _ _ _ _ (sound-here (c .before .before .before .before .before .before .before)) (place (c .before .before .before .before .before)) (c .before .before .before .if2 .left) _ _ (c .before .before .leavings-refusal .ensures) (c .before .if3 .taken) (search needs)
 
 unwound-requires : tie.Need-unwound-requires
 unwound-requires c κs = (within (c .before .before .before .before .before .before .before), sym (c .before .before .leavings-refusal .ensures) ∙ c .before .if3 .left)
-
-same-length-4 : tie.Need-same-length-4
-same-length-4 c = search needs
 
 returns-4 : tie.Need-returns-4
 returns-4 c = abandon-done _ _ _ _ _ _ (sound-here (c .before .before .before .before .before .before .before .before .before .before)) (place (c .before .before .before .before .before .before .before .before)) (c .before .before .before .before .before .before .if2 .left) _ _ (sym (c .before .before .before .before .before .leavings-refusal .ensures) ∙ c .before .before .before .before .if3 .left) (c .before .before .unwound .ensures)
@@ -82,19 +55,19 @@ pub abandon-spec : {M : Type 1} → statement M
 abandon-spec =
     tie.close
     (tie.spec
-    check-state-requires
-    refused-requires
-    same-length
+    (λ c κs. search needs)
+    (λ c κs. search needs)
+    (λ c. search needs)
     returns
     add-place-of
-    place-of-requires
-    refused-requires-2
-    same-length-2
+    (λ c κs. search needs)
+    (λ c κs. search needs)
+    (λ c. search needs)
     returns-2
     leavings-refusal-requires
-    refused-requires-3
-    same-length-3
+    (λ c κs. search needs)
+    (λ c. search needs)
     returns-3
     unwound-requires
-    same-length-4
+    (λ c. search needs)
     returns-4)

@@ -12,9 +12,6 @@ use Rattle.progs.proofs.ExecutionContext.check_state.Tie as tie
 as-recorded : (c : tie.Else1) → let s = c .before .before .before .before .before .before in recordedIn (s .args .file .now) (s .args .self .file) (length (s .args .cells .now)) ≡ true
 as-recorded c = sym (c .before .recorded-in .ensures) ∙ not-false _ (c .if1 .left)
 
-recorded-in-requires : tie.Need-recorded-in-requires
-recorded-in-requires c κs = search needs
-
 returns : tie.Need-returns
 returns c = unrecorded _ _ _ _ (sym (c .before .recorded-in .ensures) ∙ not-true _ (c .if1 .taken))
 
@@ -37,7 +34,7 @@ pub check-state-spec : {M : Type 1} → statement M
 check-state-spec =
     tie.close
     (tie.spec
-    recorded-in-requires
+    (λ c κs. search needs)
     returns
     returns-2
     returns-3

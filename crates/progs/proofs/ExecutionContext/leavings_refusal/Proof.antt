@@ -34,8 +34,8 @@ clear c = sym (number (c .before)) ∙ c .if2 .left
 ok : (c : tie.Else2 Inv-loop μ-loop) → Leaves (c .before .before .before .before .before .loop .context) (c .before .before .locals .result)
 ok c = leaves _ _ _ (c .before .before .locals .ensures) (clear c)
 
-after : (c : tie.After-left Inv-loop μ-loop) → let l = c .before .before .before .before .before .before in stateOf (c .left .result) ≡ left (programOf (l .before .before .args .file .now)) (bare (l .loop .context)) .state
-after c = left-of _ _ _ (c .before .before .before .locals .ensures) _ (c .left .ensures)
+after : (c : tie.After-pop-frame Inv-loop μ-loop) → let l = c .before .before .before .before .before .before in stateOf (c .pop-frame .result) ≡ left (programOf (l .before .before .args .file .now)) (bare (l .loop .context)) .state
+after c = left-of _ _ _ (c .before .before .before .locals .ensures) _ (c .pop-frame .ensures)
 
 loop-holds : tie.Need-loop-holds Inv-loop μ-loop
 loop-holds c = ((c .before .pre .0, c .before .pre .1), refl)
@@ -43,14 +43,11 @@ loop-holds c = ((c .before .pre .0, c .before .pre .1), refl)
 locals-requires : tie.Need-locals-requires Inv-loop μ-loop
 locals-requires c κs = c .before .before .loop .inv .0 .0
 
-leave-refusal-requires : tie.Need-leave-refusal-requires Inv-loop μ-loop
-leave-refusal-requires c κs = search needs
-
 returns : tie.Need-returns Inv-loop μ-loop
 returns c = leavings-refused _ _ _ (c .before .before .before .if1 .taken) _ (number (c .before)) (c .if2 .taken) ∙ c .before .before .before .before .before .loop .inv .1
 
-left-requires : tie.Need-left-requires Inv-loop μ-loop
-left-requires c κs = let a = ok c in (a .inside, (c .before .before .before .before .before .loop .inv .0 .1, a .enough))
+pop-frame-requires : tie.Need-pop-frame-requires Inv-loop μ-loop
+pop-frame-requires c κs = let a = ok c in (a .inside, (c .before .before .before .before .before .loop .inv .0 .1, a .enough))
 
 loop-less : tie.Need-loop-less Inv-loop μ-loop
 loop-less c = omega (arith, depth-falls _ _ _ (after c))
@@ -69,9 +66,9 @@ leavings-refusal-spec =
     μ-loop
     loop-holds
     locals-requires
-    leave-refusal-requires
+    (λ c κs. search needs)
     returns
-    left-requires
+    pop-frame-requires
     loop-less
     loop-again
     returns-2)

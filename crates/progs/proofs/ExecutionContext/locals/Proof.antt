@@ -4,11 +4,8 @@ use borrow.Author.Needs.{needs}
 use Rattle.progs.proofs.ExecutionContext.locals.Statement.{statement}
 use Rattle.progs.proofs.ExecutionContext.locals.Tie as tie
 
-locals-of-requires : tie.Need-locals-of-requires
-locals-of-requires c κs = c .before .before .before .pre .lumps .functions
-
 returns : tie.Need-returns
-returns c = c .locals-of .ensures (programOf (c .before .before .before .before .args .file .now)) (functions-here _ _ (c .before .before .before .before .pre))
+returns c = c .locals-of .ensures (programOf (c .before .before .before .args .file .now)) (functions-here _ _ (c .before .before .before .pre) _ (c .before .functions .ensures))
 
 pub locals-spec : {M : Type 1} → statement M
-locals-spec = tie.close (tie.spec locals-of-requires returns)
+locals-spec = tie.close (tie.spec (λ c κs. search needs) (λ c κs. search needs) returns)

@@ -22,9 +22,6 @@ Inv-loop file self count sum₀ k₀ f₀ sum k f =
 abbrev μ-loop : tie.MeasureT-loop
 μ-loop file self count sum₀ k₀ f₀ sum k f = k
 
-function-count-requires : tie.Need-function-count-requires Inv-loop μ-loop
-function-count-requires c κs = search needs
-
 loop-holds : tie.Need-loop-holds Inv-loop μ-loop
 loop-holds c = (omega arith, add-start _ _)
 
@@ -36,9 +33,6 @@ get-def-requires c κs = (c .before .before .before .before .before .pre .0, ome
 
 returns-2 : tie.Need-returns-2 Inv-loop μ-loop
 returns-2 c = add-negative _ _ _ _ _ _ (c .before .before .before .before .loop-test .taken) _ (function-there _ _ (c .before .before .before .before .before .before .before .before .pre .0) _ (omega arith)) (c .before .before .get-def .ensures) (search needs) ∙ c .before .before .before .before .before .loop .inv .1
-
-cast-sum : tie.Need-cast-sum Inv-loop μ-loop
-cast-sum c = search needs
 
 add-sum : tie.Need-add-sum Inv-loop μ-loop
 add-sum c = omega arith
@@ -67,12 +61,12 @@ locals-add-up-spec =
     (tie.spec
     Inv-loop
     μ-loop
-    function-count-requires
+    (λ c κs. search needs)
     loop-holds
     returns
     get-def-requires
     returns-2
-    cast-sum
+    (λ c. search needs)
     add-sum
     sub-k
     mul-frame

@@ -14,7 +14,7 @@ use Rattle.progs.proofs.ExecutionContext.raw_refusal.Statement.{stateme
 use Rattle.progs.proofs.ExecutionContext.raw_refusal.Tie as tie
 
 -- check 13 passed
-sound-here : (c : tie.Else1) → let s = c .before .before .before .before .before in sound (programOf (s .args .file .now)) (config (s .args .self) (s .args .cells .now) (s .args .saved .now)) ≡ true
+sound-here : (c : tie.Else1) → let s = c .before .before .before .before .before in sound (programOf (s .args .file .now)) (config (s .args .self) (s .args .cells .now) (s .args .store .now)) ≡ true
 sound-here c = sym (c .before .check-state .ensures) ∙ not-false _ (c .if1 .left)
 
 -- the place that the address names
@@ -23,17 +23,8 @@ place c =
     let g : SFits w64 (c .before .before .before .before .before .before .before .args .address) = search needs in
     (rw (toZ-ofZ g) at (c .place-of .ensures))
 
-check-state-requires : tie.Need-check-state-requires
-check-state-requires c κs = search needs
-
 returns : tie.Need-returns
 returns c = raw-13 _ _ _ _ (c .before .before .before .before .before .args .address) (sym (c .before .check-state .ensures) ∙ not-true _ (c .if1 .taken))
-
-cell-count-requires : tie.Need-cell-count-requires
-cell-count-requires c κs = search needs
-
-place-of-requires : tie.Need-place-of-requires
-place-of-requires c κs = search needs
 
 returns-2 : tie.Need-returns-2
 returns-2 c = raw-15 _ _ _ _ (c .before .before .before .before .before .before .before .before .args .address) _ _ (c .before .before .cell-count .ensures) (sound-here (c .before .before .before)) (place (c .before)) (c .if2 .taken)
@@ -45,9 +36,9 @@ pub raw-refusal-spec : {M : Type 1} → statement M
 raw-refusal-spec =
     tie.close
     (tie.spec
-    check-state-requires
+    (λ c κs. search needs)
     returns
-    cell-count-requires
-    place-of-requires
+    (λ c κs. search needs)
+    (λ c κs. search needs)
     returns-2
     returns-3)

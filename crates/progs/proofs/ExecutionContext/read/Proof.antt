@@ -14,13 +14,13 @@ use Rattle.progs.proofs.ExecutionContext.read.Statement.{statement}
 use Rattle.progs.proofs.ExecutionContext.read.Tie as tie
 
 -- the number that is found is that of the conditions
-number : (c : tie.After-raw-refusal) → let s = c .before .before .before .before in c .raw-refusal .result ≡ judge (rawConditions (programOf (s .args .file .now)) (s .args .address) (config (s .args .self) (s .args .cells .now) (s .args .saved .now)))
+number : (c : tie.After-raw-refusal) → let s = c .before .before .before .before in c .raw-refusal .result ≡ judge (rawConditions (programOf (s .args .file .now)) (s .args .address) (config (s .args .self) (s .args .cells .now) (s .args .store .now)))
 number c =
     let g : SFits w64 (c .before .before .before .before .args .address) = search needs in
     (rw (toZ-ofZ g) at (c .raw-refusal .ensures))
 
 -- none refuses
-clear : (c : tie.Else1) → let s = c .before .before .before .before .before in judge (rawConditions (programOf (s .args .file .now)) (s .args .address) (config (s .args .self) (s .args .cells .now) (s .args .saved .now))) ≡ 0
+clear : (c : tie.Else1) → let s = c .before .before .before .before .before in judge (rawConditions (programOf (s .args .file .now)) (s .args .address) (config (s .args .self) (s .args .cells .now) (s .args .store .now))) ≡ 0
 clear c = sym (number (c .before)) ∙ c .if1 .left
 
 -- the place that the address names
@@ -29,14 +29,8 @@ place c =
     let g : SFits w64 (c .before .before .before .before .before .before .args .address) = search needs in
     (rw (toZ-ofZ g) at (c .place-of .ensures))
 
-raw-refusal-requires : tie.Need-raw-refusal-requires
-raw-refusal-requires c κs = search needs
-
 returns : tie.Need-returns
 returns c = read-refused _ _ _ _ (c .before .before .before .before .before .args .address) _ (number (c .before)) (search needs)
-
-place-of-requires : tie.Need-place-of-requires
-place-of-requires c κs = search needs
 
 mul-t9 : tie.Need-mul-t9
 mul-t9 c = omega (arith, raw-there _ _ _ _ (c .before .before .before .before .before .before .args .address) _ (place c) (clear (c .before)))
@@ -51,9 +45,9 @@ pub read-spec : {M : Type 1} → statement M
 read-spec =
     tie.close
     (tie.spec
-    raw-refusal-requires
+    (λ c κs. search needs)
     returns
-    place-of-requires
+    (λ c κs. search needs)
     mul-t9
     shared-slice-read-t11
     returns-2)

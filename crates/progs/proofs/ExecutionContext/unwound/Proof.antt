@@ -30,10 +30,10 @@ ok c = leaves _ _ _ (c .locals .ensures) (leaves-first _ _ _ (c .before .if1 .ta
 gives : (c : tie.After-slice-known2 Inv-loop μ-loop)
     → let l = c .before .before .before .before .before .before .before in
     let s = l .before .before .before .before in
-    config (c .before .before .restored .result) (c .before .before .restored .last .1 .1 .0) (s .args .saved .now) ≡ left (programOf (s .args .file .now)) (config (l .loop .context) (l .loop .cells) (s .args .saved .now))
-gives c = c .before .before .restored .ensures (programOf (c .before .before .before .before .before .before .before .before .before .before .before .args .file .now)) (c .before .before .before .before .locals .ensures)
+    config (c .before .before .leave-function .result) (c .before .before .leave-function .last .1 .1 .0) (s .args .store .now) ≡ left (programOf (s .args .file .now)) (config (l .loop .context) (l .loop .cells) (s .args .store .now))
+gives c = c .before .before .leave-function .ensures (programOf (c .before .before .before .before .before .before .before .before .before .before .before .args .file .now)) (c .before .before .before .before .locals .ensures)
 
-after : (c : tie.After-slice-known2 Inv-loop μ-loop) → let l = c .before .before .before .before .before .before .before in stateOf (c .before .before .restored .result) ≡ left (programOf (l .before .before .before .before .args .file .now)) (bare (l .loop .context)) .state
+after : (c : tie.After-slice-known2 Inv-loop μ-loop) → let l = c .before .before .before .before .before .before .before in stateOf (c .before .before .leave-function .result) ≡ left (programOf (l .before .before .before .before .args .file .now)) (bare (l .loop .context)) .state
 after c = left-state _ _ _ _ _ _ (gives c)
 
 loop-holds : tie.Need-loop-holds Inv-loop μ-loop
@@ -42,8 +42,8 @@ loop-holds c = ((refl, (c .before .before .before .pre .0, c .before .before .be
 locals-requires : tie.Need-locals-requires Inv-loop μ-loop
 locals-requires c κs = c .before .before .loop .inv .0 .1 .0 .loaded
 
-restored-requires : tie.Need-restored-requires Inv-loop μ-loop
-restored-requires c κs = let a = ok (c .before) in let w = c .before .before .before .before .loop .inv .0 .1 .0 in ((a .inside, w .depth), ((a .enough, omega (arith, w .store, w .held)), present-more _ _ _ _ (w .lent) (a .locals-there)))
+leave-function-requires : tie.Need-leave-function-requires Inv-loop μ-loop
+leave-function-requires c κs = let a = ok (c .before) in let w = c .before .before .before .before .loop .inv .0 .1 .0 in ((a .inside, w .depth), ((a .enough, omega (arith, w .store, w .held)), present-more _ _ _ _ (w .lent) (a .locals-there)))
 
 loop-less : tie.Need-loop-less Inv-loop μ-loop
 loop-less c = omega (arith, depth-falls _ _ _ (after c))
@@ -52,7 +52,7 @@ loop-again : tie.Need-loop-again Inv-loop μ-loop
 loop-again c =
     let l = c .before .before .before .before .before .before .before in
     let s = l .before .before .before .before in
-    let k = c .before .before .restored .kept .1 .1 .0 in
+    let k = c .before .before .leave-function .kept .1 .1 .0 in
     let j = l .loop .inv .0 .1 .1 in
     let m = c .before .before .before .before .before .if1 .taken in (
       (
@@ -61,9 +61,6 @@ loop-again c =
       ),
       times-on _ _ _ m _ _ _ _ (gives c) ∙ l .loop .inv .1,
     )
-
-same-length : tie.Need-same-length Inv-loop μ-loop
-same-length c = search needs
 
 returns : tie.Need-returns Inv-loop μ-loop
 returns c = times-end _ _ _ _ _ (c .if1 .left) ∙ c .before .before .loop .inv .1
@@ -76,8 +73,8 @@ unwound-spec =
     μ-loop
     loop-holds
     locals-requires
-    restored-requires
+    leave-function-requires
     loop-less
     loop-again
-    same-length
+    (λ c. search needs)
     returns)

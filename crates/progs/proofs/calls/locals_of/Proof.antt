@@ -6,19 +6,10 @@ use Rattle.progs.proofs.calls.locals_of.Statement.{statement}
 use Rattle.progs.proofs.calls.locals_of.Tie as tie
 
 returns : tie.Need-returns
-returns c = λ P q. no-function P _ (functions-absent _ _ _ _ P q (c .if1 .taken))
-
-get-def-requires : tie.Need-get-def-requires
-get-def-requires c κs = search needs
-
-cast-t7 : tie.Need-cast-t7
-cast-t7 c = search needs
-
-cast-t8 : tie.Need-cast-t8
-cast-t8 c = search needs
+returns c = λ P q. no-function P _ (functions-absent _ _ P q (c .if1 .taken))
 
 returns-2 : tie.Need-returns-2
 returns-2 c = λ P q. ap rangeOf (functions-read _ _ _ P q (c .before .before .get-def .ensures))
 
 pub locals-of-spec : {M : Type 1} → statement M
-locals-of-spec = tie.close (tie.spec returns get-def-requires cast-t7 cast-t8 returns-2)
+locals-of-spec = tie.close (tie.spec returns (λ c κs. search needs) (λ c. search needs) (λ c. search needs) returns-2)

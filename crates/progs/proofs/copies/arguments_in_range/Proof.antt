@@ -22,28 +22,16 @@ abbrev μ-loop : tie.MeasureT-loop
 loop-holds : tie.Need-loop-holds Inv-loop μ-loop
 loop-holds c = let e : c .args .argc - 0 ≡ c .args .argc = omega arith in ((omega arith, (omega arith, search needs)), rw e)
 
-array-read-n : tie.Need-array-read-n Inv-loop μ-loop
-array-read-n c = search needs
-
-cast-n : tie.Need-cast-n Inv-loop μ-loop
-cast-n c = search needs
-
 mul-in-range : tie.Need-mul-in-range Inv-loop μ-loop
 mul-in-range c = omega arith
 
 add-in-range : tie.Need-add-in-range Inv-loop μ-loop
 add-in-range c = omega arith
 
-in-range-requires : tie.Need-in-range-requires Inv-loop μ-loop
-in-range-requires c κs = search needs
-
 returns : tie.Need-returns Inv-loop μ-loop
 returns c =
     let b = c .before .before in
     no-source _ _ _ _ (b .loop-test .taken) (omega arith) _ (sym (c .before .in-range .ensures) ∙ not-true _ (c .if1 .taken)) ∙ b .before .loop .inv .1
-
-in-range-requires-2 : tie.Need-in-range-requires-2 Inv-loop μ-loop
-in-range-requires-2 c κs = search needs
 
 returns-2 : tie.Need-returns-2 Inv-loop μ-loop
 returns-2 c =
@@ -84,13 +72,13 @@ arguments-in-range-spec =
     Inv-loop
     μ-loop
     loop-holds
-    array-read-n
-    cast-n
+    (λ c. search needs)
+    (λ c. search needs)
     mul-in-range
     add-in-range
-    in-range-requires
+    (λ c κs. search needs)
     returns
-    in-range-requires-2
+    (λ c κs. search needs)
     returns-2
     add-to
     add-i

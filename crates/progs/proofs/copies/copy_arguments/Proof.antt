@@ -29,12 +29,6 @@ turn c = turn-of _ _ _ _ _ _ _ (c .before .loop .inv .1 .0)
 loop-holds : tie.Need-loop-holds Inv-loop μ-loop
 loop-holds c = let e : c .before .args .argc - 0 ≡ c .before .args .argc = omega arith in ((omega arith, (omega arith, (search needs, refl))), (rw e (c .before .pre .1), rw e))
 
-array-read-n : tie.Need-array-read-n Inv-loop μ-loop
-array-read-n c = search needs
-
-cast-n : tie.Need-cast-n Inv-loop μ-loop
-cast-n c = search needs
-
 mul-copy-cells : tie.Need-mul-copy-cells Inv-loop μ-loop
 mul-copy-cells c = omega arith
 
@@ -65,9 +59,6 @@ loop-again c =
     let t = turn b in
     ((omega arith, (next c, (omega arith, omega (arith, c .before .before .copy-cells .kept .0)))), (t .rest, rw (c .before .before .copy-cells .ensures) (copied-on _ _ _ _ (b .loop-test .taken) (there b) _ ∙ b .before .loop .inv .1 .1)))
 
-same-length : tie.Need-same-length Inv-loop μ-loop
-same-length c = search needs
-
 returns : tie.Need-returns Inv-loop μ-loop
 returns c = copied-none _ _ _ _ _ (c .loop-test .left) ∙ c .before .loop .inv .1 .1
 
@@ -78,8 +69,8 @@ copy-arguments-spec =
     Inv-loop
     μ-loop
     loop-holds
-    array-read-n
-    cast-n
+    (λ c. search needs)
+    (λ c. search needs)
     mul-copy-cells
     add-copy-cells
     copy-cells-requires
@@ -87,5 +78,5 @@ copy-arguments-spec =
     add-i
     loop-less
     loop-again
-    same-length
+    (λ c. search needs)
     returns)

@@ -55,9 +55,6 @@ loop-again c =
     let l = c .before in
     ((omega arith, simp length-set (omega arith)), left-on _ _ _ _ _ (l .loop-test .taken) ∙ l .before .loop .inv .1)
 
-same-length : tie.Need-same-length Inv-loop μ-loop
-same-length c = search needs
-
 returns : tie.Need-returns Inv-loop μ-loop
 returns c = left-at-end _ _ _ _ _ (c .loop-test .left) ∙ c .before .loop .inv .1
 
@@ -77,5 +74,5 @@ copy-cells-spec =
     add-i
     loop-less
     loop-again
-    same-length
+    (λ c. search needs)
     returns)

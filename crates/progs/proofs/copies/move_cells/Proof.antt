@@ -54,9 +54,6 @@ loop-again c =
     let l = c .before in
     ((omega arith, simp length-set (omega arith)), pasted-on _ _ _ _ _ _ _ (l .before .before .pre .0) (l .before .before .pre .1) (l .loop-test .taken) (l .before .loop .inv .1))
 
-same-length : tie.Need-same-length Inv-loop μ-loop
-same-length c = search needs
-
 returns : tie.Need-returns Inv-loop μ-loop
 returns c = let e : c .before .loop .i ≡ c .before .before .args .count = omega arith in (cc)
 
@@ -76,5 +73,5 @@ move-cells-spec =
     add-i
     loop-less
     loop-again
-    same-length
+    (λ c. search needs)
     returns)

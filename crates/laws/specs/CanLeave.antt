@@ -1,0 +1,129 @@
+-- After an accepted load, leaving is never refused above depth 0: so an abandonment to any depth from 0 up to the present one is accepted.
+use Prim.Native.Nat.{ℕ, zero, suc, _+_, _-_, _≤_, _<_}
+use mathlib.Core.Path.{_≡_, refl, sym, _∙_, ap, subst}
+use mathlib.Core.List.{List, [], _∷_, _++_}
+use mathlib.Core.Bool.{Bool, true, false, not, _&&_}
+use native.Mathlib.Omega.{arith}
+use borrow.Author.Tests.{ltb-true, leb-true, le-leb, lt-ltb}
+use lib.IntN.{ℤ, pos}
+use lib.ListN.{length, getD, set, length-set}
+use lib.Dec.{leb, ltb}
+use Rattle.definition.specs.declared.StackFrame.{StackFrame}
+use Rattle.definition.specs.Checks.{Condition, Conditions, Checked, refused, accepted, guard}
+use Rattle.definition.specs.File.{greatestDepth, fileOf}
+use Rattle.definition.specs.Machine.{Program, functionOf, State, Config, countOf, limits, zeroFrame, present, copied, successive, argumentsOf, withCells, advanced}
+use Rattle.definition.specs.Machine.{entryConditions, entered, leaveConditions, left, returnConditions, returned}
+use Rattle.definition.specs.Load.{load, loaded, programOf}
+use Rattle.definition.specs.Operations.{enteredAt, enteredFunctions, sound, natural, leftTimes, leavingsConditions, leavingsTo, abandonConditions, abandon}
+use Rattle.definition.specs.Calls.{Call}
+use Rattle.definition.specs.Log.{Log, Kind, entry, leaving, other}
+use Rattle.definition.specs.Trace.{StepProperty, Always}
+use Rattle.definition.specs.CheckLaws.{All, all-both, WhenAccepted, guarded, guard-accepts}
+use Rattle.definition.specs.Parts.{length-copied}
+use Rattle.definition.specs.StatementLaws.{Keeps}
+use Rattle.definition.specs.Invariant.{Preserves, Inductive, always}
+use Rattle.laws.specs.Sound.{StackConsistent, Consistent, consistent-sound, entered-more, entered-less, suffice, advanced-consistent, entered-consistent, left-consistent, returned-consistent, loaded-consistent, AnyStep}
+
+-- the local cells of these functions are below the count
+abbrev Ranges : Program → ℕ → List ℕ → Type 0
+Ranges P count [] = Unit {0}
+Ranges P count (f ∷ fs) = (present (functionOf P f .start) (functionOf P f .locals) count ≡ true) × Ranges P count fs
+
+-- the inductive invariant: the local ranges of the entered functions are there to be restored
+record RangesPresent (file : List ℕ) (c : Config) : Type 0 where
+  consistent : Consistent file c
+  ranges : Ranges (programOf file) (countOf c) (enteredFunctions (c .state))
+
+module _ (file : List ℕ) where
+  abbrev P : Program
+  P = programOf file
+
+  advanced-ranges : (c : Config) (p : ℤ) (cells : List ℕ) → length cells ≡ length (c .cells) → RangesPresent file c → RangesPresent file (advanced c p cells)
+  unfolding enteredFunctions
+  advanced-ranges c p cells e k = record { consistent = advanced-consistent file c p cells e (k .consistent); ranges = k .ranges }
+
+  entered-ranges : (c : Config) (f : ℕ) (back : ℤ) → RangesPresent file c → All (entryConditions P f c) → RangesPresent file (entered P f back c)
+  unfolding entryConditions entered limits enteredFunctions
+  entered-ranges c f back k h =
+      let s = c .state in
+      let shallow : s .depth < greatestDepth = ltb-true (s .depth) greatestDepth (h .1 .0) in
+      let frame : StackFrame = record { «instr_id» = back; «func_id» = s .function } in
+      let e : enteredAt (s .depth + 1) f (set (s .frames) (s .depth) frame) ≡ f ∷ enteredAt (s .depth) (s .function) (s .frames) =
+      rw native.Mathlib.Numerals.add-one (entered-more (s .depth) f (s .frames) frame (omega (arith, k .consistent .stack .room)))
+      in
+      record { consistent = entered-consistent file c f back (k .consistent) h; ranges = rw e (h .1 .1 .1 .0, k .ranges) }
+
+  -- what is entered: the current function, and the rest
+  abbrev rest : State → List ℕ
+  rest s = enteredAt (s .depth - 1) (getD (s .frames) (s .depth - 1) zeroFrame .«func_id») (set (s .frames) (s .depth - 1) zeroFrame)
+
+  innermost : (s : State) → 0 < s .depth → enteredFunctions s ≡ s .function ∷ rest s
+  unfolding enteredFunctions
+  innermost s h =
+      let one : s .depth ≡ suc (s .depth - 1) = omega arith in
+      ap (λ (m : ℕ). enteredAt m (s .function) (s .frames)) one ∙ entered-less (s .depth - 1) (s .function) (s .frames)
+
+  can-leave : (c : Config) → RangesPresent file c → 0 < c .state .depth → All (leaveConditions P c)
+  unfolding leaveConditions
+  can-leave c k h =
+      let ranges : Ranges P (countOf c) (c .state .function ∷ rest (c .state)) = (rw (innermost (c .state) h) at (k .ranges)) in
+      (lt-ltb 0 (c .state .depth) h, (le-leb _ _ (suffice P (c .state) h (k .consistent .stack)), (ranges .0, tt)))
+
+  left-ranges : (c : Config) → RangesPresent file c → All (leaveConditions P c) → RangesPresent file (left P c)
+  unfolding leaveConditions left enteredFunctions
+  left-ranges c k h =
+      let deep : 0 < c .state .depth = ltb-true 0 (c .state .depth) (h .0) in
+      let ranges : Ranges P (countOf c) (c .state .function ∷ rest (c .state)) = (rw (innermost (c .state) deep) at (k .ranges)) in
+      record { consistent = left-consistent file c (k .consistent) h; ranges = ranges .1 }
+
+  returned-ranges : (c : Config) (a : ℕ) → RangesPresent file c → All (returnConditions P a c) → RangesPresent file (returned P a c)
+  unfolding leaveConditions
+  returned-ranges c a k h =
+      left-ranges (withCells c (copied (successive 3 a 1) (c .cells)))
+      (advanced-ranges c (c .state .pc) (copied (successive 3 a 1) (c .cells)) (length-copied (successive 3 a 1) (c .cells)) k) (h .1)
+
+  ranges-inductive : Inductive file (λ c l. RangesPresent file c) AnyStep
+  ranges-inductive =
+      record {
+        plain = λ c l p cells k keeps. (tt, advanced-ranges c p cells (keeps .same-length) k);
+        writing = λ c l a v k h. (tt, advanced-ranges c (c .state .pc) (set (c .cells) a v) (length-set (c .cells) a v) k);
+        entering = λ c l f back k h. (tt, entered-ranges c f back k h);
+        returning = λ c l a k h. (tt, returned-ranges c a k h);
+        leave-one = λ c l k h. (tt, left-ranges c k h);
+      }
+
+  leavings-accepted : (n : ℕ) (c : Config) → RangesPresent file c → n ≤ c .state .depth → All (leavingsConditions P n c)
+  unfolding leavingsConditions left
+  leavings-accepted zero c k h = tt
+  leavings-accepted (suc n) c k h =
+      let here : All (leaveConditions P c) = can-leave c k (omega arith) in
+      all-both (leaveConditions P c) (leavingsConditions P n (left P c)) here
+      (leavings-accepted n (left P c) (left-ranges c k here) (omega arith))
+
+  abandons : (c : Config) → RangesPresent file c → (target : ℕ) → target ≤ c .state .depth → (c′ : Config) × (abandon P (pos target) c ≡ accepted c′)
+  unfolding abandon abandonConditions
+  abandons c k t h = (
+    leftTimes P (c .state .depth - t) c,
+    guard-accepts (abandonConditions P (pos t) c) _
+        (consistent-sound file c (k .consistent), (lt-ltb t (c .state .depth + 1) (omega arith), leavings-accepted (c .state .depth - t) c k (omega arith))),
+  )
+
+  loaded-ranges : (cells saved : List ℕ) → WhenAccepted (RangesPresent file) (load file cells saved)
+  unfolding load loaded enteredFunctions
+  loaded-ranges cells saved = with-none (load file cells saved) (loaded-consistent file cells saved) (guarded (λ (c : Config). c .state .depth ≡ 0) _ _ λ h. refl)
+    where
+      with-none : (x : Checked Config) → WhenAccepted (Consistent file) x → WhenAccepted (λ (c : Config). c .state .depth ≡ 0) x → WhenAccepted (RangesPresent file) x
+      with-none (refused n) s z = tt
+      with-none (accepted c) s z = record { consistent = s; ranges = rw z tt }
+
+-- what holds of every state that a list of calls reaches: above depth 0 leaving is accepted, and so is an abandonment to any depth up to the present one
+pub record CanLeave (file : List ℕ) (c : Config) (l : Log) : Type 0 where
+  pub leaves : 0 < c .state .depth → All (leaveConditions (programOf file) c)
+  pub abandons-to : (target : ℕ) → target ≤ c .state .depth → (c′ : Config) × (abandon (programOf file) (pos target) c ≡ accepted c′)
+
+pub always-can-leave : (file cells saved : List ℕ) (c : Config) → load file cells saved ≡ accepted c → (calls : List Call) → Always file AnyStep (CanLeave file) c [] calls
+always-can-leave file cells saved c accepts calls =
+    always file (λ c′ l. RangesPresent file c′) AnyStep (ranges-inductive file) (CanLeave file)
+    (λ c′ l k. record { leaves = can-leave file c′ k; abandons-to = λ t h. abandons file c′ k t h })
+    c [] calls
+    (subst (WhenAccepted (RangesPresent file)) accepts (loaded-ranges file cells saved))

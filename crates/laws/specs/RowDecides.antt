@@ -1,0 +1,94 @@
+-- After an accepted load the row of an operation alone decides whether it is refused: so 13 takes no acceptance away, and a run is begun, a cell read or
+-- written, a function entered and a handed-over statement carried on from wherever the row's conditions hold.
+use Prim.Native.Nat.{ℕ, suc, _+_}
+use mathlib.Core.Path.{_≡_, subst}
+use mathlib.Core.Logic.{inr}
+use mathlib.Core.List.{List, [], _∷_, _++_}
+use mathlib.Core.Bool.{true}
+use lib.IntN.{ℤ, pos, _+ℤ_}
+use lib.ListN.{length, getD, set}
+use Rattle.definition.specs.declared.FileRecord.{FileRecord}
+use Rattle.definition.specs.declared.RunAnswer.the-variants.{Refused}
+use Rattle.definition.specs.Checks.{Condition, Conditions, _otherwise_, judge, Checked, accepted, guard}
+use Rattle.definition.specs.File.{greatestLimit, fileOf}
+use Rattle.definition.specs.Statements.{placeOf}
+use Rattle.definition.specs.Machine.{Program, Config, countOf, limits, withCells, advanced, entryConditions, entered, step, Ran, runFor}
+use Rattle.definition.specs.Load.{load, programOf}
+use Rattle.definition.specs.Operations.{sound, natural, below, permitted, isHandedOver, hostEnter, statement, runConditions, run, carryOnConditions, carryOn, rawRead, rawWrite}
+use Rattle.definition.specs.Calls.{Call}
+use Rattle.definition.specs.Trace.{Always}
+use Rattle.definition.specs.CheckLaws.{All, FailsFirst, judge-all, judge-first, WhenAccepted}
+use Rattle.definition.specs.Invariant.{always}
+use Rattle.laws.specs.Sound.{Consistent, consistent-sound, consistent-inductive, loaded-consistent, AnyStep}
+use Rattle.laws.specs.Exactly.{Exactly, exactly}
+
+-- what a run gives, exactly by these conditions
+pub record RunExactly (cs : Conditions) (c : Config) (begun x : Ran) : Type 0 where
+  pub begins : All cs → x ≡ begun
+  pub refuses : (n : ℕ) → FailsFirst (suc n) cs → x ≡ record { answer = Refused (suc n); count = 0; config = c }
+
+module _ (file : List ℕ) (c : Config) where
+  abbrev P : Program
+  P = programOf file
+
+  -- "28: limit outside 1 to 99,999; 29: target below 0, or not below the depth"
+  abbrev pub runRow : ℤ → ℤ → Conditions
+  runRow target limit = (permitted limit greatestLimit otherwise 28) ∷ (below target (c .state .depth) otherwise 29) ∷ []
+
+  -- "15: cell negative or not below the count"
+  abbrev pub rawRow : ℤ → Conditions
+  rawRow a = (below a (fileOf file .globals .count) otherwise 15) ∷ []
+
+  -- "14, 7, then 27: that statement, with the cells as they now are, would not be handed over"
+  abbrev pub carryOnRow : Conditions
+  carryOnRow = P .fetching (c .state .pc) ++ ((isHandedOver (P .does (c .state .pc) (c .cells)) otherwise 27) ∷ [])
+
+  abbrev place : ℤ → ℕ
+  place f = placeOf (length (P .functions)) f
+
+  -- each operation from c is accepted, or refused, by the conditions of its own row of 01's table
+  pub record RowDecides : Type 0 where
+    pub enters : (f : ℤ) → Exactly (entryConditions P (place f) c) (entered P (place f) (c .state .pc) c) (hostEnter P f c)
+    pub steps : statement P c ≡ step P c
+    pub runs : (target limit : ℤ) → RunExactly (runRow target limit) c (runFor P (natural limit) (natural target) c) (run P target limit c)
+    pub carries : Exactly carryOnRow (advanced c (c .state .pc +ℤ pos 1) (c .cells)) (carryOn P c)
+    pub reads : (a : ℤ) → Exactly (rawRow a) (getD (c .cells) (natural a) 0) (rawRead P a c)
+    pub writes : (a : ℤ) (v : ℕ) → Exactly (rawRow a) (withCells c (set (c .cells) (natural a) v)) (rawWrite P a v c)
+
+  module _ (k : Consistent file c) where
+    passes : sound P c ≡ true
+    passes = consistent-sound file c k
+
+    without-13 : {A : Type 0} (cs : Conditions) (a : A) → Exactly cs a (guard ((sound P c otherwise 13) ∷ cs) a)
+    unfolding guard judge
+    without-13 cs a = rw passes (exactly cs a)
+
+    run-decides : (target limit : ℤ) → RunExactly (runRow target limit) c (runFor P (natural limit) (natural target) c) (run P target limit c)
+    unfolding run runConditions limits
+    run-decides target limit =
+        record {
+          begins = λ h. rw (judge-all (runConditions P target limit c) (passes, h));
+          refuses = λ n f. rw (judge-first (runConditions P target limit c) (suc n) (inr (passes, f)));
+        }
+
+    -- the file's count of cells, for the count that the state records
+    by-count : {A : Type 0} (a : ℤ) (v : A) (x : Checked A) → Exactly ((below a (countOf c) otherwise 15) ∷ []) v x → Exactly (rawRow a) v x
+    by-count a v x e = subst (λ (r : FileRecord). Exactly ((below a (r .globals .count) otherwise 15) ∷ []) v x) (k .recorded) e
+
+    decides : RowDecides
+    unfolding hostEnter statement carryOn carryOnConditions rawRead rawWrite
+    decides =
+        record {
+          enters = λ f. without-13 _ _;
+          steps = rw passes;
+          runs = run-decides;
+          carries = without-13 _ _;
+          reads = λ a. by-count a _ _ (without-13 _ _);
+          writes = λ a v. by-count a _ _ (without-13 _ _);
+        }
+
+pub row-always-decides : (file cells saved : List ℕ) (c : Config) → load file cells saved ≡ accepted c → (calls : List Call)
+    → Always file AnyStep (λ c′ l. RowDecides file c′) c [] calls
+row-always-decides file cells saved c accepts calls =
+    always file (λ c′ l. Consistent file c′) AnyStep (consistent-inductive file) (λ c′ l. RowDecides file c′) (λ c′ l k. decides file c′ k)
+    c [] calls (subst (WhenAccepted (Consistent file)) accepts (loaded-consistent file cells saved))
