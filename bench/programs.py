@@ -45,7 +45,7 @@ def floats_with_definitions(turns):
 
 
 def branches(turns):
-    """The statements of tools/instructions.py's first row, within the counted loop."""
+    """Floats, comparisons and jumps, within the counted loop."""
     body = [("AddF", SUM, ONE, SUM), ("MulF", SUM, PRODUCT, 47), ("Lt", 47, SUM, 48), ("IfNot", 48, 1), ("Goto", 1), ("SubF", 47, SUM, 49),
             ("EqF", 49, ONE, 50), ("If", 50, 1)]
     return loop(body, turns)

@@ -27,9 +27,6 @@ class Tools(unittest.TestCase):
     def test_statement_vectors(self):
         self.assertTrue(written_by('statement_vectors.py') == held('crates', 'statement_vectors', 'stdin'))
 
-    def test_statement_loop(self):
-        self.assertTrue(written_by('instructions.py', '--stdin') == held('crates', 'statement_loop', 'stdin'))
-
     def test_statement_coverage(self):
         self.assertIn(written_by('statement_coverage.py'), held('docs', 'VECTORS.md'))
 

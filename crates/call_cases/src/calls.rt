@@ -53,7 +53,7 @@ pub fn perform(
     context: ExecutionContext,
     file: &mut [u8],
     cells: &mut [u32],
-    saved: &mut [u32],
+    store: &mut [u32],
 ) -> Done
     requires { ⌜ at < length (now text) ⌝ }
 {
@@ -63,17 +63,17 @@ pub fn perform(
     let place = numbers.place;
     let cell = (numbers.value % 0x1_0000_0000) as u32;
     match text[at] {
-        b'l' => return answered(load::load(file, cells, saved)),
-        b'e' => return answered(context.enter(file, n, cells, saved)),
-        b's' => return stepped(server::statement(context, file, cells, saved)),
-        b'r' => return ran(server::run(context, file, n, m, cells, saved)),
-        b'c' => return answered(context.carry_on(file, cells, saved)),
-        b'a' => return answered(context.abandon(file, n, cells, saved)),
+        b'l' => return answered(load::load(file, cells, store)),
+        b'e' => return answered(context.enter(file, n, cells, store)),
+        b's' => return stepped(server::statement(context, file, cells, store)),
+        b'r' => return ran(server::run(context, file, n, m, cells, store)),
+        b'c' => return answered(context.carry_on(file, cells, store)),
+        b'a' => return answered(context.abandon(file, n, cells, store)),
         b'g' => return uncounted(
             context,
-            answers::of_read(context.read(file, n, cells, saved)),
+            answers::of_read(context.read(file, n, cells, store)),
         ),
-        b'p' => return answered(context.write(file, n, cell, cells, saved)),
+        b'p' => return answered(context.write(file, n, cell, cells, store)),
         b'f' => return uncounted(fields::with_field(context, place, m), Said::Accepted(0)),
         _ => {
             cases::set_byte(file, place, (cell % 256) as u8);

@@ -20,12 +20,12 @@ struct List {
     saved: usize,
 }
 
-fn print_done(done: Done, cells: &[u32], saved: &[u32]) {
+fn print_done(done: Done, cells: &[u32], store: &[u32]) {
     let context = done.context;
     let said = done.said;
     answers::print(said);
     print::field(done.count as u64);
-    print::state(context, cells, saved);
+    print::state(context, cells, store);
     print::end_line();
 }
 
@@ -41,18 +41,18 @@ fn number_cells(cells: &mut [u32], base: u32)
 }
 
 // The line `new CELLS SAVED LENGTH HEX`, with which a list begins. The state before its calls is all zeros, as a refused load gives it.
-fn begin(text: &[u8], at: usize, file: &mut [u8], cells: &mut [u32], saved: &mut [u32]) -> List
+fn begin(text: &[u8], at: usize, file: &mut [u8], cells: &mut [u32], store: &mut [u32]) -> List
     requires { ⌜ at < length (now text) ⌝ }
 {
     let lent = cases::next_word(text, at);
-    let store = cases::next_word(text, lent);
-    let size = cases::next_word(text, store);
+    let kept = cases::next_word(text, lent);
+    let size = cases::next_word(text, kept);
     let c = cases::count(text, lent, cells.len());
-    let s = cases::count(text, store, saved.len());
+    let s = cases::count(text, kept, store.len());
     number_cells(&mut cells[..c], 0xdead_0000);
-    number_cells(&mut saved[..s], 0xbeef_0000);
+    number_cells(&mut store[..s], 0xbeef_0000);
     let n = cases::file(text, size, file);
-    let none = load::load(b"", cells, saved);
+    let none = load::load(b"", cells, store);
     let context = none.context;
     List {
         context,
@@ -69,16 +69,16 @@ fn perform_line(
     list: List,
     file: &mut [u8],
     cells: &mut [u32],
-    saved: &mut [u32],
+    store: &mut [u32],
 ) -> List
     requires { ⌜ at < length (now text) ⌝ }
 {
     if text[at] == b'n' {
-        return begin(text, at, file, cells, saved);
+        return begin(text, at, file, cells, store);
     }
     let n = cases::least(list.file, file.len());
     let c = cases::least(list.cells, cells.len());
-    let s = cases::least(list.saved, saved.len());
+    let s = cases::least(list.saved, store.len());
     let context = list.context;
     let done = calls::perform(
         text,
@@ -86,10 +86,10 @@ fn perform_line(
         context,
         &mut file[..n],
         &mut cells[..c],
-        &mut saved[..s],
+        &mut store[..s],
     );
     let after = done.context;
-    print_done(done, &cells[..c], &saved[..s]);
+    print_done(done, &cells[..c], &store[..s]);
     List {
         context: after,
         file: n,
@@ -98,9 +98,9 @@ fn perform_line(
     }
 }
 
-fn perform_lists(text: &[u8], file: &mut [u8], cells: &mut [u32], saved: &mut [u32]) {
+fn perform_lists(text: &[u8], file: &mut [u8], cells: &mut [u32], store: &mut [u32]) {
     let mut at = 0;
-    let none = load::load(b"", cells, saved);
+    let none = load::load(b"", cells, store);
     let context = none.context;
     let mut list = List {
         context,
@@ -109,14 +109,14 @@ fn perform_lists(text: &[u8], file: &mut [u8], cells: &mut [u32], saved: &mut [u
         saved: 0,
     };
     while at < text.len() {
-        list = perform_line(text, at, list, file, cells, saved);
+        list = perform_line(text, at, list, file, cells, store);
         at = cases::next_line(text, at);
     }
 }
 
 // The buffer as a slice: the prover would unfold a repeat of this length to find it.
-fn perform_all(text: &[u8], file: &mut [u8; 1048577], cells: &mut [u32], saved: &mut [u32]) {
-    perform_lists(text, file, cells, saved);
+fn perform_all(text: &[u8], file: &mut [u8; 1048577], cells: &mut [u32], store: &mut [u32]) {
+    perform_lists(text, file, cells, store);
 }
 
 // A file has at most one byte more than a load accepts, and at most one cell more.
@@ -124,7 +124,7 @@ fn main() {
     let mut text = [0u8; 262144];
     let mut file = [0u8; 1048577];
     let mut cells = [0u32; 32769];
-    let mut saved = [0u32; 2100];
+    let mut store = [0u32; 2100];
     let n = io::read_full(STDIN_FILENO, &mut text);
-    perform_all(&text[..n], &mut file, &mut cells, &mut saved);
+    perform_all(&text[..n], &mut file, &mut cells, &mut store);
 }

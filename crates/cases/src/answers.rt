@@ -65,7 +65,7 @@ pub fn print(said: Said) {
     }
 }
 
-pub fn print_with_state(said: Said, context: ExecutionContext, cells: &[u32], saved: &[u32]) {
+pub fn print_with_state(said: Said, context: ExecutionContext, cells: &[u32], store: &[u32]) {
     print(said);
-    print::state(context, cells, saved);
+    print::state(context, cells, store);
 }

@@ -2,6 +2,7 @@
 ghost use Prim.Native.Nat.{_≤_};
 ghost use lib.ListN.{length};
 ghost use Rattle.io.specs.Counts.{Counts};
+use definition::GREATEST_DEPTH;
 use definition::StackFrame;
 use std::num;
 
@@ -70,15 +71,15 @@ fn frame(h: u64, f: StackFrame) -> u64 {
     byte(unsigned(position, f.func_id as u64), b';')
 }
 
-fn frames(frames: [StackFrame; 31]) -> u64 {
+fn frames(frames: [StackFrame; GREATEST_DEPTH]) -> u64 {
     let mut h: u64 = 14695981039346656037;
-    for i in 0..31 {
+    for i in 0..GREATEST_DEPTH {
         let f = frames[i];
         h = frame(h, f);
     }
     h
 }
 
-pub fn digest(stack: [StackFrame; 31], cells: &[u32], saved: &[u32]) -> u64 {
-    words(words(frames(stack), cells), saved)
+pub fn digest(stack: [StackFrame; GREATEST_DEPTH], cells: &[u32], store: &[u32]) -> u64 {
+    words(words(frames(stack), cells), store)
 }

@@ -29,12 +29,12 @@ pub fn said(word: &[u8], n: u64) {
 }
 
 // Position, function, depth, saved count, and the digest of frames, cells and saved store.
-pub fn state(context: ExecutionContext, cells: &[u32], saved: &[u32]) {
+pub fn state(context: ExecutionContext, cells: &[u32], store: &[u32]) {
     let frames = context.frames;
     position(context.pc);
     field(context.current_function as u64);
     field(context.depth as u64);
     field(context.saved as u64);
     text(b" ");
-    io::print_hex(STDOUT_FILENO, digest::digest(frames, cells, saved), 16);
+    io::print_hex(STDOUT_FILENO, digest::digest(frames, cells, store), 16);
 }

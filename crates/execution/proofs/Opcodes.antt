@@ -3,8 +3,8 @@ use Prim.Native.Nat.{ℕ, _+_, _/_, _%_, _^_, _<_}
 use mathlib.Core.Path.{_≡_, refl, sym}
 use mathlib.Core.List.{List}
 use mathlib.Core.Option.{Option·getD}
-use mathlib.Core.Bool.{Bool, true, false, true≢false, _||_, Bool·beq}
-use lib.Dec.{eqb}
+use mathlib.Core.Bool.{Bool, true, false, true≢false, not, _&&_, _||_, Bool·beq}
+use lib.Dec.{eqb, leb}
 use borrow.Author.Tests.{eq-eqb, ne-eqb}
 use native.Mathlib.Nat.{zero-add}
 use Rattle.definition.specs.Statements.{Shape, floats, values, vectors, vectorsToFloat, strings, negates, negatesV, negatesS, stores, storesV, branches, jumps, call, return, host, opcodes, shapeOf}
@@ -12,7 +12,7 @@ use Rattle.definition.specs.StatementLaws.{every, every-at}
 use Rattle.floats.specs.Opcodes.{floatsOf, floatOp}
 use Rattle.floats.proofs.Opcodes.{among, Missed, missed}
 use Rattle.execution.specs.declared.shapes.Shape as code
-use Rattle.execution.specs.declared.shapes.Shape.the-variants.{Host}
+use Rattle.execution.specs.declared.shapes.Shape.the-variants.{Call, Host}
 use Rattle.execution.specs.Shapes.{isFloats, shapeAs}
 
 -- a test of each row of the table holds of each opcode's
@@ -68,6 +68,49 @@ floats-are op e = go (shapeOf op) e
 pub at : (s : code.Shape) (k op : ℕ) → op ≡ k → shapeAs s k ≡ shapeOf k → shapeAs s op ≡ shapeOf op
 at s k op e h = rw e h
 
+-- ---- Call0 to Call8, by their range
+
+abbrev pub isCallNumber : ℕ → Bool
+isCallNumber op = leb 51 op && leb op 59
+
+abbrev isCall : Shape → Bool
+isCall (floats f) = false
+isCall (values t f) = false
+isCall (vectors ta tb f) = false
+isCall (vectorsToFloat f) = false
+isCall (strings f) = false
+isCall (negates t f) = false
+isCall negatesV = false
+isCall negatesS = false
+isCall (stores t) = false
+isCall storesV = false
+isCall (branches when) = false
+isCall jumps = false
+isCall call = true
+isCall return = false
+isCall host = false
+
+call-is : (s : Shape) → isCall s ≡ true → call ≡ s
+call-is (floats f) e = absurd (true≢false (sym e))
+call-is (values t f) e = absurd (true≢false (sym e))
+call-is (vectors ta tb f) e = absurd (true≢false (sym e))
+call-is (vectorsToFloat f) e = absurd (true≢false (sym e))
+call-is (strings f) e = absurd (true≢false (sym e))
+call-is (negates t f) e = absurd (true≢false (sym e))
+call-is negatesV e = absurd (true≢false (sym e))
+call-is negatesS e = absurd (true≢false (sym e))
+call-is (stores t) e = absurd (true≢false (sym e))
+call-is storesV e = absurd (true≢false (sym e))
+call-is (branches when) e = absurd (true≢false (sym e))
+call-is jumps e = absurd (true≢false (sym e))
+call-is call e = refl
+call-is return e = absurd (true≢false (sym e))
+call-is host e = absurd (true≢false (sym e))
+
+pub is-call : (op : ℕ) → op < 66 → isCallNumber op ≡ true → shapeAs Call op ≡ shapeOf op
+unfolding opcodes
+is-call op h e = call-is (shapeOf op) (rw e at (row (λ n s. not (isCallNumber n) || isCall s) op h refl))
+
 -- ---- the last arm
 
 abbrev isHost : Shape → Bool
@@ -104,9 +147,9 @@ host-is call e = absurd (true≢false (sym e))
 host-is return e = absurd (true≢false (sym e))
 host-is host e = refl
 
--- the test, over the rows: an opcode that isn't listed, and doesn't make a float of two, goes to the host
+-- the test, over the rows: an opcode that isn't listed, is no Call and doesn't make a float of two, goes to the host
 abbrev pub listedOrHost : List ℕ → ℕ → Shape → Bool
-listedOrHost ks op s = isFloats s || (among ks op || isHost s)
+listedOrHost ks op s = isFloats s || (isCallNumber op || (among ks op || isHost s))
 
-pub rest : (ks : List ℕ) (op : ℕ) → op < 66 → isFloats (shapeOf op) ≡ false → every (listedOrHost ks) 0 opcodes ≡ true → Missed op (Unit {0}) ks → shapeAs Host op ≡ shapeOf op
-rest ks op h other t m = host-is (shapeOf op) (rw (other, missed op (Unit {0}) ks m .1) at (row (listedOrHost ks) op h t))
+pub rest : (ks : List ℕ) (op : ℕ) → op < 66 → isFloats (shapeOf op) ≡ false → isCallNumber op ≡ false → every (listedOrHost ks) 0 opcodes ≡ true → Missed op (Unit {0}) ks → shapeAs Host op ≡ shapeOf op
+rest ks op h other apart t m = host-is (shapeOf op) (rw (other, apart, missed op (Unit {0}) ks m .1) at (row (listedOrHost ks) op h t))

@@ -55,17 +55,9 @@ fn write(
 {
     match what {
         CellOp::Values(t) => return comparisons::op_values(defs, count, cells, op, t, a, b, c),
-        CellOp::Vectors(ta, tb) => return arithmetic::op_vectors(
-            defs,
-            count,
-            cells,
-            op,
-            ta,
-            a,
-            tb,
-            b,
-            c,
-        ),
+        CellOp::Vectors(ta, tb) => {
+            return arithmetic::op_vectors(defs, count, cells, op, ta, a, tb, b, c);
+        }
         CellOp::VectorsToFloat => return arithmetic::op_vectors_to_float(
             defs,
             count,

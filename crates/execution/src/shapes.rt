@@ -54,6 +54,9 @@ pub fn shape_of(op: u16) -> Shape
     requires { ⌜ (op < 66) × (isFloats (shapeOf op) ≡ false) ⌝ }
     ensures { λ r. ⌜ shapeAs r op ≡ shapeOf op ⌝ }
 {
+    if (ops::CALL_0 <= op) & (op <= ops::CALL_8) {
+        return Shape::Call;
+    }
     match op {
         ops::DONE => return Shape::Return,
         ops::MUL_V => return Shape::Cells(CellOp::VectorsToFloat),
@@ -83,15 +86,6 @@ pub fn shape_of(op: u16) -> Shape
         ops::NOT_FNC => return Shape::Cells(CellOp::Nots(FUNCTION)),
         ops::IF => return Shape::Branch(false),
         ops::IF_NOT => return Shape::Branch(true),
-        ops::CALL_0 => return Shape::Call,
-        ops::CALL_1 => return Shape::Call,
-        ops::CALL_2 => return Shape::Call,
-        ops::CALL_3 => return Shape::Call,
-        ops::CALL_4 => return Shape::Call,
-        ops::CALL_5 => return Shape::Call,
-        ops::CALL_6 => return Shape::Call,
-        ops::CALL_7 => return Shape::Call,
-        ops::CALL_8 => return Shape::Call,
         ops::GOTO => return Shape::Goto,
         _ => return Shape::Host,
     }

@@ -10,7 +10,7 @@ fn show_case(
     at: usize,
     file: &mut [u8],
     cells: &mut [u32],
-    saved: &mut [u32],
+    store: &mut [u32],
     line: &mut [u8],
 )
     requires { ⌜ at ≤ length (now text) ⌝ }
@@ -18,17 +18,17 @@ fn show_case(
 {
     let size = cases::next_word(text, at);
     let n = cases::file(text, size, file);
-    let end = shown::show(&file[..n], cells, saved, line);
+    let end = shown::show(&file[..n], cells, store, line);
     io::write_all(STDOUT_FILENO, &text[at..size]);
     io::write_all(STDOUT_FILENO, &line[..end]);
 }
 
-fn show_cases(text: &[u8], file: &mut [u8], cells: &mut [u32], saved: &mut [u32], line: &mut [u8])
+fn show_cases(text: &[u8], file: &mut [u8], cells: &mut [u32], store: &mut [u32], line: &mut [u8])
     requires { ⌜ 160 ≤ length (now line) ⌝ }
 {
     let mut at = 0;
     while at < text.len() {
-        show_case(text, at, file, cells, saved, line);
+        show_case(text, at, file, cells, store, line);
         at = cases::next_line(text, at);
     }
 }
@@ -37,8 +37,8 @@ fn main() {
     let mut text = [0u8; 262144];
     let mut file = [0u8; 65537];
     let mut cells = [0u32; 32768];
-    let mut saved = [0u32; 2048];
+    let mut store = [0u32; 2048];
     let mut line = [0u8; 160];
     let n = io::read_full(STDIN_FILENO, &mut text);
-    show_cases(&text[..n], &mut file, &mut cells, &mut saved, &mut line);
+    show_cases(&text[..n], &mut file, &mut cells, &mut store, &mut line);
 }

@@ -10,6 +10,7 @@ use call_list::Replied;
 use definition::Definition;
 use definition::FileRecord;
 use definition::FunctionDef;
+use definition::GREATEST_DEPTH;
 use definition::Lump;
 use definition::StackFrame;
 use definition::Statement;
@@ -66,9 +67,9 @@ fn numbered_context() -> ExecutionContext
         instr_id: 0,
         func_id: 0,
     };
-    let mut frames = [none; 31];
+    let mut frames = [none; GREATEST_DEPTH];
     let mut i: usize = 0;
-    while i < 31 {
+    while i < GREATEST_DEPTH {
         let frame = StackFrame {
             instr_id: (19 + 2 * i) as i64,
             func_id: 20 + 2 * i,

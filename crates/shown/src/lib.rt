@@ -8,11 +8,18 @@ ghost use Rattle.server.specs.Stepping.{ranOf};
 ghost use Rattle.text.specs.Output.{output, atFront};
 ghost use Rattle.shown.specs.Shown.{stateLine, enteredAndRun, shown, printed, atFrontOf};
 use definition::Answer;
+use definition::GREATEST_LIMIT;
 use definition::RunAnswer;
 use progs::ExecutionContext;
 use progs::load;
 use server::Ran;
 use text::Line;
+
+// 01: the show program reads "a file of at most 65,536 bytes".
+const LONGEST_INPUT: usize = 65536;
+
+// Its run's limit is the greatest.
+const LIMIT: i64 = GREATEST_LIMIT as i64;
 
 // 0 past the end. (After an accepted load there are 36 cells or more.)
 fn cell_at(cells: &[u32], i: usize) -> u32
@@ -74,7 +81,7 @@ fn enter_and_run(
                 count: 0,
             };
         }
-        Answer::Accepted => return server::run(context, file, 0, 99999, cells, store),
+        Answer::Accepted => return server::run(context, file, 0, LIMIT, cells, store),
     }
 }
 
@@ -84,7 +91,7 @@ pub fn show(file: &[u8], cells: &mut [u32], store: &mut [u32], line: &mut [u8]) 
     ensures { λ r. ⌜ printed (output (now (line .exit)) r) (now (cells .exit)) (now (store .exit)) ≡ atFrontOf (now (line .entry)) (shown (now (file .entry)) (now (cells .entry)) (now (store .entry))) ⌝ }
     ensures { λ r. ⌜ r ≤ 160 ⌝ }
 {
-    if 65536 < file.len() {
+    if LONGEST_INPUT < file.len() {
         return text::refused_line(line, 1);
     }
     let loaded = load::load(file, cells, store);

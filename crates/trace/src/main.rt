@@ -16,15 +16,15 @@ fn trace_step(
     context: ExecutionContext,
     file: &[u8],
     cells: &mut [u32],
-    saved: &mut [u32],
+    store: &mut [u32],
 ) -> ExecutionContext {
     let recorded = context.file;
     records::fetched(view::read_statement(file, recorded, context.pc));
     print::text(b" ");
-    let stepped = stepping::step_once(context, file, cells, saved);
+    let stepped = stepping::step_once(context, file, cells, store);
     let after = stepped.context;
     let answer = stepped.answer;
-    answers::print_with_state(answers::of_statement(answer), after, cells, saved);
+    answers::print_with_state(answers::of_statement(answer), after, cells, store);
     after
 }
 
@@ -33,12 +33,12 @@ fn enter(
     file: &[u8],
     function: i64,
     cells: &mut [u32],
-    saved: &mut [u32],
+    store: &mut [u32],
 ) -> ExecutionContext {
-    let entered = context.enter(file, function, cells, saved);
+    let entered = context.enter(file, function, cells, store);
     let after = entered.context;
     let answer = entered.answer;
-    answers::print_with_state(answers::of_answer(answer), after, cells, saved);
+    answers::print_with_state(answers::of_answer(answer), after, cells, store);
     after
 }
 
@@ -48,12 +48,12 @@ fn load_file(
     at: usize,
     file: &mut [u8],
     cells: &mut [u32],
-    saved: &[u32],
+    store: &[u32],
 ) -> ExecutionContext
     requires { ⌜ at ≤ length (now text) ⌝ }
 {
     let n = cases::file(text, cases::next_word(text, at), file);
-    let loaded = load::load(&file[..n], cells, saved);
+    let loaded = load::load(&file[..n], cells, store);
     let context = loaded.context;
     let answer = loaded.answer;
     answers::print(answers::of_answer(answer));
@@ -67,7 +67,7 @@ fn perform(
     context: ExecutionContext,
     file: &mut [u8],
     cells: &mut [u32],
-    saved: &mut [u32],
+    store: &mut [u32],
 ) -> ExecutionContext
     requires { ⌜ at < length (now text) ⌝ }
 {
@@ -83,20 +83,20 @@ fn perform(
             cases::set_byte(file, numbers.place, (numbers.value % 256) as u8);
             answers::print(Said::Accepted(0));
         }
-        b'n' => return load_file(text, at, file, cells, saved),
-        b'e' => return enter(context, &file[..lent], n, cells, saved),
-        _ => return trace_step(context, &file[..lent], cells, saved),
+        b'n' => return load_file(text, at, file, cells, store),
+        b'e' => return enter(context, &file[..lent], n, cells, store),
+        _ => return trace_step(context, &file[..lent], cells, store),
     }
     context
 }
 
 // Each file is loaded before the lines about it; the state before the first is all zeros, as a refused load gives it.
-fn perform_lines(text: &[u8], file: &mut [u8], cells: &mut [u32], saved: &mut [u32]) {
-    let none = load::load(b"", cells, saved);
+fn perform_lines(text: &[u8], file: &mut [u8], cells: &mut [u32], store: &mut [u32]) {
+    let none = load::load(b"", cells, store);
     let mut context = none.context;
     let mut at = 0;
     while at < text.len() {
-        context = perform(text, at, context, file, cells, saved);
+        context = perform(text, at, context, file, cells, store);
         print::end_line();
         at = cases::next_line(text, at);
     }
@@ -106,7 +106,7 @@ fn main() {
     let mut text = [0u8; 65536];
     let mut file = [0u8; 4096];
     let mut cells = [0u32; 64];
-    let mut saved = [0u32; 2048];
+    let mut store = [0u32; 2048];
     let n = io::read_full(STDIN_FILENO, &mut text);
-    perform_lines(&text[..n], &mut file, &mut cells, &mut saved);
+    perform_lines(&text[..n], &mut file, &mut cells, &mut store);
 }

@@ -5,7 +5,7 @@ use Rattle.definition.specs.Statements.{opcodes, shapeOf}
 use Rattle.floats.specs.Opcodes.{valueOp, componentOp, vectorsToFloatOp, notOp}
 use Rattle.execution.specs.declared.shapes.CellOp.the-variants.{Values, Vectors, VectorsToFloat, Strings, Nots, NotV, NotS, Stores, StoreV}
 use Rattle.execution.specs.declared.shapes.Shape.the-variants.{Cells, Branch, Goto, Call, Return, Host}
-use Rattle.execution.proofs.Opcodes.{at, rest}
+use Rattle.execution.proofs.Opcodes.{at, is-call, rest}
 use Rattle.execution.proofs.shapes.shape_of.Statement.{statement}
 use Rattle.execution.proofs.shapes.shape_of.Tie as tie
 
@@ -14,6 +14,7 @@ unfolding valueOp componentOp vectorsToFloatOp notOp opcodes shapeOf
 shape-of-spec =
     tie.close
     (tie.spec
+    (λ c. is-call _ (c .before .pre .0) (c .if1 .taken))
     (λ c. at Return 0 _ (c .match .keys1) refl)
     (λ c. at (Cells VectorsToFloat) 2 _ (c .match .keys2) refl)
     (λ c. at (Cells (Vectors 2 3)) 3 _ (c .match .keys3) refl)
@@ -42,14 +43,5 @@ shape-of-spec =
     (λ c. at (Cells (Nots 6)) 48 _ (c .match .keys26) refl)
     (λ c. at (Branch false) 49 _ (c .match .keys27) refl)
     (λ c. at (Branch true) 50 _ (c .match .keys28) refl)
-    (λ c. at Call 51 _ (c .match .keys29) refl)
-    (λ c. at Call 52 _ (c .match .keys30) refl)
-    (λ c. at Call 53 _ (c .match .keys31) refl)
-    (λ c. at Call 54 _ (c .match .keys32) refl)
-    (λ c. at Call 55 _ (c .match .keys33) refl)
-    (λ c. at Call 56 _ (c .match .keys34) refl)
-    (λ c. at Call 57 _ (c .match .keys35) refl)
-    (λ c. at Call 58 _ (c .match .keys36) refl)
-    (λ c. at Call 59 _ (c .match .keys37) refl)
-    (λ c. at Goto 61 _ (c .match .keys38) refl)
-    (λ c. rest (0 ∷ 2 ∷ 3 ∷ 4 ∷ 7 ∷ 9 ∷ 11 ∷ 12 ∷ 13 ∷ 14 ∷ 16 ∷ 17 ∷ 18 ∷ 19 ∷ 31 ∷ 32 ∷ 33 ∷ 34 ∷ 35 ∷ 36 ∷ 43 ∷ 44 ∷ 45 ∷ 46 ∷ 47 ∷ 48 ∷ 49 ∷ 50 ∷ 51 ∷ 52 ∷ 53 ∷ 54 ∷ 55 ∷ 56 ∷ 57 ∷ 58 ∷ 59 ∷ 61 ∷ []) (c .before .args .op) (c .before .pre .0) (c .before .pre .1) refl (c .match .rest)))
+    (λ c. at Goto 61 _ (c .match .keys29) refl)
+    (λ c. rest (0 ∷ 2 ∷ 3 ∷ 4 ∷ 7 ∷ 9 ∷ 11 ∷ 12 ∷ 13 ∷ 14 ∷ 16 ∷ 17 ∷ 18 ∷ 19 ∷ 31 ∷ 32 ∷ 33 ∷ 34 ∷ 35 ∷ 36 ∷ 43 ∷ 44 ∷ 45 ∷ 46 ∷ 47 ∷ 48 ∷ 49 ∷ 50 ∷ 61 ∷ []) (c .before .before .args .op) (c .before .before .pre .0) (c .before .before .pre .1) (c .before .if1 .left) refl (c .match .rest)))
