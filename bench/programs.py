@@ -10,6 +10,7 @@ import model  # noqa: E402
 
 ONE, COUNT, LIMIT, GOES_ON, SUM, PRODUCT, CALLED = 40, 41, 42, 43, 44, 45, 46
 VELOCITY, POSITION, STEP = 51, 54, 57
+HALF = 47
 
 
 def cell(value):
@@ -65,6 +66,12 @@ def vectors(turns):
     return loop(body, turns, cells=cells)
 
 
+def floors(turns):
+    """A sum of halves, and its floor by builtin 37, which the machine does itself."""
+    body = [("AddF", SUM, HALF, SUM), ("StoreF", SUM, 4), ("Call1", CALLED), ("StoreF", 1, PRODUCT)]
+    return loop(body, turns, functions=[model.function(first=-37, arguments=-1)], cells={HALF: cell(model.Fraction(1, 2))})
+
+
 def rule_file(turns):
     """tests/rules/ball.dat, as fteqcc compiled it, with the constant 9 of `left = 9` changed: 220 definitions, most of them
     before those of the cells that it uses."""
@@ -83,6 +90,7 @@ PROGRAMS = [
     ("float arithmetic, no definitions", floats, 1000, 12000),
     ("float arithmetic, 1,500 definitions that don't match", floats_with_definitions, 20, 200),
     ("many small calls", calls, 1000, 16000),
+    ("calls of floor", floors, 1000, 14000),
     ("vectors", vectors, 1000, 12000),
     ("floats, comparisons and jumps", branches, 700, 9000),
     ("a rule file of fteqcc, 220 definitions", rule_file, 50, 1000),

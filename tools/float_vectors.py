@@ -4,12 +4,13 @@
     python3 tools/float_vectors.py > crates/float_vectors/stdin
 
 A case is a line of eight hexadecimal numbers: the opcode, three cells of the first operand, three of the second, the
-result.
+result. A rounding builtin (document 02, R-1) has its number and 80 for an opcode, and its argument in the first cell.
 
 The results come from the model below and from nothing else: numbers are exact fractions, each operation is worked out
 exactly and then rounded once to binary32, ties to even; a NaN is 7fc00000. It knows nothing of the machine's code and
 uses no float arithmetic of Python's.
 """
+import math
 import random
 from fractions import Fraction
 
@@ -148,6 +149,27 @@ def bits(op):
     return run
 
 
+# ---- fabs, floor, ceil and rint
+
+def to_whole(choose):
+    """A function on fractions that gives whole numbers, as one on patterns: a zero has the sign of the argument."""
+    def run(x):
+        if is_nan(x):
+            return NAN
+        return x if is_inf(x) else rounded(Fraction(choose(exact(x))), sign(x))
+    return run
+
+
+def half_away(q):
+    """The nearest whole number, halves away from zero."""
+    n = math.floor(abs(q) + Fraction(1, 2))
+    return -n if q < 0 else n
+
+
+ROUNDINGS = {36: to_whole(half_away), 37: to_whole(math.floor), 38: to_whole(math.ceil),
+             43: lambda x: NAN if is_nan(x) else x & 0x7FFFFFFF}
+
+
 # ---- the opcodes
 
 FLOATS = {
@@ -232,6 +254,27 @@ def vectors(rng):
         yield [NAN if i == k else ONE for i in range(3)], [NAN if i == k else ONE for i in range(3)]
 
 
+def around(q):
+    """The pattern of a fraction above 0, and its neighbours."""
+    x = rounded(q)
+    return x - 1, x, x + 1
+
+
+def to_be_rounded(rng):
+    """Patterns without a sign."""
+    for e in range(256):
+        yield e << 23 | 1
+    # from 2^-9 to 2^25, digits at the ends and in the middle
+    for e in range(118, 153):
+        yield from (e << 23 | digits for digits in (0, 0x3FFFFF, 0x400000, 0x400001, 0x7FFFFF))
+    # whole numbers and halves, odd and even, at every size that has them
+    for n in [*range(1, 16), *(2**k + d for k in range(4, 24) for d in (-1, 0, 1))]:
+        yield from around(Fraction(n))
+        yield from around(Fraction(2 * n - 1, 2))
+    yield from (x & 0x7FFFFFFF for x in CORNERS + WHOLES)
+    yield from (rng.randrange(120, 152) << 23 | rng.getrandbits(23) for _ in range(100))
+
+
 # ---- the cases
 
 def line(op, a, b, r):
@@ -262,6 +305,10 @@ def main():
         line(44, [a], [], flag(zero(a)))
         line(47, [a], [], flag(a == 0))
         line(48, [a], [], flag(a == 0))
+    for x in sorted(set(to_be_rounded(rng))):
+        for number, f in ROUNDINGS.items():
+            line(0x80 + number, [x], [], f(x))
+            line(0x80 + number, [SIGN | x], [], f(SIGN | x))
 
 
 if __name__ == '__main__':

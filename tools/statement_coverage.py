@@ -13,6 +13,7 @@ import statement_vectors
 
 INFINITY = 0x7F800000
 HOST = {*range(24, 31), *range(37, 43), 60}
+INSIDE = (36, 37, 38, 43)
 STORES, STORE_V, STRING_PAIRS, GOTO = range(31, 37), 32, (12, 17), 61
 # what the operands are: f float, v vector, s string, e entity, d field, c function, 0 unused and 0, - not looked at
 KINDS = {1: 'fff', 2: 'vvf', 3: 'fvv', 4: 'vfv', 5: 'fff', 6: 'fff', 7: 'vvv', 8: 'fff', 9: 'vvv',
@@ -108,11 +109,16 @@ class Case:
 
     # ---- what is wrong with the operands, each by itself
 
-    def definitions(self):
-        offset, count = struct.unpack_from('<2i', self.vector.file.bytes, 16)
+    def bytes(self):
+        """The file's bytes as they are at the statement."""
         changed = bytearray(self.vector.file.bytes)
         for place, byte in self.vector.pokes:
             changed[place] = byte
+        return changed
+
+    def definitions(self):
+        offset, count = struct.unpack_from('<2i', self.vector.file.bytes, 16)
+        changed = self.bytes()
         return [struct.unpack_from('<2H', changed, offset + 8 * i) for i in range(count)]
 
     def type_of(self, cell):
@@ -177,6 +183,15 @@ def too_far(x, sign):
     return not is_nan(x) and x >> 31 == sign and (is_infinite(x) or exact(x) >= 2**31 or exact(x) < -2**31)
 
 
+def inside(case):
+    """A Call of one of R-1's four builtins, by the function in its operand's cell."""
+    offset, count = struct.unpack_from('<2i', case.vector.file.bytes, 32)
+    number = case.cell(case.vector.a)
+    if case.vector.opcode not in statement_vectors.CALL_OPCODES or number >= count:
+        return False
+    return -struct.unpack_from('<i', case.bytes(), offset + 36 * number)[0] in INSIDE
+
+
 ROWS = [
     ('a NaN is computed with', lambda c: any(map(is_nan, c.floats_read()))),
     ('arithmetic makes a NaN', lambda c: any(map(is_nan, c.floats_made()))),
@@ -202,6 +217,8 @@ ROWS = [
     ('two operands that would be refused with different numbers', lambda c: len(set(c.faults())) > 1),
     ('refused at the fetch, 7', lambda c: c.vector.refused(7)),
     ('a Call: 19, 20, 5, a builtin', lambda c: c.vector.refused(19, 20, 5) or c.vector.word == 'builtin'),
+    ('a Call of rint, floor, ceil or fabs, done inside', lambda c: inside(c) and c.accepted),
+    ('such a Call, refused 16 for cell 4 or cell 1', lambda c: inside(c) and c.vector.refused(16) and not c.faults()),
 ]
 
 

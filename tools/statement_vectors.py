@@ -62,7 +62,8 @@ class Vector:
             return RETURNS, self.a if self.a >= 0 else self.a % 65536 + 65536
         if self.opcode in CALL_OPCODES:
             there = 0 <= self.a < self.file.count
-            if self.word == 'accepted':
+            # a Call of a builtin that is done inside enters nothing
+            if self.word == 'accepted' and self.depth > (self.entered >= 0):
                 return CALLS, self.function
             if self.refused(*OF_ENTRY) or (there and self.refused(15)):
                 return CALLS, self.cells[self.a]

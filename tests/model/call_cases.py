@@ -3,10 +3,13 @@
 import struct
 from dataclasses import replace
 
-from common import CHANCE_FLOATS, THREE, TWO, Xorshift, flt, hex_of, numbers, random_program
+from common import (
+    CHANCE_FLOATS, HALF, LEAST, MINUS_INFINITY, MINUS_ZERO, NEGATIVE_NAN, SIGNALLING_NAN, THREE, TWO,
+    Xorshift, flt, hex_of, numbers, random_program,
+)
 from model import (
-    CELLS, FIELD_DEFS, FLOAT, FUNCTIONS, GLOBAL_DEFS, HOST_OPCODES, ONE, RECORD_SIZES, STATEMENTS,
-    STRING, STRINGS, VOID, Answer, Assembly, Frame, Machine, function,
+    CELLS, FIELD_DEFS, FLOAT, FUNCTION, FUNCTIONS, GLOBAL_DEFS, HOST_OPCODES, ONE, RECORD_SIZES,
+    STATEMENTS, STRING, STRINGS, VECTOR, VOID, Answer, Assembly, Frame, Machine, function,
 )
 
 FNV_BASIS = 0xCBF29CE484222325
@@ -728,6 +731,124 @@ def nested_calls(c):
     c.ok("abandon 0")
 
 
+# function 1 does the four on cell 4, function 2 calls rint by Call0 to Call8, function 3 rounds without end
+ALL_FOUR, EVERY_CALL, ROUNDS_ON, RINT, FLOOR, CEIL, FABS, FLOOR_ENTERED, FLOOR_LOCALS, BESIDE = range(1, 11)
+ROUNDING = Assembly(
+    statements=[
+        ("Done", 28),
+        *[statement for i in range(4) for statement in (("Call1", 36 + i), ("StoreF", 1, 40 + i))],
+        ("Return", 40),  # 9
+        *[(f"Call{count}", 36) for count in range(9)],  # 10 to 18
+        ("Return", 1),
+        ("Call1", 36),  # 20
+        ("Goto", -1),
+        ("Call1", 37),  # 22, the last
+    ],
+    functions=[
+        function(),
+        function(1),
+        function(10, 50, 2, (1,)),
+        function(20),
+        *[function(-number, arguments=-1) for number in (36, 37, 38, 43)],
+        function(-37),
+        function(-37, 62, 3),
+        function(-35, arguments=-1),
+    ],
+    cells={36: RINT, 37: FLOOR, 38: CEIL, 39: FABS, 44: EVERY_CALL, 50: flt(50.5), 51: flt(51.5)},
+    definitions=[(FLOAT, 4), (FLOAT, 1), (FUNCTION, 36)],
+)
+
+
+def rounding_values(c):
+    c.new("R-1: rint, floor, ceil and fabs of one cell, by runs that end after 9 statements", ROUNDING)
+    c.ok("load")
+    sizes = (HALF, 0x3EFFFFFF, flt(1.5), flt(2.5), 0x4AFFFFFF, flt(8388609.0), LEAST)
+    values = [value for size in sizes for value in (size, MINUS_ZERO | size)]
+    for value in (SIGNALLING_NAN, *values, 0, MINUS_ZERO, MINUS_INFINITY, NEGATIVE_NAN):
+        c.ok(f"put 4 {value}", "enter 1")
+        assert c.do("run 0 20") == Answer("ended", 0, 9)
+    c.new("R-1: each counts as one completed statement, and the run goes on", ROUNDING)
+    c.ok("load", f"put 4 {flt(-2.5)}", "enter 1", "statement", "get 1", "statement")
+    assert c.do("run 0 1") == Answer("spent", 0, 1)
+    assert c.machine.state.position == 4 and c.machine.cells[1] == flt(-3.0)
+    assert c.do("run 0 6") == Answer("ended", 0, 6)
+    for limit, word in ((8, "spent"), (9, "ended")):
+        c.ok("enter 1")
+        assert c.do(f"run 0 {limit}", word).count == limit
+        c.ok("abandon 0")
+    c.ok(f"put 4 {HALF}", f"enter {ROUNDS_ON}")
+    assert c.do("run 0 99999") == Answer("spent", 0, 99_999)
+    assert c.machine.state.position == 21
+    c.new("R-1: Call0 to Call8 alike; the caller's locals are restored", ROUNDING)
+    c.ok("load", f"put 4 {flt(-0.25)}", f"enter {EVERY_CALL}", *["statement"] * 4)
+    c.word("ended", "run 0 6")
+    c.ok("get 1", "get 50", f"put 4 {flt(6.5)}", f"enter {EVERY_CALL}")
+    assert c.do("run 0 99") == Answer("ended", 0, 10)
+    c.ok("get 1")
+
+
+def rounding_refusals(c):
+    c.new("R-1: 16 for cell 4 and for cell 1; carrying on is 27 in either case", ROUNDING)
+    argument, result, called = (ROUNDING.place(GLOBAL_DEFS, index) for index in range(3))
+    c.ok("load", f"put 4 {flt(2.5)}", "put 1 7", "enter 1")
+    for place in (argument, result):
+        for type_ in (STRING, VOID, FUNCTION):
+            c.ok(f"byte {place} {type_}")
+            c.no(16, "statement")
+            c.no(27, "carry")
+            assert c.do("run 0 5", 16).count == 0
+        c.ok(f"byte {place} {VECTOR}")
+    c.no(27, "carry")
+    c.ok("statement", "get 1", f"byte {argument} {STRING}")
+    assert c.do("run 0 5", 16).count == 1  # the StoreF from cell 1 is completed
+    c.ok(f"put 37 {BESIDE}")
+    c.word("builtin", "statement")  # another builtin looks at neither cell
+    c.ok("carry")
+    c.new("R-1: the Call's own checks first: 16, 19, 20, 5", ROUNDING)
+    c.ok("load", "enter 1", f"byte {argument} {STRING}", f"byte {result} {STRING}", f"byte {called} {FLOAT}", "put 36 0")
+    c.no(16, "statement")
+    c.ok(f"byte {called} {FUNCTION}")
+    for value, refusal in ((0, 19), (11, 20), (0xFFFFFFFF, 20), (RINT, 16)):
+        c.ok(f"put 36 {value}")
+        c.no(refusal, "statement", "run 0 1")
+        c.no(27, "carry")
+    record = ROUNDING.place(FUNCTIONS, RINT)
+    c.number(record, -39)
+    c.no(5, "statement")
+    c.number(record, 9)  # no builtin any more, and with no arguments it can be entered
+    c.number(record + 24, 0)
+    c.ok("statement", "statement")
+    c.new("R-1: a host entry of the four is refused as before", ROUNDING)
+    c.ok("load", f"put 4 {flt(2.5)}")
+    c.no(24, *[f"enter {number}" for number in (RINT, FLOOR, CEIL, FABS)])
+    c.no(21, f"enter {FLOOR_ENTERED}")
+    c.no(15, f"enter {FLOOR_LOCALS}")
+
+
+def rounding_elsewhere(c):
+    c.new("R-1: bytes that changed: which builtin it is now counts", ROUNDING)
+    c.ok("load", f"put 4 {flt(-1.5)}", "enter 1")
+    for number, result in ((36, -2.0), (37, -2.0), (38, -1.0), (43, 1.5)):
+        c.number(ROUNDING.place(FUNCTIONS, RINT), -number)
+        c.ok(f"field {POSITION} 1")
+        c.no(27, "carry")
+        c.ok("statement")
+        assert c.machine.cells[1] == flt(result)
+    for number in (35, 44):
+        c.number(ROUNDING.place(FUNCTIONS, RINT), -number)
+        c.ok(f"field {POSITION} 1")
+        assert c.do("statement") == Answer("builtin", number)
+        c.ok("carry")
+    c.new("R-1: at depth 0, at depth 31, at the last statement", ROUNDING)
+    c.ok("load", f"put 4 {flt(-1.5)}", f"field {POSITION} 1", "statement", "get 1", f"field {POSITION} 22", "statement")
+    c.no(14, "statement", "carry")
+    c.ok(*["enter 1"] * 31)
+    c.no(22, "enter 1")
+    c.ok("statement", "statement", "statement")
+    c.word("ended", "run 30 99")
+    c.ok("abandon 0", "get 1")
+
+
 def random_calls(c):
     chance = Xorshift(521288629)
     for index in range(36):
@@ -804,6 +925,9 @@ def call_cases():
     abandon_calls(c)
     refused_entry_calls(c)
     nested_calls(c)
+    rounding_values(c)
+    rounding_refusals(c)
+    rounding_elsewhere(c)
     random_calls(c)
     large_calls(c)
     return c

@@ -3,7 +3,8 @@
 import struct
 
 from model import (
-    FLOAT, HOST_OPCODES, INFINITY, ONE, QUIET_NAN, SAVE_FLAG, SIGN, VECTOR, Assembly, function,
+    FLOAT, HOST_OPCODES, INFINITY, INSIDE_BUILTINS, ONE, QUIET_NAN, SAVE_FLAG, SIGN, VECTOR, Assembly,
+    function,
 )
 
 
@@ -51,6 +52,17 @@ GREATEST = 0x7F7FFFFF
 HALF, TWO, THREE = flt(0.5), flt(2.0), flt(3.0)
 MINUS_ONE = flt(-1.0)
 
+# R-1's arguments: zeros, subnormals, about the halves and whole numbers, about 2**22, 2**23, 2**24 and 2**31, the ends, NaNs
+ROUNDED_SIZES = [
+    *(0, LEAST, GREATEST_SUBNORMAL, LEAST_NORMAL, flt(0.25)),
+    *(0x3EFFFFFF, HALF, 0x3F000001, flt(0.75), 0x3F7FFFFF, ONE, 0x3F800001),
+    *(0x3FBFFFFF, flt(1.5), 0x3FC00001, 0x3FFFFFFF, TWO, flt(2.5), flt(3.5)),
+    *(0x4A7FFFFF, flt(4194304.5), 0x4AFFFFFD, 0x4AFFFFFE, 0x4AFFFFFF),  # up to 8388607.5
+    *(flt(8388608.0), flt(8388609.0), 0x4B7FFFFF, flt(16777218.0), flt(2147483648.0)),
+    *(GREATEST, INFINITY, SIGNALLING_NAN, QUIET_NAN, 0x7FFFFFFF),
+]
+
+
 def flat(pairs):
     return [number for pair in pairs for number in pair]
 
@@ -87,10 +99,13 @@ def random_program(chance, hosts=False):
         first = 1 + chance.below(count)
         functions.append(function(first, 48 + chance.below(8), chance.below(8), sizes))
     functions.append(function(-(1 + chance.below(4)), arguments=-1))
+    functions.append(function(-chance.pick(sorted(INSIDE_BUILTINS)), arguments=-1))
     for cell in range(40, 44):
         cells[cell] = 2 + chance.below(4)
     if hosts:
         cells[43] = 6
+    if chance.below(2):
+        cells[42] = 7
     for cell in range(44, 48):
         cells[cell] = chance.below(3)
     definitions = [

@@ -1,7 +1,8 @@
 """Whole files and the show program's line for each: cases/files.txt."""
 
 from common import (
-    FLOAT_ARITHMETIC, GREATEST, THREE, TWO, Xorshift, flt, hex_of, program, random_program, triple,
+    FLOAT_ARITHMETIC, GREATEST, MINUS_INFINITY, NEGATIVE_NAN, THREE, TWO, Xorshift, flt, hex_of, program,
+    random_program, triple,
 )
 from model import (
     BUILTINS, CELLS, FIELD_DEFS, FLOAT, FUNCTION, FUNCTIONS, GLOBAL_DEFS, HOST_OPCODES, ONE,
@@ -275,7 +276,7 @@ def statement_files(f):
     for number in sorted(HOST_OPCODES):
         file = program(("NotF", 28, 0, 2), (number, -1, 64, 5))
         f.add(f"opcode-{OPCODES[number]}", file, f"opcode,{number},1,2,1,1,0,")
-    for number in (1, 7, 43, 78):
+    for number in (1, 7, 35, 78):
         functions = [function(1), function(-number, arguments=-1)]
         file = program(("NotF", 28, 0, 2), ("Call1", 30), functions=functions, cells={30: 2})
         f.add(f"calls-builtin-{number}", file, f"builtin,{number},1,2,1,1,0,")
@@ -495,6 +496,54 @@ def nested_then_bad(calls):
     )
 
 
+ROUNDED_NAMES = {36: "rint", 37: "floor", 38: "ceil", 43: "fabs"}
+# three arguments, and their results under rint, floor, ceil and fabs as they were worked out by hand
+ROUNDED_BY_HAND = [
+    ((0xBF000000, 0x3EFFFFFF, NEGATIVE_NAN), {  # -0.5, just under 0.5
+        36: "bf800000,00000000,7fc00000", 37: "bf800000,00000000,7fc00000",
+        38: "80000000,3f800000,7fc00000", 43: "3f000000,3effffff,7fc00000"}),
+    ((0xC0200000, MINUS_INFINITY, 0x4AFFFFFF), {  # -2.5, minus infinity, 8388607.5
+        36: "c0400000,ff800000,4b000000", 37: "c0400000,ff800000,4afffffe",
+        38: "c0000000,ff800000,4b000000", 43: "40200000,7f800000,4affffff"}),
+    ((0xBE800000, 0x80000001, 0xCB000001), {  # -0.25, the least negative, -8388609.0
+        36: "80000000,80000000,cb000001", 37: "bf800000,bf800000,cb000001",
+        38: "80000000,80000000,cb000001", 43: "3e800000,00000001,4b000001"}),
+]
+
+
+def rounded_program(number, arguments=(flt(2.5),), **parts):
+    """The builtin of each argument in turn, the results from cell 32 on; 1 statement more than three for each argument."""
+    statements = []
+    for index in range(len(arguments)):
+        statements += [("StoreF", 28 + index, 4), ("Call1", 31), ("StoreF", 1, 32 + index)]
+    functions = [function(1), function(-number, arguments=-1)]
+    return program(*statements, ("Return", 32), functions=functions, cells={31: 2, **triple(28, arguments)}, **parts)
+
+
+def rounding_files(f):
+    f.note("R-1: rint, floor, ceil and fabs are done inside")
+    for number, name in ROUNDED_NAMES.items():
+        for index, (arguments, results) in enumerate(ROUNDED_BY_HAND):
+            f.add(f"{name}-{index}", rounded_program(number, arguments), f"ended,0,10,0,0,0,0,{results[number]}")
+    f.note("R-1: cell 4 and cell 1 typed; the refused Call isn't counted, and its result isn't there")
+    for name, definitions, begins in (
+        ("float-and-vector", [(FLOAT | SAVE_FLAG, 4), (VECTOR, 1)], "ended,0,4,0,0,0,0,40000000,"),
+        ("argument-refused", [(STRING, 4), (FLOAT, 1)], "refused,16,0,1,1,1,0,00000000,"),
+        ("result-refused", [(FLOAT, 4), (STRING, 1)], "refused,16,1,2,1,1,0,00000000,"),
+    ):
+        f.add(f"rounding-{name}", rounded_program(37, definitions=definitions), begins)
+    # the argument comes to cell 4 by a StoreV, which looks at no type there
+    moved = dict(functions=[function(1), function(-37, arguments=-1)], cells={28: TWO, 31: 2})
+    by_address = program(("StoreV", 28, 4), ("Call1", 31), definitions=[(STRING, 4)], **moved)
+    f.add("rounding-call-refused", by_address, "refused,16,1,2,1,1,0,00000000,")
+    # Call and Goto in turn: the 99,999th is a Call, and the position is then the Goto's
+    endless = program(("Call1", 31), ("Goto", -1), **moved)
+    f.add("rounding-endless", endless, "spent,0,99999,2,1,1,0,00000000,")
+    entered = program(("Return",), functions=[function(-36), function(-43)])
+    f.add("rounding-entered", entered, "refused,21,0,0,0,0,0,")
+    f.add("rounding-entered-24", program(functions=[function(-36, arguments=-1)]), "refused,24,0,0,0,0,0,")
+
+
 def random_files(f):
     f.note("programs by chance")
     chance = Xorshift(88675123)
@@ -509,5 +558,6 @@ def file_cases():
     entry_files(f)
     statement_files(f)
     call_files(f)
+    rounding_files(f)
     random_files(f)
     return f

@@ -1,6 +1,6 @@
-"""A model of the QuakeC program machine, written from document 01 alone.
+"""A model of the QuakeC program machine, written from document 01 and from 02's change requests.
 
-Quotations in comments are 01's words.  The model works the way 01 tells it: it goes through a
+Quotations in comments are 01's words, or 02's where a request (R-1 ..) is named.  The model works the way 01 tells it: it goes through a
 statement step by step, writing as it goes, and a refusal undoes what was written.  It is meant to
 be read beside 01 and to be run, not to be fast.
 
@@ -161,6 +161,40 @@ def float_of(whole):
     return nearest(Fraction(whole)) if whole else ZERO
 
 
+def rounding(to_whole):
+    """R-1's rint, floor or ceil, by what it makes of an exact value."""
+
+    def rounded(x):
+        if is_nan(x):
+            return QUIET_NAN  # "A NaN gives 7fc00000 under all four."
+        if is_infinite(x):
+            return x  # "an infinity is unchanged"
+        whole = to_whole(value_of(x))
+        # "a zero result takes the argument's sign"
+        return nearest(Fraction(whole)) if whole else sign_of(x)
+
+    return rounded
+
+
+def whole_below(value):
+    return value.numerator // value.denominator
+
+
+def whole_above(value):
+    return -whole_below(-value)
+
+
+def nearest_whole(value):
+    """ "the nearest whole number, halves away from zero" """
+    size = whole_below(abs(value) + Fraction(1, 2))
+    return -size if value < 0 else size
+
+
+def float_abs(x):
+    """ "Fabs clears the sign." """
+    return QUIET_NAN if is_nan(x) else x & ~SIGN
+
+
 # ---------------------------------------------------------------------------------------------
 # File
 # ---------------------------------------------------------------------------------------------
@@ -197,6 +231,13 @@ BUILTINS = {
     number
     for low, high in ((1, 4), (6, 32), (34, 38), (40, 41), (43, 49), (51, 59), (67, 70), (72, 78))
     for number in range(low, high + 1)
+}
+# R-1: "Builtins 43, 37, 38 and 36 are now done by the machine", fabs, floor, ceil and rint
+INSIDE_BUILTINS = {
+    36: rounding(nearest_whole),
+    37: rounding(whole_below),
+    38: rounding(whole_above),
+    43: float_abs,
 }
 # "24 to 30, 37 to 42 and 60 go to the host"
 HOST_OPCODES = {*range(24, 31), *range(37, 43), 60}
@@ -499,7 +540,7 @@ class Machine:
         if name in ("Done", "Return"):
             self._return(a)
         elif name.startswith("Call"):
-            self._enter(self._called(a), self.state.position + 1)
+            self._call(a)
         elif name == "Goto":
             self._advance(a)
         elif name in ("If", "IfNot"):
@@ -595,15 +636,28 @@ class Machine:
     # -- calls ---------------------------------------------------------------------------------
 
     def _called(self, operand):
-        """The Call row: the function to be entered; a builtin is handed over."""
+        """The Call row: the function to be entered, or the builtin to be done inside, and its first
+        statement; any other builtin is handed over."""
         number = self._get_typed(operand, FUNCTION)
         check(number != 0, 19)
         check(number < self._program.count(FUNCTIONS), 20)  # a negative one is a great one here
         first = self._program.function(number).first
         if first < 0:
             check(-first in BUILTINS, 5)
-            raise HandedOver("builtin", -first)
-        return number
+            if -first not in INSIDE_BUILTINS:
+                raise HandedOver("builtin", -first)
+        return number, first
+
+    def _call(self, operand):
+        number, first = self._called(operand)
+        if first >= 0:
+            self._enter(number, self.state.position + 1)
+            return
+        # R-1: "float in cell 4, result in cell 1, both typed"
+        argument = self._get_typed(4, FLOAT)
+        self._put_typed(1, FLOAT, INSIDE_BUILTINS[-first](argument))
+        # "Each counts as one completed statement and the run goes on."
+        self._advance(1)
 
     def _enter(self, number, recorded):
         state = self.state

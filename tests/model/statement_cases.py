@@ -4,8 +4,8 @@ import struct
 
 from common import (
     FLOAT_ARITHMETIC, FLOAT_COMPARISONS, GREATEST, GREATEST_SUBNORMAL, HALF, LEAST, LEAST_NORMAL,
-    MINUS_INFINITY, MINUS_ONE, MINUS_ZERO, NEGATIVE_NAN, SIGNALLING_NAN, THREE, TWO, Xorshift, flat,
-    flt, hex_of, numbers, triple,
+    MINUS_INFINITY, MINUS_ONE, MINUS_ZERO, NEGATIVE_NAN, ROUNDED_SIZES, SIGNALLING_NAN, THREE, TWO,
+    Xorshift, flat, flt, hex_of, numbers, triple,
 )
 from model import (
     CELLS, ENTITY, FIELD, FLOAT, FUNCTION, FUNCTIONS, GLOBAL_DEFS, HOST_OPCODES, INFINITY, ONE,
@@ -15,6 +15,7 @@ from model import (
 
 # The functions of every vector file.  All begin at statement 0, where the vector's statement is.
 PLAIN, WITH_LOCALS, BUILTIN_1, BUILTIN_78, RETURN_CELLS = 1, 2, 3, 4, 13
+RINT, FLOOR, CEIL, FABS = ROUNDINGS = range(17, 21)
 VECTOR_FUNCTIONS = [
     function(),
     function(),  # 1: enters and leaves without touching a cell
@@ -33,6 +34,10 @@ VECTOR_FUNCTIONS = [
     function(local=35, locals=2),  # 14: refused 15 where there are 36 cells
     function(local=-1, locals=1),  # 15: refused 15
     function(local=-1, sizes=(1,)),  # 16: refused 15, argument cells
+    function(first=-36, arguments=-1),
+    function(first=-37, arguments=-1),
+    function(first=-38, arguments=-1),
+    function(first=-43, local=-1, locals=-1, arguments=9),  # what an entry would refuse plays no part
 ]
 
 
@@ -386,7 +391,7 @@ def call_vectors(v):
         v.add(opcode, 28, 0, 0, {28: 0})
         v.add(opcode, 28, -1, 64, {28: PLAIN})
         v.add(opcode, 28, 0, 0, {28: BUILTIN_1})
-    for number in (17, 18, 0x7FFFFFFF, 0x80000000, 0xFFFFFFFF):
+    for number in (21, 22, 0x7FFFFFFF, 0x80000000, 0xFFFFFFFF):
         v.add("Call1", 28, 0, 0, {28: number})
     for number in range(1, 17):
         v.add("Call2", 28, 0, 0, {28: number, **triple(1, range(201, 228))})
@@ -406,6 +411,25 @@ def call_vectors(v):
     minus_43 = [(plain + i, byte) for i, byte in enumerate(struct.pack("<i", -43))]
     v.add("Call0", 28, 0, 0, {28: PLAIN}, pokes=minus_43)
     v.add("Call0", 28, 0, 0, {28: BUILTIN_78}, pokes=[(at + 36 + i, 0) for i in range(4)])
+
+
+def rounding_vectors(v):
+    v.note("R-1: rint, floor, ceil and fabs of every kind of float, done inside")
+    for number in ROUNDINGS:
+        for size in ROUNDED_SIZES:
+            for value in (size, SIGN | size):
+                v.add("Call1", 28, 0, 0, {28: number, 4: value, 1: 0xDEADBEEF})
+    v.note("R-1: which Call it is plays no part; at a depth above 0; the called cell is cell 4, cell 1")
+    for count in range(9):
+        v.add(f"Call{count}", 28, -1, 64, {28: RINT, 4: flt(-2.5), 7: ONE})
+    for number in ROUNDINGS:
+        v.add("Call1", 28, 0, 0, {28: number, **triple(1, (7, 8, 9, flt(-1.5), 10, 11))}, enter=WITH_LOCALS)
+        v.add("Call1", 4, 0, 0, {4: number, 1: 7})
+        v.add("Call1", 1, 0, 0, {4: flt(-7.25), 1: number})
+    v.note("R-1: the builtins beside the four are handed over, the numbers beside them are none")
+    at = v.base.place(FUNCTIONS, BUILTIN_1)
+    for number in (34, 35, 36, 37, 38, 39, 40, 41, 42, 43, 44):
+        v.add("Call1", 28, 0, 0, {28: BUILTIN_1, 4: flt(1.5)}, pokes=[(at, 256 - number)])
 
 
 def return_vectors(v):
@@ -538,6 +562,32 @@ def type_vectors(v):
     v.add("NotF", 30, 0, 31, pokes=[(at + 2, 31), (at, 1)])  # the definition moves to cell 31
 
 
+def typed_rounding_vectors(v):
+    """On a file that types the operand's cell 36, cell 4 and cell 1, in this order."""
+    argument, result = (v.base.place(GLOBAL_DEFS, index) for index in (1, 2))
+    v.note("R-1: cell 4 and cell 1 of every type, with the save flag too; only float and vector pass")
+    for type_ in range(8):
+        refused = None if type_ in (FLOAT, VECTOR) else 16
+        for number, at in ((RINT, argument), (FABS, result)):
+            v.add("Call1", 36, 0, 0, {36: number, 4: flt(2.5)}, pokes=[(at, type_)], refused=refused)
+        v.add("Call1", 36, 0, 0, {36: CEIL, 4: flt(2.5)}, pokes=[(argument + 1, 0x80), (argument, type_)], refused=refused)
+    v.note("R-1: both of another type; a NaN is no exception")
+    both = [(argument, STRING), (result, STRING)]
+    v.add("Call1", 36, 0, 0, {36: FLOOR}, pokes=both, refused=16)
+    v.add("Call1", 36, 0, 0, {36: FLOOR, 4: QUIET_NAN}, pokes=both[:1], refused=16)
+    v.note("R-1: the Call's own checks come first: its operand, then 19, 20 and 5")
+    v.add("Call1", 37, 0, 0, {37: FLOOR}, pokes=both, refused=16)  # cell 37 is a string
+    v.add("Call1", 64, 0, 0, pokes=both, refused=15)
+    v.add("Call1", -1, 0, 0, pokes=both, refused=15)
+    v.add("Call1", 36, 0, 0, {36: 0}, pokes=both, refused=19)
+    v.add("Call1", 36, 0, 0, {36: 21}, pokes=both, refused=20)
+    floor = v.base.place(FUNCTIONS, FLOOR)
+    v.add("Call1", 36, 0, 0, {36: FLOOR}, pokes=[*both, (floor, 256 - 39)], refused=5)
+    v.note("R-1: another builtin looks at neither cell, and an entered function neither")
+    v.add("Call1", 36, 0, 0, {36: FLOOR}, pokes=[*both, (floor, 256 - 35)])
+    v.add("Call1", 36, 0, 0, {36: PLAIN}, pokes=both)
+
+
 def small_vectors(v):
     for place in (33, 34, 35, 36):
         v.add("NotV", place, 0, 28)
@@ -548,6 +598,7 @@ def small_vectors(v):
         v.add("StoreV", place, 27, 0, triple(27, range(1, 10)))
     for number in (2, 6, 9, 14):
         v.add("Call0", 28, 0, 0, {28: number, **triple(4, range(204, 212))})
+    v.add("Call1", 28, 0, 0, {28: CEIL, 4: HALF})
 
 
 def large_vectors(v):
@@ -570,12 +621,16 @@ def statement_vectors():
     number_vectors(v)
     jump_vectors(v)
     call_vectors(v)
+    rounding_vectors(v)
     return_vectors(v)
     host_vectors(v)
     fields = [(FLOAT, 29), (STRING, 30), (ENTITY, 36)]
     v.file("64 cells, definitions of every type", definitions=TYPED_DEFINITIONS, fields=fields)
     refusal_vectors(v)
     type_vectors(v)
+    definitions = [(FUNCTION, 36), (FLOAT, 4), (FLOAT, 1), *[(STRING, cell) for cell in (1, 2, 3, 4, 5, 6, 37)]]
+    v.file("64 cells, cells 1 to 6 defined", definitions=definitions, fields=[(STRING, 4), (STRING, 1)])
+    typed_rounding_vectors(v)
     v.file("36 cells, the fewest; lumps in another order", cell_count=36, layout=(5, 4, 3, 2, 1, 0))
     small_vectors(v)
     v.file(

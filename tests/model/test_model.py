@@ -226,7 +226,132 @@ class Floats(unittest.TestCase):
         self.assertEqual(machine.cells[28:31], [0xFFC12345] * 3)
 
 
+# R-1's table by hand: argument, then rint, floor, ceil, fabs
+ROUNDED = [
+    (0x3F000000, 0x3F800000, 0x00000000, 0x3F800000, 0x3F000000),  # 0.5: 1, 0, 1
+    (0xBF000000, 0xBF800000, 0xBF800000, 0x80000000, 0x3F000000),  # -0.5: -1, -1, -0
+    (0x3EFFFFFF, 0x00000000, 0x00000000, 0x3F800000, 0x3EFFFFFF),  # 0.49999997: 0, 0, 1
+    (0xBEFFFFFF, 0x80000000, 0xBF800000, 0x80000000, 0x3EFFFFFF),
+    (0xBE800000, 0x80000000, 0xBF800000, 0x80000000, 0x3E800000),  # -0.25: -0, -1, -0
+    (0x3F000001, 0x3F800000, 0x00000000, 0x3F800000, 0x3F000001),
+    (0x3F7FFFFF, 0x3F800000, 0x00000000, 0x3F800000, 0x3F7FFFFF),
+    (0x3FC00000, 0x40000000, 0x3F800000, 0x40000000, 0x3FC00000),  # 1.5: 2, 1, 2
+    (0x3FBFFFFF, 0x3F800000, 0x3F800000, 0x40000000, 0x3FBFFFFF),
+    (0x40200000, 0x40400000, 0x40000000, 0x40400000, 0x40200000),  # 2.5: 3, 2, 3
+    (0xC0200000, 0xC0400000, 0xC0400000, 0xC0000000, 0x40200000),  # -2.5: -3, -3, -2
+    (0x40600000, 0x40800000, 0x40400000, 0x40800000, 0x40600000),  # 3.5: 4, 3, 4
+    (0x3F800000, 0x3F800000, 0x3F800000, 0x3F800000, 0x3F800000),
+    (0xC0000000, 0xC0000000, 0xC0000000, 0xC0000000, 0x40000000),
+    (0x4AFFFFFF, 0x4B000000, 0x4AFFFFFE, 0x4B000000, 0x4AFFFFFF),  # 8388607.5: 8388608, 8388607, 8388608
+    (0xCAFFFFFF, 0xCB000000, 0xCB000000, 0xCAFFFFFE, 0x4AFFFFFF),
+    (0x4AFFFFFD, 0x4AFFFFFE, 0x4AFFFFFC, 0x4AFFFFFE, 0x4AFFFFFD),  # 8388606.5: 8388607, 8388606, 8388607
+    (0x4A7FFFFF, 0x4A800000, 0x4A7FFFFC, 0x4A800000, 0x4A7FFFFF),  # 4194303.75: 4194304, 4194303, 4194304
+    (0x4B000001, 0x4B000001, 0x4B000001, 0x4B000001, 0x4B000001),  # 8388609
+    (0xCB7FFFFF, 0xCB7FFFFF, 0xCB7FFFFF, 0xCB7FFFFF, 0x4B7FFFFF),
+    (0x7F7FFFFF, 0x7F7FFFFF, 0x7F7FFFFF, 0x7F7FFFFF, 0x7F7FFFFF),
+    (0xCF000001, 0xCF000001, 0xCF000001, 0xCF000001, 0x4F000001),  # below -2147483648
+    (0x00000000, 0x00000000, 0x00000000, 0x00000000, 0x00000000),
+    (0x80000000, 0x80000000, 0x80000000, 0x80000000, 0x00000000),
+    (0x00000001, 0x00000000, 0x00000000, 0x3F800000, 0x00000001),  # the least subnormal: 0, 0, 1
+    (0x807FFFFF, 0x80000000, 0xBF800000, 0x80000000, 0x007FFFFF),
+    (0x7F800000, 0x7F800000, 0x7F800000, 0x7F800000, 0x7F800000),
+    (0xFF800000, 0xFF800000, 0xFF800000, 0xFF800000, 0x7F800000),
+    (0x7F800001, 0x7FC00000, 0x7FC00000, 0x7FC00000, 0x7FC00000),
+    (0xFFC12345, 0x7FC00000, 0x7FC00000, 0x7FC00000, 0x7FC00000),
+    (0xFFFFFFFF, 0x7FC00000, 0x7FC00000, 0x7FC00000, 0x7FC00000),
+]
+ROUNDED_BUILTINS = (36, 37, 38, 43)
+
+
+class Rounding(unittest.TestCase):
+    """R-1: builtins 36 rint, 37 floor, 38 ceil and 43 fabs are done by the machine."""
+
+    def machine(self, number, argument=0, definitions=(), operand=28):
+        """Statement 0 is a Call of function 1, the builtin."""
+        functions = [function(-number, arguments=-1), function(0)]
+        cells = {28: 1, 4: argument, 1: 0x11, 2: 0x12, 3: 0x13}
+        return loaded(("Call1", operand), functions=functions, cells=cells, definitions=definitions)
+
+    def test_values(self):
+        for argument, *results in ROUNDED:
+            for number, expected in zip(ROUNDED_BUILTINS, results):
+                with self.subTest(number=number, argument=hex(argument)):
+                    machine = self.machine(number, argument)
+                    before = everything(machine)
+                    self.assertEqual(machine.statement(), ACCEPTED)
+                    self.assertEqual(hex(machine.cells[1]), hex(expected))
+                    machine.cells[1] = 0x11
+                    machine.state = replace(machine.state, position=0)  # it was 1 further
+                    self.assertEqual(everything(machine), before)
+
+    def test_the_run_goes_on(self):
+        statements = [("StoreF", 29, 4), ("Call3", 28), ("AddF", 1, 29, 30), ("Return", 30)]
+        machine = loaded(*statements, functions=[function(-36, arguments=-1), function(0)], cells={28: 1, 29: 0x3FC00000})
+        machine.enter(2)
+        self.assertEqual(machine.run(0, 2), Answer("spent", 0, 2))
+        self.assertEqual((machine.state.position, machine.cells[1]), (2, TWO))
+        self.assertEqual(machine.run(0, 9), Answer("ended", 0, 2))
+        self.assertEqual(machine.cells[1], 0x40600000)  # 2 + 1.5
+
+    def test_every_call(self):
+        for count in range(9):
+            machine = loaded((f"Call{count}", 28), functions=[function(-37)], cells={28: 1, 4: 0xBFC00000})
+            self.assertEqual(machine.statement(), ACCEPTED)
+            self.assertEqual(machine.cells[1], 0xC0000000)
+
+    def test_types(self):
+        for definitions, answer in (
+            ([(FLOAT, 4), (VECTOR, 1)], ACCEPTED),
+            ([(VECTOR, 4), (FLOAT | SAVE_FLAG, 1)], ACCEPTED),
+            ([(STRING, 4)], refused(16)),
+            ([(STRING, 1)], refused(16)),
+            ([(VOID, 4), (FLOAT, 4)], refused(16)),
+            ([(ENTITY, 1), (FLOAT, 1)], refused(16)),
+            ([(STRING, 5), (STRING, 2), (STRING, 3)], ACCEPTED),
+        ):
+            machine = self.machine(43, SIGN, definitions)
+            before = everything(machine)
+            self.assertEqual(machine.statement(), answer)
+            if answer != ACCEPTED:
+                self.assertEqual(machine.carry_on(), refused(27))
+                self.assertEqual(everything(machine), before)
+
+    def test_the_call_is_checked_first(self):
+        definitions = [(STRING, 4), (STRING, 1), (FLOAT, 29)]
+        self.assertEqual(self.machine(36, definitions=definitions, operand=64).statement(), refused(15))
+        self.assertEqual(self.machine(36, definitions=definitions, operand=29).statement(), refused(16))
+        machine = self.machine(36, definitions=definitions)
+        for value, refusal in ((0, 19), (3, 20), (1, 16)):
+            machine.write(28, value)
+            self.assertEqual(machine.statement(), refused(refusal))
+            self.assertEqual(machine.carry_on(), refused(27))
+        machine.file[machine.assembly.place(FUNCTIONS, 1)] = 256 - 39
+        self.assertEqual(machine.statement(), refused(5))
+
+    def test_not_handed_over_any_more(self):
+        for number in sorted(BUILTINS):
+            machine = self.machine(number)
+            over = number not in ROUNDED_BUILTINS
+            self.assertEqual(machine.carry_on(), ACCEPTED if over else refused(27))
+            machine.state = replace(machine.state, position=0)
+            self.assertEqual(machine.statement(), Answer("builtin", number) if over else ACCEPTED)
+
+    def test_host_entry(self):
+        for number in ROUNDED_BUILTINS:
+            machine = loaded(functions=[function(-number, arguments=-1), function(-number), function(-number, 63, 2)])
+            for entered, refusal in ((1, 24), (2, 21), (3, 15)):
+                self.assertEqual(machine.enter(entered), refused(refusal))
+
+    def test_depth_31(self):
+        machine = self.machine(37, 0x3F000000)
+        for _ in range(31):
+            self.assertEqual(machine.enter(2), ACCEPTED)
+        self.assertEqual(machine.statement(), ACCEPTED)
+        self.assertEqual((machine.state.position, machine.state.depth, machine.cells[1]), (1, 31, 0))
+
+
 C_SOURCE = r"""
+#include <math.h>
 #include <stdint.h>
 #include <stdio.h>
 #include <string.h>
@@ -244,8 +369,9 @@ int main(void) {
     unsigned a, b;
     while (scanf("%x %x", &a, &b) == 2) {
         float x = of(a), y = of(b);
-        printf("%x %x %x %x %d%d%d %x %x\n", to(x + y), to(x - y), to(x * y), to(x / y), x == y, x < y, x <= y,
-               to((float)(whole(x) & whole(y))), to((float)(whole(x) | whole(y))));
+        printf("%x %x %x %x %d%d%d %x %x %x %x %x %x\n", to(x + y), to(x - y), to(x * y), to(x / y), x == y, x < y,
+               x <= y, to((float)(whole(x) & whole(y))), to((float)(whole(x) | whole(y))), to(roundf(x)), to(floorf(x)),
+               to(ceilf(x)), to(fabsf(x)));
     }
     return 0;
 }
@@ -253,12 +379,12 @@ int main(void) {
 
 
 def chance_pairs(count):
-    """Pairs of patterns: any, of near exponents, small, whole, and the special ones."""
+    """Pairs of patterns: any, of near exponents, small, whole, about halves, and the special ones."""
     chance = Xorshift(123456789)
     special = [0, SIGN, 1, 0x007FFFFF, 0x00800000, 0x7F7FFFFF, INFINITY, QUIET_NAN, 0x7F800001, ONE, 0x3F7FFFFF]
     for index in range(count):
         x, y = chance.draw(), chance.draw()
-        kind = index % 6
+        kind = index % 7
         if kind == 1:
             y = (y & 0x807FFFFF) | (((x >> 23) + chance.below(60) - 30) % 256) << 23
         elif kind == 2:  # exponents that add up to about the subnormal range
@@ -270,6 +396,10 @@ def chance_pairs(count):
         elif kind == 5:
             x = chance.pick(special) | (x & SIGN)
             y = chance.pick(special) | (y & SIGN) if chance.below(2) else y
+        elif kind == 6:  # one step, or none, from a multiple of a half below 2**24
+            halves = chance.draw() >> 7 + chance.below(24)
+            half = struct.unpack("<I", struct.pack("<f", halves / 2.0))[0]
+            x = (max(half, 1) + chance.below(3) - 1) | (x & SIGN)
         yield x, y
 
 
@@ -283,7 +413,7 @@ class AgainstC(unittest.TestCase):
             with open(source, "w", encoding="ascii") as file:
                 file.write(C_SOURCE)
             flags = ["-O0", "-fno-fast-math", "-ffp-contract=off"]
-            subprocess.run(["gcc", *flags, "-o", program, source], check=True)
+            subprocess.run(["gcc", *flags, "-o", program, source, "-lm"], check=True)
             text = "".join(f"{x:x} {y:x}\n" for x, y in pairs)
             ran = subprocess.run([program], input=text, capture_output=True, text=True, check=True)
             lines = ran.stdout.splitlines()
@@ -292,6 +422,7 @@ class AgainstC(unittest.TestCase):
             got = [model.float_add(x, y), model.float_sub(x, y), model.float_mul(x, y), model.float_div(x, y)]
             flags = f"{model.float_eq(x, y):d}{model.float_lt(x, y):d}{model.float_le(x, y):d}"
             bits = [model.FLOAT_STATEMENTS[name](x, y) for name in ("BitAnd", "BitOr")]
+            bits += [model.INSIDE_BUILTINS[number](x) for number in ROUNDED_BUILTINS]
             mine = " ".join([*(f"{z:x}" for z in got), flags, *(f"{z:x}" for z in bits)])
             self.assertEqual(mine, line, f"{x:08x} {y:08x}")
 

@@ -159,6 +159,25 @@ def calling():
     return program(*statements, functions=functions, cells=cells, definitions=definitions, strings=bytes(320))
 
 
+def rounding():
+    """R-1's four builtins, called from two depths; then one whose cell 4 is of another type."""
+    statements = [
+        ("StoreF", 28, 4),  # 1
+        ("Call1", 40),
+        ("Call1", 41),
+        ("Call0", 44),  # enters function 2
+        ("Return", 1),
+        ("Call1", 42),  # 6: function 2
+        ("Call1", 43),
+        ("Return", 1),
+        ("Call1", 43),  # 9: function 3
+    ]
+    functions = [function(1), function(6, 4, 1), function(9)]
+    functions += [function(-number, arguments=-1) for number in (36, 37, 38, 43)]
+    cells = {28: flt(-2.5), 40: 4, 41: 5, 42: 6, 43: 7, 44: 2}
+    return program(*statements, functions=functions, cells=cells, definitions=[(FLOAT, 4), (FLOAT, 1)])
+
+
 def refusing():
     """The last statement of each function but one is refused or not there."""
     statements = [("AddF", 28, 29, 30), ("AddF", 28, -1, 30), ("StoreF", 28, 29, 1), ("Address", 1, 2, 3), ("Goto", -9)]
@@ -190,6 +209,13 @@ def trace_cases():
     t.records()
     t.enter(1)
     cut(t)
+    t.through()
+    t.note("R-1: the four builtins done inside")
+    t.new(rounding())
+    t.enter(1)
+    t.through()
+    t.byte(t.machine.state.lumps[2], STRING)  # cell 4
+    t.enter(3)
     t.through()
     t.note("refused statements, and positions where there is none")
     t.new(refusing())

@@ -10,10 +10,10 @@ use borrow.Author.Tests.{eqb-true, lt-ltb, ltb-true}
 use Rattle.definition.specs.Checks.{judge}
 use Rattle.definition.specs.File.{records}
 use Rattle.definition.specs.Cells.{Typing, cellOf, lookup, passes, cellAccess, access}
-use Rattle.definition.specs.Statements.{floatsEffect, vectorsEffect, vectorsToFloatEffect, vectorResult}
+use Rattle.definition.specs.Statements.{floatsEffect, vectorsEffect, vectorsToFloatEffect, vectorResult, roundingEffect}
 use Rattle.typed.specs.Typing.{typing}
 use Rattle.typed.specs.Checking.{first, threeRefusal, Reaches}
-use Rattle.typed.specs.Laws.{neither, judge-three, reach}
+use Rattle.typed.specs.Laws.{neither, judge-both, judge-three, reach}
 use Rattle.globals.proofs.Statements.{Is}
 
 module _ (g : Typing) (a b c : ℕ) (cells : List ℕ) where
@@ -30,6 +30,14 @@ module _ (g : Typing) (a b c : ℕ) (cells : List ℕ) where
       (set cells c (f (getD cells a 0) (getD cells (a + 1) 0) (getD cells (a + 2) 0) (getD cells b 0) (getD cells (b + 1) 0) (getD cells (b + 2) 0)))
   unfolding vectorsToFloatEffect
   vectors-to-float-is f = record { refusal-is = judge-three (access g 3 a) (access g 3 b) (access g 2 c); cells-are = refl }
+
+pub rounding-is : (g : Typing) (f : ℕ → ℕ) (cells : List ℕ)
+    → Is (roundingEffect f g cells) (first (judge (access g 2 4)) (judge (access g 2 1))) (set cells 1 (f (getD cells 4 0)))
+unfolding roundingEffect
+rounding-is g f cells = record { refusal-is = judge-both (access g 2 4) (access g 2 1); cells-are = refl }
+
+pub reach-both : (g : Typing) (t a u b : ℕ) → first (judge (access g t a)) (judge (access g u b)) ≡ 0 → (a < g .count) × (b < g .count)
+reach-both g t a u b e = let h = neither _ _ e in (reach g t a (h .0) .first-below, reach g u b (h .1) .first-below)
 
 pub reach-three : (g : Typing) (ta a tb b tc c : ℕ) → threeRefusal g ta a tb b tc c ≡ 0
     → Reaches ta a (g .count) × Reaches tb b (g .count) × Reaches tc c (g .count)

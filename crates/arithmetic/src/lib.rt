@@ -4,11 +4,13 @@ use functions::fetch;
 ghost use mathlib.Core.Path.{_≡_};
 ghost use Prim.Native.Nat.{_+_, _-_, _*_, _≤_, _<_};
 ghost use lib.ListN.{length, getD, set};
-ghost use Rattle.definition.specs.Cells.{float, cellOf};
-ghost use Rattle.definition.specs.Statements.{floatsEffect, vectorsEffect, vectorsToFloatEffect, component, vectorResult};
+ghost use Rattle.definition.specs.Cells.{float, cellOf, access};
+ghost use Rattle.definition.specs.Statements.{floatsEffect, vectorsEffect, vectorsToFloatEffect, component, vectorResult, roundingEffect};
 ghost use Rattle.floats.specs.Opcodes.{floatOp, componentOp, vectorsToFloatOp};
+ghost use Rattle.floats.specs.Rounding.{roundingOp};
 ghost use Rattle.typed.specs.Typing.{typing};
-ghost use Rattle.typed.specs.Checking.{threeRefusal, Reaches};
+ghost use Rattle.definition.specs.Checks.{judge};
+ghost use Rattle.typed.specs.Checking.{first, threeRefusal, Reaches};
 ghost use Rattle.globals.specs.Effects.{after, effectOn};
 
 // The commonest accesses: three cells, each as a float.
@@ -164,5 +166,33 @@ pub fn op_vectors_to_float(
         return Answer::Refused(refusal);
     }
     apply_vectors_to_float(cells, op, a, b, c);
+    Answer::Accepted
+}
+
+// The cells of a call's first argument and of its return value (GLOBAL_ADDR_ARG_0, GLOBAL_ADDR_RETURN).
+const ARGUMENT: usize = 4;
+
+const RETURN: usize = 1;
+
+fn check_rounding(defs: &[u8], count: usize) -> u8
+    ensures { λ r. ⌜ r ≡ first (judge (access (typing (now (defs .entry)) count) float 4)) (judge (access (typing (now (defs .entry)) count) float 1)) ⌝ }
+{
+    let r = typed::check_cell(defs, count, typed::FLOAT, ARGUMENT);
+    if r != 0 {
+        return r;
+    }
+    typed::check_cell(defs, count, typed::FLOAT, RETURN)
+}
+
+// builtin_r_int, builtin_floor, builtin_ceil, builtin_f_abs, by number (document 02, R-1).
+pub fn builtin_rounding(defs: &[u8], count: usize, cells: &mut [u32], n: u32) -> Answer
+    requires { ⌜ count ≤ length (now cells) ⌝ }
+    ensures { λ r. ⌜ after r (now (cells .exit)) ≡ effectOn (roundingEffect (roundingOp n) (typing (now (defs .entry)) count) (now (cells .entry))) (now (cells .entry)) ⌝ }
+{
+    let refusal = check_rounding(defs, count);
+    if refusal != 0 {
+        return Answer::Refused(refusal);
+    }
+    cells[RETURN] = floats::rounding::rounding(n, cells[ARGUMENT]);
     Answer::Accepted
 }

@@ -1,5 +1,6 @@
 // A state is the host's to make up: a number of it is changed, by the numbering of tests/model/README.md.
 use definition::FileRecord;
+use definition::GREATEST_DEPTH;
 use functions::fetch;
 use progs::ExecutionContext;
 
@@ -33,7 +34,7 @@ fn with_number(file: FileRecord, i: usize, v: usize) -> FileRecord {
 // Position and function of a frame, the lowest first.
 fn with_frame(context: ExecutionContext, i: usize, v: i64) -> ExecutionContext {
     let mut next = context;
-    let k = i / 2 % 31;
+    let k = i / 2 % GREATEST_DEPTH;
     let mut frame = next.frames[k];
     if i % 2 == 0 {
         frame.instr_id = v;

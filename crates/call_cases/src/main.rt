@@ -5,6 +5,8 @@ ghost use lib.ListN.{length};
 use calls::Done;
 use cases::answers;
 use cases::print;
+use definition::LONGEST_FILE;
+use definition::MOST_CELLS;
 use libc::STDIN_FILENO;
 use progs::ExecutionContext;
 use progs::load;
@@ -115,15 +117,20 @@ fn perform_lists(text: &[u8], file: &mut [u8], cells: &mut [u32], store: &mut [u
 }
 
 // The buffer as a slice: the prover would unfold a repeat of this length to find it.
-fn perform_all(text: &[u8], file: &mut [u8; 1048577], cells: &mut [u32], store: &mut [u32]) {
+fn perform_all(
+    text: &[u8],
+    file: &mut [u8; LONGEST_FILE + 1],
+    cells: &mut [u32],
+    store: &mut [u32],
+) {
     perform_lists(text, file, cells, store);
 }
 
 // A file has at most one byte more than a load accepts, and at most one cell more.
 fn main() {
     let mut text = [0u8; 262144];
-    let mut file = [0u8; 1048577];
-    let mut cells = [0u32; 32769];
+    let mut file = [0u8; LONGEST_FILE + 1];
+    let mut cells = [0u32; MOST_CELLS + 1];
     let mut store = [0u32; 2100];
     let n = io::read_full(STDIN_FILENO, &mut text);
     perform_all(&text[..n], &mut file, &mut cells, &mut store);

@@ -1,11 +1,12 @@
 -- FLOATS. Document 01: "Floats are IEEE 754 single, rounded once per operation; a NaN made by arithmetic is stored as 7fc00000. Comparisons give 1.0
 -- or 0.0." A cell holds the bits of a float; the arithmetic is the library's `lib.Ieee`, whose `toBits` writes a NaN as 7fc00000.
-use Prim.Native.Nat.{ℕ}
+use Prim.Native.Nat.{ℕ, _+_, _*_, _/_, _%_}
 use mathlib.Core.Bool.{Bool, true, false, not, _&&_, _||_, cond}
-use lib.Dec.{eqb}
+use mathlib.Core.Option.{Option, none, some}
+use lib.Dec.{leb, ltb, eqb}
 use lib.IntN.{ℤ}
 use lib.Ieee as Ieee
-use lib.Ieee.{Float, binary32}
+use lib.Ieee.{Float, nan, inf, fin, binary32}
 use lib.Bits.{bitAnd, bitOr}
 use mir.Syntax.{w32}
 use mir.Val.{toZ, ofZ}
@@ -122,3 +123,46 @@ neN a b = flag (not (eqb a b))
 
 abbrev pub notN : ℕ → ℕ
 notN a = flag (eqb a 0)
+
+-- ---- document 02, R-1: "Builtins 43, 37, 38 and 36 are now done by the machine": fabs, floor, ceil and rint
+
+-- whether a magnitude with a fraction goes up to the next whole number, and not down: by whether the number is negative, and whether the fraction is a
+-- half or more
+abbrev pub Rule : Type 0
+Rule = Bool → Bool → Bool
+
+-- The magnitude is the fraction n / d. "Under the other three a zero result takes the argument's sign and an infinity is unchanged. A NaN gives
+-- 7fc00000": the result has the argument's sign. A whole number that a float's magnitude goes to is a float's, so that `round` is exact.
+unfoldable pub rounded : Rule → Float → Float
+rounded goesUp nan = nan
+rounded goesUp (inf s) = inf s
+rounded goesUp (fin s m e) =
+    let n = m * Ieee.up e in
+    let d = Ieee.down e in
+    let up = ltb 0 (n % d) && goesUp s (leb d (n % d * 2)) in
+    Ieee.round binary32 s (n / d + cond up 1 0) 1
+
+-- down, so that the magnitude of a negative number goes up
+abbrev pub floorF : ℕ → ℕ
+floorF x = cell (rounded (λ negative half. negative) (value x))
+
+-- up
+abbrev pub ceilF : ℕ → ℕ
+ceilF x = cell (rounded (λ negative half. not negative) (value x))
+
+-- "Rint goes to the nearest whole number, halves away from zero"
+abbrev pub rintF : ℕ → ℕ
+rintF x = cell (rounded (λ negative half. half) (value x))
+
+-- "Fabs clears the sign"
+unfoldable pub absolute : Float → Float
+absolute nan = nan
+absolute (inf s) = inf false
+absolute (fin s m e) = fin false m e
+
+abbrev pub fabsF : ℕ → ℕ
+fabsF x = cell (absolute (value x))
+
+-- by the builtin's number
+unfoldable pub roundingOf : ℕ → Option (ℕ → ℕ)
+roundingOf n = cond (eqb n 43) (some fabsF) (cond (eqb n 37) (some floorF) (cond (eqb n 38) (some ceilF) (cond (eqb n 36) (some rintF) none)))

@@ -1,4 +1,4 @@
--- The definition of document 01, then demand 3 on it. Read in this order.
+-- The definition of document 01 with the changes of 02, then demand 3 on it. Read in this order.
 pub mod Checks
 pub mod File
 pub mod Floats
@@ -9,6 +9,7 @@ pub mod Load
 pub mod Operations
 pub mod Answers
 pub mod Starred
+pub mod Rounding
 pub mod Calls
 pub mod Log
 pub mod Trace

@@ -14,6 +14,7 @@ use Rattle.definition.specs.declared.FunctionDef.{FunctionDef}
 use Rattle.definition.specs.declared.FileRecord.{FileRecord}
 use Rattle.definition.specs.declared.StackFrame.{StackFrame}
 use Rattle.definition.specs.Checks.{judge, Checked, refused, accepted, guard}
+use Rattle.definition.specs.Floats.{roundingOf}
 use Rattle.definition.specs.File.{byteAt, u16At, u32At, fileOf, lumpsFit, records, Contents, contentsAt, builtinNumber, noFunction}
 use Rattle.definition.specs.Cells.{float, entity, lookup, scalar, passes, signed, cellOf, cellAccess, vectorAccess, access, readAccess}
 use Rattle.definition.specs.Statements.{shapeOf, floatsEffect, vectorResult, vectorsEffect, vectorsToFloatEffect, negatesVEffect, storesEffect, storesVEffect, branchesDo, callOf, callDoes}
@@ -93,7 +94,7 @@ storeF = op 31
 abbrev storeV : ℕ → ℕ → ℕ → Statement
 storeV = op 32
 
-abbrev return : ℕ → ℕ → ℕ → Statement
+abbrev pub return : ℕ → ℕ → ℕ → Statement
 return = op 43
 
 abbrev notV : ℕ → ℕ → ℕ → Statement
@@ -102,7 +103,7 @@ notV = op 45
 abbrev if : ℕ → ℕ → ℕ → Statement
 if = op 49
 
-abbrev call : ℕ → ℕ → ℕ → Statement
+abbrev pub call : ℕ → ℕ → ℕ → Statement
 call = op 51
 
 abbrev goto : ℕ → ℕ → ℕ → Statement
@@ -115,7 +116,7 @@ abbrev bitOr : ℕ → ℕ → ℕ → Statement
 bitOr = op 65
 
 -- first statement, first local cell, local count, argument count, argument sizes
-abbrev fn : ℕ → ℕ → ℕ → ℕ → List ℕ → FunctionDef
+abbrev pub fn : ℕ → ℕ → ℕ → ℕ → List ℕ → FunctionDef
 fn first start locals argc sizes =
     record { first = first; start = start; locals = locals; name = 0; srcfile = 0; argc = argc; argsz = take 8 (sizes ++ replicate 8 0) }
 
@@ -123,14 +124,14 @@ fn first start locals argc sizes =
 abbrev named : ℕ → ℕ → ℕ → FunctionDef
 named first name srcfile = record { first = first; start = 0; locals = 0; name = name; srcfile = srcfile; argc = 0; argsz = replicate 8 0 }
 
-abbrev define : ℕ → ℕ → Definition
+abbrev pub define : ℕ → ℕ → Definition
 define kind cell = record { kind = kind; offset = cell; name = 0 }
 
 abbrev defineNamed : ℕ → ℕ → Definition
 defineNamed kind name = record { kind = kind; offset = 28; name = name }
 
 -- from statement 1 and function 1 on; statement 0 is Done 0 0 0, function 0 is all 0
-abbrev typedProgram : List Definition → List Statement → List FunctionDef → List ℕ → Contents
+abbrev pub typedProgram : List Definition → List Statement → List FunctionDef → List ℕ → Contents
 typedProgram definitions statements functions cells =
     record {
       statements = op 0 0 0 0 ∷ statements;
@@ -142,7 +143,7 @@ typedProgram definitions statements functions cells =
       entityfields = 105;
     }
 
-abbrev program : List Statement → List FunctionDef → List ℕ → Contents
+abbrev pub program : List Statement → List FunctionDef → List ℕ → Contents
 program = typedProgram []
 
 abbrev numbers : ℕ → ℕ → List ℕ
@@ -163,17 +164,17 @@ holding functions statements globaldefs fielddefs cells entityfields =
     }
 
 -- 64 cells, each with its own number in it
-abbrev numbered : List ℕ
+abbrev pub numbered : List ℕ
 numbered = numbers 64 0
 
 -- the numbered cells, but these from cell a on
-abbrev cellsWith : ℕ → List ℕ → List ℕ
+abbrev pub cellsWith : ℕ → List ℕ → List ℕ
 cellsWith a [] = numbered
 cellsWith a (x ∷ xs) = set (cellsWith (a + 1) xs) a x
 
 -- ---- what is seen: numbers, or the number of the refusal at which it ends
 
-abbrev Seen : Type 0
+abbrev pub Seen : Type 0
 Seen = Checked (List ℕ)
 
 abbrev andThen : {A B : Type 0} → Checked A → (A → Checked B) → Checked B
@@ -198,15 +199,15 @@ mapped f (x ∷ xs) = f x ∷ mapped f xs
 
 -- ---- scenarios: what is seen from a configuration on
 
-abbrev Scenario : Type 0
+abbrev pub Scenario : Type 0
 Scenario = Program → Config → Seen
 
 infixr 5 _and_
-abbrev _and_ : Scenario → Scenario → Scenario
+abbrev pub _and_ : Scenario → Scenario → Scenario
 _and_ first second P c = andThen (first P c) (λ xs. also xs (second P c))
 
 -- position, function, depth, saved
-abbrev state : Scenario
+abbrev pub state : Scenario
 state P c = accepted (position (c .state .pc) ++ (c .state .function ∷ c .state .depth ∷ c .state .saved ∷ []))
 
 -- the function and the position of a frame
@@ -222,14 +223,14 @@ abbrev store : ℕ → Scenario
 store n P c = accepted (take n (c .saved))
 
 -- n cells from a on
-abbrev cells : ℕ → ℕ → Scenario
+abbrev pub cells : ℕ → ℕ → Scenario
 cells zero a P c = accepted []
 cells (suc n) a P c = andThen (rawRead P (pos a) c) (λ x. also (x ∷ []) (cells n (a + 1) P c))
 
-abbrev write : ℕ → ℕ → Scenario → Scenario
+abbrev pub write : ℕ → ℕ → Scenario → Scenario
 write a x rest P c = andThen (rawWrite P (pos a) x c) (rest P)
 
-abbrev enter : ℕ → Scenario → Scenario
+abbrev pub enter : ℕ → Scenario → Scenario
 enter f rest P c = andThen (hostEnter P (pos f) c) (rest P)
 
 abbrev enterTimes : ℕ → ℕ → Scenario → Scenario
@@ -237,7 +238,7 @@ enterTimes zero f rest = rest
 enterTimes (suc n) f rest = enter f (enterTimes n f rest)
 
 -- an entry that may be refused: its number, 0 where there is none, and what is seen after it
-abbrev tryToEnter : ℕ → Scenario → Scenario
+abbrev pub tryToEnter : ℕ → Scenario → Scenario
 tryToEnter f rest P c =
     let o = outcome c (hostEnter P (pos f) c) in
     also (refusalNumber (o .answer) ∷ []) (rest P (o .config))
@@ -248,7 +249,7 @@ completion (completed c) = accepted c
 completion (refusedStep n) = refused n
 completion (handedStep h) = refused 0
 
-abbrev complete : Scenario → Scenario
+abbrev pub complete : Scenario → Scenario
 complete rest P c = andThen (completion (statement P c)) (rest P)
 
 -- a run: the letters of the outcome, the detail, the statements, and what is seen after it
@@ -258,14 +259,14 @@ runSaying target limit rest P c =
     also (letters (outcomeWord (r .answer)) ++ (outcomeDetail (r .answer) ∷ r .count ∷ [])) (rest P (r .config))
 
 -- to depth 0 with limit 99,999
-abbrev runToEnd : Scenario → Scenario
+abbrev pub runToEnd : Scenario → Scenario
 runToEnd = runSaying (pos 0) (pos 99999)
 
 -- a run: its detail and its statements, and what is seen after it
-abbrev runBy : ℤ → ℤ → Scenario → Scenario
+abbrev pub runBy : ℤ → ℤ → Scenario → Scenario
 runBy target limit rest P c = let r = run P target limit c in also (outcomeDetail (r .answer) ∷ r .count ∷ []) (rest P (r .config))
 
-abbrev carry : Scenario → Scenario
+abbrev pub carry : Scenario → Scenario
 carry rest P c = andThen (carryOn P c) (rest P)
 
 abbrev abandonTo : ℤ → Scenario → Scenario
@@ -315,7 +316,7 @@ fromThen file then scenario =
     andThen (load file (replicate (fileOf file .globals .count + 2) 0xffffffff) (replicate 2048 0xeeeeeeee)) (scenario P)
 
 -- of the file with these contents
-abbrev from : Contents → Scenario → Seen
+abbrev pub from : Contents → Scenario → Seen
 from k = let file = assembled k in fromThen file file
 
 -- a load of these bytes, which is lent so many cells and a saved store of so many
@@ -325,7 +326,7 @@ loading file cells saved = andThen (load file (replicate cells 0) (replicate sav
 -- ---- what several rows share
 
 -- a function with no locals and no arguments, at statement 1
-abbrev plain : FunctionDef
+abbrev pub plain : FunctionDef
 plain = fn 1 0 0 0 []
 
 -- statement 1, in function 1, with these cells from 28 on
@@ -370,13 +371,13 @@ reentered rest =
     (cellsWith 40 (2 ∷ 2 ∷ 3 ∷ [])))
     (enter 1 rest)
 
--- a Call of the builtin 36
-abbrev builtin36 : Contents
-builtin36 = program (call 40 0 0 ∷ []) (plain ∷ fn 0xffffffdc 0 0 0 [] ∷ []) (set numbered 40 2)
+-- a Call of the builtin 35
+abbrev builtin35 : Contents
+builtin35 = program (call 40 0 0 ∷ []) (plain ∷ fn 0xffffffdd 0 0 0 [] ∷ []) (set numbered 40 2)
 
 -- of which the bytes say, after the load, that it is the builtin 5
 abbrev builtin5 : Scenario → Seen
-builtin5 rest = fromThen (assembled builtin36) (assembled (program (call 40 0 0 ∷ []) (plain ∷ fn 0xfffffffb 0 0 0 [] ∷ []) (set numbered 40 2))) (enter 1 rest)
+builtin5 rest = fromThen (assembled builtin35) (assembled (program (call 40 0 0 ∷ []) (plain ∷ fn 0xfffffffb 0 0 0 [] ∷ []) (set numbered 40 2))) (enter 1 rest)
 
 -- in function 1 is statement 1, of which the bytes say, after the load, that its opcode is 66
 abbrev opcode66 : Scenario → Seen
@@ -436,7 +437,7 @@ sameNumbers [] (y ∷ ys) = false
 sameNumbers (x ∷ xs) [] = false
 sameNumbers (x ∷ xs) (y ∷ ys) = eqb x y && sameNumbers xs ys
 
-abbrev same : Seen → Seen → Bool
+abbrev pub same : Seen → Seen → Bool
 same (refused m) (refused n) = eqb m n
 same (refused m) (accepted ys) = false
 same (accepted xs) (refused n) = false
@@ -619,8 +620,8 @@ calls =
 abbrev runs : List Row
 runs =
     row "a builtin is then handed over"
-    (from builtin36 (enter 1 (runToEnd (carry state))))
-    (accepted (98 ∷ 117 ∷ 105 ∷ 108 ∷ 116 ∷ 105 ∷ 110 ∷ 36 ∷ 0 ∷ 2 ∷ 1 ∷ 1 ∷ 0 ∷ []))
+    (from builtin35 (enter 1 (runToEnd (carry state))))
+    (accepted (98 ∷ 117 ∷ 105 ∷ 108 ∷ 116 ∷ 105 ∷ 110 ∷ 35 ∷ 0 ∷ 2 ∷ 1 ∷ 1 ∷ 0 ∷ []))
     ∷ row "The position stays there until the host carries on by one"
     (from (program (op 60 0 0 0 ∷ []) (plain ∷ []) numbered) (enter 1 (runToEnd (state and carry state))))
     (accepted (111 ∷ 112 ∷ 99 ∷ 111 ∷ 100 ∷ 101 ∷ 60 ∷ 0 ∷ 1 ∷ 1 ∷ 1 ∷ 0 ∷ 2 ∷ 1 ∷ 1 ∷ 0 ∷ []))
@@ -630,7 +631,7 @@ runs =
     ∷ row "27: a Call that would be entered" (nested (carry state)) (refused 27)
     ∷ row "27: a Call that would be refused" (from (program (call 0 0 0 ∷ []) (plain ∷ []) numbered) (enter 1 (carry state))) (refused 27)
     ∷ row "27: with the cells as they now are"
-    (from builtin36 (enter 1 (runBy (pos 0) (pos 9) (write 40 1 (carry state)))))
+    (from builtin35 (enter 1 (runBy (pos 0) (pos 9) (write 40 1 (carry state)))))
     (refused 27)
     ∷ row "carry on: 14, above the statements" (entering plain (carry state)) (refused 14)
     ∷ row "carry on: 14, below 0" (after (goto 0xfff0 0 0) [] (carry state)) (refused 14)
@@ -668,12 +669,12 @@ abbrev pub rows : List Row
 rows = others ++ loads ++ checks ++ runs ++ operands ++ calls ++ situations
 
 -- all that a row computes with
-unfoldable computing : Unit {0}
+unfoldable pub computing : Unit {0}
 unfolding judge guard
     byteAt u16At u32At fileOf lumpsFit records contentsAt builtinNumber
     Ieee.ofBits Ieee.toBits Ieee.add Ieee.mul Ieee.div Ieee.eq Ieee.toSigned Ieee.ofInt
     lookup scalar passes signed cellOf cellAccess vectorAccess access readAccess
-    shapeOf floatsEffect vectorResult vectorsEffect vectorsToFloatEffect negatesVEffect storesEffect storesVEffect branchesDo callOf callDoes fetchConditions execute doesAt
+    shapeOf floatsEffect vectorResult vectorsEffect vectorsToFloatEffect negatesVEffect storesEffect storesVEffect branchesDo roundingOf callOf callDoes fetchConditions execute doesAt
     limits present copied successive arguments copiesPresent entryConditions entered leaveConditions left stepAs step runFor
     each headerConditions recordConditions cellConditions loaded load sameFile recordedIn programAt
     frameFunctions enteredFunctions allPresent localsOf sound hostEnter statement runConditions run carryOnConditions carryOn leftTimes leavingsConditions abandonConditions abandon rawRead rawWrite

@@ -4,6 +4,7 @@ use Prim.Native.Nat.{ℕ, zero, suc, _+_, _<_}
 use mathlib.Core.Path.{_≡_, refl, sym, _∙_, ap, subst}
 use mathlib.Core.List.{List, [], _∷_, _++_}
 use mathlib.Core.Bool.{Bool, true, false, not, _&&_, _||_, Bool·beq, cond}
+use mathlib.Core.Option.{Option, none, some}
 use native.Mathlib.Omega.{arith}
 use native.Mathlib.Nat.{add-zero, zero-add, add-suc, suc-add, le-of-suc-le-suc, not-suc-le-zero}
 use borrow.Author.Tests.{ltb-true}
@@ -16,12 +17,12 @@ use Rattle.definition.specs.declared.FunctionDef.{FunctionDef}
 use Rattle.definition.specs.declared.Handover.the-variants.{Builtin, Opcode}
 use Rattle.definition.specs.Checks.{Condition, Conditions, judge}
 use Rattle.definition.specs.File.{opcodeCount, Contents, contentsOf, fileOf, noFunction, negative, between, isBuiltin, builtinOf, builtinKnown}
-use Rattle.definition.specs.Floats.{flag, notV, isZero}
+use Rattle.definition.specs.Floats.{flag, notV, isZero, roundingOf}
 use Rattle.definition.specs.Cells.{float, vector, string, function, cellOf, signed, Typing, typingOf, typeIs, addressed, cellAccess, vectorAccess, access, mustBeNatural, readAccess}
 use Rattle.definition.specs.Statements.{Does, next, calls, returns, refuses, handsOver, orRefused, provided, moved}
 use Rattle.definition.specs.Statements.{Shape, floats, values, vectors, vectorsToFloat, strings, negates, negatesV, negatesS, stores, storesV, branches, jumps, call, return, host, opcodes, shapeOf}
 use Rattle.definition.specs.Statements.{floatsEffect, valuesEffect, vectorResult, vectorsEffect, vectorsToFloatEffect, operandGiven, stringAccess, stringResult, stringsEffect, unused, negatesEffect, negatesVEffect, negatesSEffect}
-use Rattle.definition.specs.Statements.{storedNatural, storesEffect, reservedCell, moveAccess, storesVEffect, branchesDo, callOf, callDoes, statementAt, fetchConditions, executeAs, execute, doesAt}
+use Rattle.definition.specs.Statements.{storedNatural, storesEffect, reservedCell, moveAccess, storesVEffect, branchesDo, roundingEffect, builtinDoes, callOf, callDoes, statementAt, fetchConditions, executeAs, execute, doesAt}
 use Rattle.definition.specs.Machine.{Program}
 use Rattle.definition.specs.Load.{programAt, programOf}
 use Rattle.definition.specs.Log.{functionIn, Kind, entry, leaving, other, statementKind}
@@ -161,15 +162,28 @@ provided-has-kind count p cells κ cs d is = go (judge cs) refl
 -- what the log makes of a call of the function in a cell
 record Called (functions : List FunctionDef) (p : ℤ) (f : ℕ) (κ : Kind) : Type 0 where
   enters : isBuiltin (getD functions f noFunction) ≡ false → κ ≡ entry f (p +ℤ pos 1)
+  enters-none : isBuiltin (getD functions f noFunction) ≡ true → κ ≡ other
 
-call-has-kind : (functions : List FunctionDef) (count : ℕ) (p : ℤ) (cells : List ℕ) (f : ℕ) (κ : Kind) → Called functions p f κ → HasKind count p cells κ (callOf functions f)
-unfolding callOf
-call-has-kind functions count p cells f κ called = provided-has-kind count p cells κ _ _ λ h. go (isBuiltin (getD functions f noFunction)) refl
-  where
-    go : (b : Bool) → isBuiltin (getD functions f noFunction) ≡ b
-        → HasKind count p cells κ (cond b (handsOver (Builtin (builtinOf (getD functions f noFunction)))) (calls f))
-    go true e = tt
-    go false e = called .enters e
+module _ (g : Typing) (p : ℤ) (cells : List ℕ) (κ : Kind) where
+  builtin-has-kind : (rounding : Option (ℕ → ℕ)) (n : ℕ) → κ ≡ other → HasKind (g .count) p cells κ (builtinDoes rounding n g p cells)
+  unfolding roundingEffect
+  builtin-has-kind (some f) n e = provided-has-kind (g .count) p cells κ _ _ λ h. (
+    e,
+    keeps-one (g .count) cells 1 _ (access-below g float 1 (all-back (access g float 4) _ h)),
+  )
+  builtin-has-kind none n e = tt
+
+  call-has-kind : (functions : List FunctionDef) (f : ℕ) → Called functions p f κ → HasKind (g .count) p cells κ (callOf functions g p f cells)
+  unfolding callOf
+  call-has-kind functions f called = provided-has-kind (g .count) p cells κ _ _ λ h. go (isBuiltin (getD functions f noFunction)) refl
+    where
+      n : ℕ
+      n = builtinOf (getD functions f noFunction)
+
+      go : (b : Bool) → isBuiltin (getD functions f noFunction) ≡ b
+          → HasKind (g .count) p cells κ (cond b (builtinDoes (roundingOf n) n g p cells) (calls f))
+      go true e = builtin-has-kind (roundingOf n) n (called .enters-none e)
+      go false e = called .enters e
 
 module _ (k : Contents) (p : ℤ) (st : Statement) (cells : List ℕ) (κ : Kind) (a b c : ℕ) where
   abbrev count : ℕ
@@ -179,7 +193,7 @@ module _ (k : Contents) (p : ℤ) (st : Statement) (cells : List ℕ) (κ : Kind
   record Expected (s : Shape) : Type 0 where
     as-other : isCall s ≡ false → isReturn s ≡ false → κ ≡ other
     as-leaving : isCall s ≡ false → isReturn s ≡ true → κ ≡ leaving
-    as-call : isCall s ≡ true → Called (k .functions) p (getD cells a 0) κ
+    as-call : isCall s ≡ true → isReturn s ≡ false → Called (k .functions) p (getD cells a 0) κ
 
   executed : (s : Shape) → Expected s → HasKind count p cells κ (executeAs s k (typingOf k) p st a b c cells)
   unfolding floatsEffect valuesEffect vectorsEffect vectorResult vectorsToFloatEffect stringsEffect negatesEffect negatesVEffect negatesSEffect storesEffect storesVEffect branchesDo callDoes
@@ -230,7 +244,7 @@ module _ (k : Contents) (p : ℤ) (st : Statement) (cells : List ℕ) (κ : Kind
       )
   executed (branches when) e = provided-has-kind count p cells κ _ _ λ h. (e .as-other refl refl, keeps-all count cells)
   executed jumps e = (e .as-other refl refl, keeps-all count cells)
-  executed call e = provided-has-kind count p cells κ _ _ λ h. call-has-kind (k .functions) count p cells (getD cells a 0) κ (e .as-call refl)
+  executed call e = provided-has-kind count p cells κ _ _ λ h. call-has-kind (typingOf k) p cells κ (k .functions) (getD cells a 0) (e .as-call refl refl)
   executed return e = e .as-leaving refl refl
   executed host e = tt
 
@@ -247,7 +261,10 @@ kind-of file p cells s n =
     record {
       as-other = λ c r. rw (sym (n .as-call) ∙ c, sym (n .as-return) ∙ r);
       as-leaving = λ c r. rw (sym (n .as-call) ∙ c, sym (n .as-return) ∙ r);
-      as-call = λ c. record { enters = λ b. rw (sym (n .as-call) ∙ c, b) };
+      as-call = λ c r. record {
+        enters = λ b. rw (sym (n .as-call) ∙ c, b);
+        enters-none = λ b. rw (sym (n .as-call) ∙ c, b, sym (n .as-return) ∙ r);
+      };
     }
 
 pub statement-has-kind : (file : List ℕ) (p : ℤ) (cells : List ℕ)

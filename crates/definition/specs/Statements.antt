@@ -2,6 +2,7 @@
 use Prim.Native.Nat.{ℕ, zero, suc, _+_, _*_}
 use mathlib.Core.List.{List, [], _∷_, _++_}
 use mathlib.Core.Bool.{Bool, true, false, not, _&&_, _||_, Bool·beq, cond}
+use mathlib.Core.Option.{Option, none, some}
 use lib.ListN.{length, getD, set}
 use lib.Dec.{leb, ltb, eqb}
 use lib.IntN.{ℤ, pos, negsuc, _+ℤ_}
@@ -12,7 +13,7 @@ use Rattle.definition.specs.declared.Handover.the-variants.{Builtin, Opc
 use Rattle.definition.specs.Checks.{Condition, Conditions, _otherwise_, judge}
 use Rattle.definition.specs.File.{opcodeCount, Contents, noFunction, isBuiltin, builtinOf, builtinKnown}
 use Rattle.definition.specs.Floats.{addF, subF, mulF, divF, eqF, neF, leF, geF, ltF, gtF, andF, orF, notF, bitAndF, bitOrF, isZero, flag}
-use Rattle.definition.specs.Floats.{mulV, eqV, neV, notV, eqN, neN, notN}
+use Rattle.definition.specs.Floats.{mulV, eqV, neV, notV, eqN, neN, notN, roundingOf}
 use Rattle.definition.specs.Cells.{string, float, vector, entity, field, function, cellOf, signed, Typing, typingOf}
 use Rattle.definition.specs.Cells.{addressed, cellAccess, access, mustBeNatural, readAccess}
 
@@ -225,16 +226,29 @@ unfoldable pub branchesDo : Bool → Typing → ℤ → ℕ → ℤ → List ℕ
 branchesDo when g p a by cells =
     provided (access g float a) (next (p +ℤ cond (Bool·beq (isZero (getD cells a 0)) when) by (pos 1)) cells)
 
--- "19: function 0; 20: no such function; 5 again; a builtin is then handed over"
-unfoldable pub callOf : List FunctionDef → ℕ → Does
-callOf functions f =
+-- R-1: "float in cell 4, result in cell 1, both typed": the cells of the first argument and of the return value
+unfoldable pub roundingEffect : (ℕ → ℕ) → Typing → List ℕ → Effect
+roundingEffect f g cells =
+    record {
+      conditions = access g float 4 ++ access g float 1;
+      cells = set cells 1 (f (getD cells 4 0));
+    }
+
+-- "a builtin is then handed over"; R-1: "these four are no longer handed over", "Each counts as one completed statement"
+abbrev pub builtinDoes : Option (ℕ → ℕ) → ℕ → Typing → ℤ → List ℕ → Does
+builtinDoes (some f) n g p cells = effectDoes p (roundingEffect f g cells)
+builtinDoes none n g p cells = handsOver (Builtin n)
+
+-- "19: function 0; 20: no such function; 5 again"
+unfoldable pub callOf : List FunctionDef → Typing → ℤ → ℕ → List ℕ → Does
+callOf functions g p f cells =
     let d = getD functions f noFunction in
     provided
     ((not (eqb f 0) otherwise 19) ∷ (ltb f (length functions) otherwise 20) ∷ (builtinKnown d otherwise 5) ∷ [])
-    (cond (isBuiltin d) (handsOver (Builtin (builtinOf d))) (calls f))
+    (cond (isBuiltin d) (builtinDoes (roundingOf (builtinOf d)) (builtinOf d) g p cells) (calls f))
 
-unfoldable pub callDoes : List FunctionDef → Typing → ℕ → List ℕ → Does
-callDoes functions g a cells = provided (access g function a) (callOf functions (getD cells a 0))
+unfoldable pub callDoes : List FunctionDef → Typing → ℤ → ℕ → List ℕ → Does
+callDoes functions g p a cells = provided (access g function a) (callOf functions g p (getD cells a 0) cells)
 
 -- ---- fetch and execution
 
@@ -270,7 +284,7 @@ executeAs (stores t) k g p st a b c cells = effectDoes p (storesEffect t g a b c
 executeAs storesV k g p st a b c cells = effectDoes p (storesVEffect g a b c cells)
 executeAs (branches when) k g p st a b c cells = branchesDo when g p a (signed (st .arg2)) cells
 executeAs jumps k g p st a b c cells = next (p +ℤ signed (st .arg1)) cells
-executeAs call k g p st a b c cells = callDoes (k .functions) g a cells
+executeAs call k g p st a b c cells = callDoes (k .functions) g p a cells
 executeAs return k g p st a b c cells = returns a
 executeAs host k g p st a b c cells = handsOver (Opcode (st .opcode))
 

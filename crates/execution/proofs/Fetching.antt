@@ -20,14 +20,16 @@ use Rattle.definition.specs.Operations.{isHandedOver}
 use Rattle.functions.specs.declared.fetch.Fetched.the-variants.{At, Refused}
 use Rattle.functions.specs.Answers.{fetched}
 use Rattle.functions.specs.Laws.{FetchedAt, fetch-accepts, fetch-refuses}
+use Rattle.execution.specs.declared.Callee.{Callee}
+use Rattle.execution.specs.declared.Callee.the-variants as callee
 use Rattle.execution.specs.declared.Executed.{Executed}
 use Rattle.execution.specs.declared.Executed.the-variants as does
 use Rattle.execution.specs.declared.shapes.CellOp.{CellOp}
 use Rattle.execution.specs.declared.shapes.Shape as code
 use Rattle.execution.specs.declared.shapes.Shape.the-variants.{Cells, Branch, Goto, Call, Return, Host}
 use Rattle.execution.specs.Shapes.{isFloats, shapeAs, effectAs}
-use Rattle.execution.specs.Execution.{statement, executeWith, doesOf, executed, execution, on-parts}
-use Rattle.execution.proofs.Transfers.{does-is, effect-does, floats-does}
+use Rattle.execution.specs.Execution.{statement, executeWith, calleeDoes, executed, execution, on-parts}
+use Rattle.execution.proofs.Transfers.{does-is, effect-does, floats-does, call-is}
 
 module _ (k : Contents) (p : ℤ) (cells : List ℕ) where
   refused-as : (n m : ℕ) (d : Does) → n ≡ m → 0 < n → executed (does.Refused n) cells ≡ execution (orRefused m d) cells
@@ -85,15 +87,20 @@ module _ (fs : List FunctionDef) (g : Typing) (p : ℤ) (op x y z : ℕ) (cells 
   pub host-handed : shape ≡ Host → goal true
   host-handed t = ap isHandedOver (does-is fs g p op x y z cells shape Host t is)
 
-  pub call-handed : shape ≡ Call → (a : ℕ) → a ≡ cellOf x → (b : Bool) (r : Executed) → b ≡ isHandedOver (doesOf r cells) → doesOf r cells ≡ callDoes fs g a cells → goal b
-  call-handed t a e b r h k = h ∙ ap isHandedOver (k ∙ (rw e) ∙ does-is fs g p op x y z cells shape Call t is)
+  pub call-handed : shape ≡ Call → (a : ℕ) → a ≡ cellOf x → (b : Bool) (c : Callee) → b ≡ isHandedOver (calleeDoes c g p cells)
+      → calleeDoes c g p cells ≡ callDoes fs g p a cells → goal b
+  call-handed t a e b c h k = h ∙ ap isHandedOver (call-is fs g p op x y z cells shape t is a e c k)
 
 pub floats-not-handed : (fs : List FunctionDef) (g : Typing) (p : ℤ) (op x y z : ℕ) (cells : List ℕ) → isFloats (shapeOf op) ≡ true
     → false ≡ isHandedOver (executeWith fs g p (statement op x y z) cells)
 floats-not-handed fs g p op x y z cells is = sym (not-handed _ _ refl) ∙ ap isHandedOver (floats-does fs g p op x y z cells is)
 
-pub handed-known : (done known : Executed) (b : Bool) → done ≡ known → ((cells : List ℕ) → b ≡ isHandedOver (doesOf known cells)) → (cells : List ℕ) → b ≡ isHandedOver (doesOf done cells)
-handed-known done known b e h cells = h cells ∙ ap (λ (d : Executed). isHandedOver (doesOf d cells)) (sym e)
+pub handed-known : (c known : Callee) (b : Bool) → c ≡ known → ((g : Typing) (p : ℤ) (cells : List ℕ) → b ≡ isHandedOver (calleeDoes known g p cells))
+    → (g : Typing) (p : ℤ) (cells : List ℕ) → b ≡ isHandedOver (calleeDoes c g p cells)
+handed-known c known b e h g p cells = h g p cells ∙ ap (λ (d : Callee). isHandedOver (calleeDoes d g p cells)) (sym e)
+
+pub rounding-not-handed : (n : ℕ) (g : Typing) (p : ℤ) (cells : List ℕ) → false ≡ isHandedOver (calleeDoes (callee.Rounding n) g p cells)
+rounding-not-handed n g p cells = sym (not-handed _ _ refl)
 
 pub handed-here : (r : FileRecord) (file : List ℕ) → AllFit (length file) r → (defs functions : List ℕ) → defs ≡ partOf 8 (r .globaldefs) file → functions ≡ partOf 36 (r .functions) file
     → (p : ℤ) (st : Statement) (cells : List ℕ) (b : Bool)

@@ -15,10 +15,14 @@ use Rattle.functions.specs.Laws.{AllFit}
 use Rattle.functions.specs.Parts.{partOf, functionsIn}
 use Rattle.functions.specs.PartLaws.{part-globaldefs, part-functions}
 use Rattle.typed.specs.Typing.{typing}
+use Rattle.definition.specs.declared.Handover.the-variants.{Builtin}
 use Rattle.definition.specs.Cells.{cellOf, Typing, typingOf}
-use Rattle.definition.specs.Statements.{Does, next, calls, returns, refuses, handsOver}
+use Rattle.definition.specs.Statements.{Does, next, calls, returns, refuses, handsOver, effectDoes, roundingEffect}
 use Rattle.definition.specs.Statements.{Shape, floats, values, vectors, vectorsToFloat, strings, negates, negatesV, negatesS, stores, storesV, branches, jumps, call, return, host, shapeOf}
 use Rattle.definition.specs.Statements.{executeAs, execute}
+use Rattle.floats.specs.Rounding.{roundingOp}
+use Rattle.execution.specs.declared.Callee.{Callee}
+use Rattle.execution.specs.declared.Callee.the-variants as callee
 use Rattle.execution.specs.declared.Executed.{Executed}
 use Rattle.execution.specs.declared.Executed.the-variants.{Next, Calls, Returns, Refused, HandedOver}
 
@@ -85,6 +89,13 @@ doesOf (Calls f) cells = calls f
 doesOf (Returns a) cells = returns a
 doesOf (Refused n) cells = refuses n
 doesOf (HandedOver h) cells = handsOver h
+
+-- what a Call does, by what it calls
+abbrev pub calleeDoes : Callee → Typing → ℤ → List ℕ → Does
+calleeDoes (callee.Function f) g p cells = calls f
+calleeDoes (callee.Rounding n) g p cells = effectDoes p (roundingEffect (roundingOp n) g cells)
+calleeDoes (callee.Host n) g p cells = handsOver (Builtin n)
+calleeDoes (callee.Refused n) g p cells = refuses n
 
 abbrev pub cellsAfter : Does → List ℕ → List ℕ
 cellsAfter (next p cells′) cells = cells′

@@ -8,6 +8,7 @@ use definition::FileRecord;
 use definition::Handover;
 use definition::STATEMENT_SIZE;
 use definition::Statement;
+use floats::rounding;
 use functions::fetch;
 use functions::fetch::Fetched;
 use functions::parts;
@@ -17,14 +18,15 @@ ghost use Prim.Native.Nat.{ℕ, _≤_, _<_};
 ghost use lib.IntN.{ℤ, pos};
 ghost use lib.ListN.{length};
 ghost use Rattle.definition.specs.File.{contentsAt};
-ghost use Rattle.definition.specs.Cells.{signed, cellOf};
-ghost use Rattle.definition.specs.Statements.{branchesDo, callOf, callDoes, execute, doesAt};
+ghost use Rattle.definition.specs.Floats.{roundingOf};
+ghost use Rattle.definition.specs.Cells.{signed, cellOf, Typing};
+ghost use Rattle.definition.specs.Statements.{branchesDo, builtinDoes, callOf, callDoes, execute, doesAt};
 ghost use Rattle.definition.specs.Operations.{isHandedOver};
 ghost use Rattle.functions.specs.Parts.{functionsIn};
 ghost use Rattle.typed.specs.Typing.{typing};
 ghost use Rattle.globals.specs.Effects.{after, effectOn};
 ghost use Rattle.execution.specs.Shapes.{effectAs};
-ghost use Rattle.execution.specs.Execution.{completedAs, doesOf, executed, execution, Usable};
+ghost use Rattle.execution.specs.Execution.{completedAs, doesOf, calleeDoes, executed, execution, Usable};
 
 pub mod shapes;
 
@@ -107,38 +109,72 @@ fn branch(
     Executed::Next(fetch::after(k))
 }
 
-// A Call of the function with a number.
-fn callee(functions: &[u8], value: u32) -> Executed
-    ensures { λ r. ⌜ ((cells : List ℕ) → doesOf r cells ≡ callOf (functionsIn (now (functions .entry))) value) ⌝ }
+// What a Call calls: a function that is entered, a builtin that the machine does itself (document 02, R-1), or one that is the host's.
+enum Callee {
+    Function(usize),
+    Rounding(u32),
+    Host(u32),
+    Refused(u8),
+}
+
+// The function with a number.
+fn callee_of(functions: &[u8], value: u32) -> Callee
+    ensures { λ r. ⌜ ((g : Typing) (p : ℤ) (cells : List ℕ) → calleeDoes r g p cells ≡ callOf (functionsIn (now (functions .entry))) g p value cells) ⌝ }
 {
     if value == 0 {
-        return Executed::Refused(19);
+        return Callee::Refused(19);
     }
     let functions::FunctionId::Id(f) = functions::id_from_i32(
         value,
         functions.len() / FUNCTION_SIZE,
     ) else {
-        return Executed::Refused(20);
+        return Callee::Refused(20);
     };
     let def = functions::get_def(functions, f);
     if functions::is_builtin(def) {
         if functions::builtin_known(def) {
-            return Executed::HandedOver(Handover::Builtin(functions::builtin_of(def)));
+            return builtin(functions::builtin_of(def));
         }
-        return Executed::Refused(5);
+        return Callee::Refused(5);
     }
-    Executed::Calls(f)
+    Callee::Function(f)
 }
 
-fn call(defs: &[u8], functions: &[u8], count: usize, cells: &[u32], a: usize) -> Executed
+fn builtin(n: u32) -> Callee
+    ensures { λ r. ⌜ ((g : Typing) (p : ℤ) (cells : List ℕ) → calleeDoes r g p cells ≡ builtinDoes (roundingOf n) n g p cells) ⌝ }
+{
+    if rounding::is_rounding(n) {
+        return Callee::Rounding(n);
+    }
+    Callee::Host(n)
+}
+
+// What the Call finds whose operand names the cell a.
+fn callee_at(defs: &[u8], functions: &[u8], count: usize, cells: &[u32], a: usize) -> Callee
     requires { ⌜ count ≤ length (now cells) ⌝ }
-    ensures { λ r. ⌜ doesOf r (now (cells .entry)) ≡ callDoes (functionsIn (now (functions .entry))) (typing (now (defs .entry)) count) a (now (cells .entry)) ⌝ }
+    ensures { λ r. ⌜ ((p : ℤ) → calleeDoes r (typing (now (defs .entry)) count) p (now (cells .entry)) ≡ callDoes (functionsIn (now (functions .entry))) (typing (now (defs .entry)) count) p a (now (cells .entry))) ⌝ }
 {
     let r = typed::check_cell(defs, count, typed::FUNCTION, a);
     if r != 0 {
-        return Executed::Refused(r);
+        return Callee::Refused(r);
     }
-    callee(functions, cells[a])
+    callee_of(functions, cells[a])
+}
+
+// A Call, by what it calls.
+fn call(defs: &[u8], count: usize, cells: &mut [u32], k: usize, callee: Callee) -> Executed
+    requires { ⌜ (count ≤ length (now cells)) × (k < 2147483648) ⌝ }
+    ensures { λ r. ⌜ executed r (now (cells .exit)) ≡ execution (calleeDoes callee (typing (now (defs .entry)) count) (pos k) (now (cells .entry))) (now (cells .entry)) ⌝ }
+{
+    match callee {
+        Callee::Function(f) => return Executed::Calls(f),
+        Callee::Rounding(n) => {
+            let answer = arithmetic::builtin_rounding(defs, count, cells, n);
+            return completed(k, answer);
+        }
+        Callee::Host(n) => return Executed::HandedOver(Handover::Builtin(n)),
+        Callee::Refused(r) => return Executed::Refused(r),
+    }
 }
 
 // The statement k.
@@ -172,22 +208,22 @@ pub fn execute(
         Shape::Goto => return Executed::Next(fetch::jump(k, s.arg1)),
         Shape::Call => {
             let functions = parts::part(file, FUNCTION_SIZE, recorded.functions);
-            return call(defs, functions, count, cells, a);
+            let callee = callee_at(defs, functions, count, cells, a);
+            return call(defs, count, cells, k, callee);
         }
         Shape::Return => return Executed::Returns(a),
         Shape::Host => return Executed::HandedOver(Handover::Opcode(s.opcode as u32)),
     }
 }
 
-fn is_handed_over(done: Executed) -> bool
-    ensures { λ r. ⌜ ((cells : List ℕ) → r ≡ isHandedOver (doesOf done cells)) ⌝ }
+fn is_hosts(callee: Callee) -> bool
+    ensures { λ r. ⌜ ((g : Typing) (p : ℤ) (cells : List ℕ) → r ≡ isHandedOver (calleeDoes callee g p cells)) ⌝ }
 {
-    match done {
-        Executed::Next(_p) => return false,
-        Executed::Calls(_f) => return false,
-        Executed::Returns(_a) => return false,
-        Executed::Refused(_n) => return false,
-        Executed::HandedOver(_h) => return true,
+    match callee {
+        Callee::Function(_f) => return false,
+        Callee::Rounding(_n) => return false,
+        Callee::Host(_n) => return true,
+        Callee::Refused(_r) => return false,
     }
 }
 
@@ -209,8 +245,8 @@ pub fn hands_over(file: &[u8], recorded: FileRecord, cells: &[u32], s: Statement
             let defs = parts::part(file, DEFINITION_SIZE, recorded.globaldefs);
             let functions = parts::part(file, FUNCTION_SIZE, recorded.functions);
             let count = recorded.globals.count;
-            let done = call(defs, functions, count, cells, fetch::cell_of(s.arg1));
-            return is_handed_over(done);
+            let callee = callee_at(defs, functions, count, cells, fetch::cell_of(s.arg1));
+            return is_hosts(callee);
         }
         Shape::Return => return false,
         Shape::Host => return true,

@@ -2,8 +2,12 @@
 // The lines, and what must be printed, come from tests/model by tools/cases.py.
 ghost use Prim.Native.Nat.{_≤_, _<_};
 ghost use lib.ListN.{length};
+use definition::MOST_CELLS;
+use definition::SAVED_STORE;
 use libc::STDIN_FILENO;
 use libc::STDOUT_FILENO;
+use shown::LONGEST_INPUT;
+use text::LINE_ROOM;
 
 fn show_case(
     text: &[u8],
@@ -35,10 +39,10 @@ fn show_cases(text: &[u8], file: &mut [u8], cells: &mut [u32], store: &mut [u32]
 
 fn main() {
     let mut text = [0u8; 262144];
-    let mut file = [0u8; 65537];
-    let mut cells = [0u32; 32768];
-    let mut store = [0u32; 2048];
-    let mut line = [0u8; 160];
+    let mut file = [0u8; LONGEST_INPUT + 1];
+    let mut cells = [0u32; MOST_CELLS];
+    let mut store = [0u32; SAVED_STORE];
+    let mut line = [0u8; LINE_ROOM];
     let n = io::read_full(STDIN_FILENO, &mut text);
     show_cases(&text[..n], &mut file, &mut cells, &mut store, &mut line);
 }

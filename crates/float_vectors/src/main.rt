@@ -1,8 +1,14 @@
 // Runs the cases on standard input through the compiled functions of `floats`, and compares each result with the case's own.
-// A case is a line of eight hexadecimal numbers: the opcode, three cells of the first operand, three of the second, the result.
+// A case is a line of eight hexadecimal numbers: the opcode, three cells of the first operand, three of the second, the result. A rounding builtin has its
+// number and 80 for an opcode.
 // tools/float_vectors.py writes them, from a model of its own.
+use functions::ops;
 use libc::STDIN_FILENO;
 use libc::STDOUT_FILENO;
+use vectors::Counts;
+use vectors::MOST_LINES;
+
+const ROUNDINGS: u16 = 128;
 
 enum Outcome {
     Same,
@@ -12,8 +18,11 @@ enum Outcome {
 
 // Each function by opcode gives 0 for the opcodes of the others. NotV is in none of them.
 fn result(op: u16, a0: u32, a1: u32, a2: u32, b0: u32, b1: u32, b2: u32) -> u32 {
-    if op == 45 {
+    if op == ops::NOT_V {
         return floats::not_v(a0, a1, a2);
+    }
+    if op >= ROUNDINGS {
+        return floats::rounding::rounding((op - ROUNDINGS) as u32, a0);
     }
     let scalar = floats::float_op(op, a0, b0)
         | floats::component_op(op, a0, b0)
@@ -49,16 +58,10 @@ fn run_case() -> Outcome {
     Outcome::Differs
 }
 
-struct Counts {
-    cases: u64,
-    differ: u64,
-}
-
-// A proved loop has to end, and nothing says that the input does: it ends after a million cases.
 fn run_cases() -> Counts {
     let mut cases: u64 = 0;
     let mut differ: u64 = 0;
-    while cases < 1000000 {
+    while cases < MOST_LINES {
         match run_case() {
             Outcome::Same => cases += 1,
             Outcome::Differs => {
@@ -72,6 +75,5 @@ fn run_cases() -> Counts {
 }
 
 fn main() {
-    let c = run_cases();
-    vectors::report(c.cases, c.differ);
+    vectors::report(run_cases());
 }

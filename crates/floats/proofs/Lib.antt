@@ -2,3 +2,5 @@
 pub mod Cells
 pub mod Whole
 pub mod Opcodes
+pub mod Magnitudes
+pub mod ByNumber

@@ -7,6 +7,8 @@ ghost use Rattle.floats.specs.Scaled.{scaled};
 ghost use Rattle.floats.specs.Opcodes.{floatOp, componentOp, vectorsToFloatOp, valueOp, notOp};
 use functions::ops;
 
+pub mod rounding;
+
 // The float of a cell. `from_bits` takes no NaN's pattern, so a NaN is made by a division.
 pub fn of_cell(x: u32) -> f32
     ensures { λ r. ⌜ r ≡ value x ⌝ }

@@ -16,10 +16,11 @@ use Rattle.definition.specs.declared.FunctionDef.{FunctionDef}
 use Rattle.definition.specs.declared.Handover.the-variants.{Builtin, Opcode}
 use Rattle.definition.specs.Checks.{judge}
 use Rattle.definition.specs.File.{Contents, builtinNumber}
+use Rattle.definition.specs.Floats.{rounded, absolute, roundingOf}
 use Rattle.definition.specs.Cells.{lookup, scalar, passes, signed, cellOf, cellAccess, vectorAccess, access, readAccess}
 use Rattle.definition.specs.Statements.{Does, next, calls, returns, refuses, handsOver, shapeOf, fetchConditions, execute, doesAt}
 use Rattle.definition.specs.Statements.{floatsEffect, valuesEffect, vectorResult, vectorsEffect, vectorsToFloatEffect, stringsEffect}
-use Rattle.definition.specs.Statements.{negatesEffect, negatesVEffect, negatesSEffect, storesEffect, storesVEffect, branchesDo, callOf, callDoes}
+use Rattle.definition.specs.Statements.{negatesEffect, negatesVEffect, negatesSEffect, storesEffect, storesVEffect, branchesDo, roundingEffect, callOf, callDoes}
 use Rattle.definition.specs.Starred.{sameNumbers}
 
 -- ---- the program and its cells
@@ -52,14 +53,15 @@ define kind cell = record { kind = kind; offset = cell; name = 0 }
 abbrev fn : ℕ → FunctionDef
 fn first = record { first = first; start = 0; locals = 0; name = 0; srcfile = 0; argc = 0; argsz = replicate 8 0 }
 
--- Function 2 is the builtin 36, function 3 is minus 5, which is none, function 4 is the builtin 1. The field definition of cell 30 binds no cell.
+-- Function 2 is the builtin 35, function 3 is minus 5, which is none, function 4 is the builtin 1, function 5 is the builtin 36, rint. The field definition
+-- of cell 30 binds no cell.
 abbrev program : List Definition → Statement → Contents
 program definitions st =
     record {
       statements = op 0 0 0 0 ∷ op 0 0 0 0 ∷ st ∷ [];
       globaldefs = definitions;
       fielddefs = define 1 30 ∷ [];
-      functions = fn 0 ∷ fn 1 ∷ fn 0xffffffdc ∷ fn 0xfffffffb ∷ fn 0xffffffff ∷ [];
+      functions = fn 0 ∷ fn 1 ∷ fn 0xffffffdd ∷ fn 0xfffffffb ∷ fn 0xffffffff ∷ fn 0xffffffdc ∷ [];
       strings = 0 ∷ [];
       globals = numbers 64 0;
       entityfields = 105;
@@ -375,11 +377,13 @@ abbrev entering : List Row
 entering =
     (row "Done" typed (op 0 39 64 0xffff) [] (leaves 39) ∷ row "Return" typed (op 43 48 64 0xffff) [] (leaves 48) ∷ [])
     ++ of callOpcodes (λ o. row "Call" untyped (op o 30 0xffff 0xffff) (30 holds 1 ∷ []) (enters 1))
-    ++ of callOpcodes (λ o. row "a builtin is then handed over" untyped (op o 30 0 0) (30 holds 2 ∷ []) (builtin 36))
+    ++ of callOpcodes (λ o. row "a builtin is then handed over" untyped (op o 30 0 0) (30 holds 2 ∷ []) (builtin 35))
+    ++ of callOpcodes (λ o. row "R-1: rint of 0.5, done by the machine" untyped (op o 30 0 0) (30 holds 5 ∷ 4 holds 0x3f000000 ∷ []) (completes (pos 3) (1 holds 0x3f800000 ∷ [])))
+    ++ of callOpcodes (λ o. row "its result is typed: cell 1 is a string" typed (op o 30 0 0) (30 holds 5 ∷ []) (refused 16))
     ++ of callOpcodes (λ o. row "19: function 0" untyped (op o 30 0 0) (30 holds 0 ∷ []) (refused 19))
     ++ (row "the builtin 1" untyped (op 51 30 0 0) (30 holds 4 ∷ []) (builtin 1)
     ∷ row "5 again" untyped (op 51 30 0 0) (30 holds 3 ∷ []) (refused 5)
-    ∷ row "20: no such function" untyped (op 51 30 0 0) (30 holds 5 ∷ []) (refused 20)
+    ∷ row "20: no such function" untyped (op 51 30 0 0) (30 holds 6 ∷ []) (refused 20)
     ∷ row "20: below 0" untyped (op 51 30 0 0) (30 holds 0xffffffff ∷ []) (refused 20)
     ∷ row "Call, 15: not below the count" untyped (op 51 64 0 0) [] (refused 15)
     ∷ row "Call, 15: cell negative" untyped (op 51 0xffff 0 0) [] (refused 15)
@@ -722,10 +726,10 @@ rows =
 -- all that a row computes with
 unfoldable computing : Unit {0}
 unfolding judge builtinNumber
-    Ieee.ofBits Ieee.toBits Ieee.add Ieee.sub Ieee.mul Ieee.div Ieee.eq Ieee.ne Ieee.le Ieee.lt Ieee.toSigned Ieee.ofInt
+    Ieee.ofBits Ieee.toBits Ieee.add Ieee.sub Ieee.mul Ieee.div Ieee.eq Ieee.ne Ieee.le Ieee.lt Ieee.round Ieee.toSigned Ieee.ofInt
     lookup scalar passes signed cellOf cellAccess vectorAccess access readAccess
     shapeOf floatsEffect valuesEffect vectorResult vectorsEffect vectorsToFloatEffect stringsEffect negatesEffect negatesVEffect negatesSEffect
-    storesEffect storesVEffect branchesDo callOf callDoes fetchConditions execute doesAt
+    storesEffect storesVEffect branchesDo rounded absolute roundingOf roundingEffect callOf callDoes fetchConditions execute doesAt
 computing = tt
 
 record Stand (rows : List Row) : Type 0 where

@@ -162,13 +162,17 @@ copies =
     ∷ row "the first argument first" (afterEntry (fn 1 7 0 2 (1 ∷ 1 ∷ []))) (numbers 7 0 ++ (4 ∷ 4 ∷ []) ++ numbers 55 9)
     ∷ []
 
+-- a Call of this function, over untyped cells
+abbrev calling : List FunctionDef → ℕ → ℕ
+calling functions f = refusalOf (callOf functions (record { definitions = []; count = 64 }) (pos 0) f (numbers 64 0))
+
 -- "Call, 19: function 0; 20: no such function; 5 again"
 abbrev called : List Row
 called =
-    rowOf "19, in a file without functions" (refusalOf (callOf [] 0)) 19
-    ∷ rowOf "20, in a file without functions" (refusalOf (callOf [] 1)) 20
-    ∷ rowOf "19: function 0 is minus 5" (refusalOf (callOf (minus 5 ∷ []) 0)) 19
-    ∷ rowOf "5 again" (refusalOf (callOf (minus 1 ∷ minus 5 ∷ []) 1)) 5
+    rowOf "19, in a file without functions" (calling [] 0) 19
+    ∷ rowOf "20, in a file without functions" (calling [] 1) 20
+    ∷ rowOf "19: function 0 is minus 5" (calling (minus 5 ∷ []) 0) 19
+    ∷ rowOf "5 again" (calling (minus 1 ∷ minus 5 ∷ []) 1) 5
     ∷ []
 
 -- in function 0, which has so many locals from a cell on
@@ -221,7 +225,7 @@ refusedLoad =
 abbrev answers : List Row
 answers =
     row "a refused statement" (said (refusedStep 15)) (114 ∷ 101 ∷ 102 ∷ 117 ∷ 115 ∷ 101 ∷ 100 ∷ 15 ∷ 64 ∷ [])
-    ∷ row "a builtin" (said (handedStep (Builtin 36))) (98 ∷ 117 ∷ 105 ∷ 108 ∷ 116 ∷ 105 ∷ 110 ∷ 36 ∷ 64 ∷ [])
+    ∷ row "a builtin" (said (handedStep (Builtin 35))) (98 ∷ 117 ∷ 105 ∷ 108 ∷ 116 ∷ 105 ∷ 110 ∷ 35 ∷ 64 ∷ [])
     ∷ row "an opcode" (said (handedStep (Opcode 60))) (111 ∷ 112 ∷ 99 ∷ 111 ∷ 100 ∷ 101 ∷ 60 ∷ 64 ∷ [])
     ∷ row "a completed statement" (said (completed (at 1 0))) (99 ∷ 111 ∷ 109 ∷ 112 ∷ 108 ∷ 101 ∷ 116 ∷ 101 ∷ 100 ∷ 0 ∷ 64 ∷ [])
     ∷ row "a raw read" (readRefusal (readAnswer (accepted 7)) ∷ readValue (readAnswer (accepted 7)) ∷ []) (0 ∷ 7 ∷ [])

@@ -16,7 +16,7 @@ use server::Ran;
 use text::Line;
 
 // 01: the show program reads "a file of at most 65,536 bytes".
-const LONGEST_INPUT: usize = 65536;
+pub const LONGEST_INPUT: usize = 65536;
 
 // Its run's limit is the greatest.
 const LIMIT: i64 = GREATEST_LIMIT as i64;

@@ -8,8 +8,10 @@ use functions::fetch;
 use functions::header;
 use libc::STDIN_FILENO;
 use libc::STDOUT_FILENO;
+use vectors::Counts;
+use vectors::MOST_LINES;
 
-// The longest file of the cases has 131,801 bytes, and 32,768 cells.
+// The longest file of the cases has 131,801 bytes.
 const BYTES: usize = 140000;
 
 const CELLS: usize = MOST_CELLS;
@@ -171,24 +173,18 @@ fn next_line(file: &mut [u8], size: usize, cells: &mut [u32], want: &mut [u32]) 
     )
 }
 
-struct Counts {
-    cases: u64,
-    differ: u64,
-}
-
 fn report_case(case: u64) {
     io::write_all(STDOUT_FILENO, b"case ");
     io::print_decimal(STDOUT_FILENO, case);
     io::write_all(STDOUT_FILENO, b" differs\n");
 }
 
-// A proved loop has to end, and nothing says that the input does: it ends after a million lines.
 fn run_lines(file: &mut [u8], cells: &mut [u32], want: &mut [u32]) -> Counts {
     let mut size: usize = 0;
     let mut lines: u64 = 0;
     let mut cases: u64 = 0;
     let mut differ: u64 = 0;
-    while lines < 1000000 {
+    while lines < MOST_LINES {
         lines += 1;
         match next_line(file, size, cells, want) {
             Step::Given => {}
@@ -207,8 +203,7 @@ fn run_lines(file: &mut [u8], cells: &mut [u32], want: &mut [u32]) -> Counts {
 
 fn main() {
     let mut file = [0u8; BYTES];
-    let mut cells = [0u32; CELLS];
-    let mut want = [0u32; CELLS];
-    let c = run_lines(&mut file, &mut cells, &mut want);
-    vectors::report(c.cases, c.differ);
+    let mut cells = [0u32; MOST_CELLS];
+    let mut want = [0u32; MOST_CELLS];
+    vectors::report(run_lines(&mut file, &mut cells, &mut want));
 }

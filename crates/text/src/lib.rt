@@ -11,6 +11,9 @@ ghost use Rattle.definition.specs.Answers.{letters, outcomeWord, outcomeDetail}
 ghost use Rattle.text.specs.Text.{comma, decimal, signedDecimal, hexDigit, hexDigits, hex8, furtherFields, lineText, refusedLine};
 ghost use Rattle.text.specs.Output.{output, put, Room, atFront};
 
+// A line of the show program has room in so many bytes.
+pub const LINE_ROOM: usize = 160;
+
 pub fn write_byte(buf: &mut [u8], at: usize, x: u8) -> usize
     requires { ⌜ Room (x ∷ []) (output (now buf) at) ⌝ }
     ensures { λ r. ⌜ output (now (buf .exit)) r ≡ put (x ∷ []) (output (now (buf .entry)) at) ⌝ }

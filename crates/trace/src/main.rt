@@ -5,6 +5,7 @@ ghost use lib.ListN.{length};
 use cases::answers;
 use cases::answers::Said;
 use cases::print;
+use definition::SAVED_STORE;
 use libc::STDIN_FILENO;
 use progs::ExecutionContext;
 use progs::load;
@@ -106,7 +107,7 @@ fn main() {
     let mut text = [0u8; 65536];
     let mut file = [0u8; 4096];
     let mut cells = [0u32; 64];
-    let mut store = [0u32; 2048];
+    let mut store = [0u32; SAVED_STORE];
     let n = io::read_full(STDIN_FILENO, &mut text);
     perform_lines(&text[..n], &mut file, &mut cells, &mut store);
 }

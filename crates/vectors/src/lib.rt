@@ -26,9 +26,17 @@ pub fn number(line: &[u8], at: usize, n: usize) -> u32
     x
 }
 
-pub fn report(cases: u64, differ: u64) {
-    io::print_decimal(STDOUT_FILENO, cases);
+// A proved loop has to end, and nothing says that the input does: a program reads at most so many lines.
+pub const MOST_LINES: u64 = 1_000_000;
+
+pub struct Counts {
+    pub cases: u64,
+    pub differ: u64,
+}
+
+pub fn report(counts: Counts) {
+    io::print_decimal(STDOUT_FILENO, counts.cases);
     io::write_all(STDOUT_FILENO, b" cases, ");
-    io::print_decimal(STDOUT_FILENO, differ);
+    io::print_decimal(STDOUT_FILENO, counts.differ);
     io::write_all(STDOUT_FILENO, b" differ\n");
 }

@@ -17,8 +17,8 @@ pub const SAVED_STORE: usize = 2_048;
 /// [`Machine::call`] has carried on before it asks the host.
 #[derive(Clone, Copy, Debug, PartialEq, Eq, Hash)]
 pub enum Handover {
-    /// A Call of a builtin: 1 to 78. Its arguments are in the cells from 4 on, three to each; its result goes to
-    /// cells 1 to 3.
+    /// A Call of a builtin: 1 to 78, but for 36, 37, 38 and 43 (rint, floor, ceil, fabs), which the machine does
+    /// itself. Its arguments are in the cells from 4 on, three to each; its result goes to cells 1 to 3.
     Builtin(u32),
     /// An opcode that the host carries out: 24 to 30, 37 to 42 or 60.
     Opcode(u32),

@@ -120,7 +120,7 @@ fn whole_files() {
         );
         count += 1;
     }
-    assert_eq!(count, 354);
+    assert_eq!(count, 373);
 }
 
 /// One vector of statements.txt on the file that holds.
@@ -177,7 +177,7 @@ fn single_statements() {
         vector(line, offset, cells, &file);
         count += 1;
     }
-    assert_eq!(count, 1_374);
+    assert_eq!(count, 1_713);
 }
 
 fn digest(machine: &Machine) -> String {
@@ -288,5 +288,5 @@ fn perform_lists() {
         assert_eq!(found, expected, "{call}");
         count += 1;
     }
-    assert_eq!(count, 3_432);
+    assert_eq!(count, 3_676);
 }

@@ -98,12 +98,28 @@ const CHANGES: &[Change] = &[
         "        self.put_vector(diff, diff_id)?;\n",
         "        self.put_vector(diff.map(crate::switches::canonical), diff_id)?;\n",
     ),
+    nan(
+        "        self.put_float(f.round(), GLOBAL_ADDR_RETURN as i16)?;\n",
+        "        self.put_float(crate::switches::canonical(f.round()), GLOBAL_ADDR_RETURN as i16)?;\n",
+    ),
+    nan(
+        "        self.put_float(f.floor(), GLOBAL_ADDR_RETURN as i16)?;\n",
+        "        self.put_float(crate::switches::canonical(f.floor()), GLOBAL_ADDR_RETURN as i16)?;\n",
+    ),
+    nan(
+        "        self.put_float(f.ceil(), GLOBAL_ADDR_RETURN as i16)?;\n",
+        "        self.put_float(crate::switches::canonical(f.ceil()), GLOBAL_ADDR_RETURN as i16)?;\n",
+    ),
+    nan(
+        "        self.put_float(f.abs(), GLOBAL_ADDR_RETURN as i16)?;\n",
+        "        self.put_float(crate::switches::canonical(f.abs()), GLOBAL_ADDR_RETURN as i16)?;\n",
+    ),
 ];
 
 const fn nan(old: &'static str, new: &'static str) -> Change {
     Change {
         file: GLOBALS,
-        name: "NaN made by arithmetic is 7fc00000",
+        name: "NaN made by arithmetic or rounding is 7fc00000",
         old,
         new,
     }

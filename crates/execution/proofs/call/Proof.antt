@@ -1,29 +1,36 @@
-use mathlib.Core.Path.{sym, _∙_}
-use Rattle.typed.specs.Laws.{cell-reach}
-use Rattle.execution.proofs.Transfers.{call-refused, call-goes}
+use Rattle.execution.proofs.Transfers.{kept, called-known, completed-is}
+use Rattle.execution.specs.declared.Callee.the-variants.{Function, Rounding, Host, Refused}
+use Rattle.execution.specs.declared.Executed.the-variants as does
 use borrow.Author.Needs.{needs}
 use Rattle.execution.proofs.call.Statement.{statement}
 use Rattle.execution.proofs.call.Tie as tie
 
 returns : tie.Need-returns
-returns c = call-refused _ _ _ _ _ (c .if1 .taken) (c .before .check-cell .ensures)
-
-mul-callee : tie.Need-mul-callee
-mul-callee c = let h = cell-reach _ _ _ (sym (c .before .check-cell .ensures) ∙ c .if1 .left) in search needs
-
-shared-slice-read-callee : tie.Need-shared-slice-read-callee
-shared-slice-read-callee c = let h = cell-reach _ _ _ (sym (c .before .before .check-cell .ensures) ∙ c .before .if1 .left) in search needs
+returns c = called-known _ (Function _) _ _ _ _ _ (c .before .callee .given .1) (kept (does.Calls _) _)
 
 returns-2 : tie.Need-returns-2
-returns-2 c = call-goes _ _ _ _ _ (sym (c .before .before .before .check-cell .ensures) ∙ c .before .before .if1 .left) (c .callee .ensures _)
+returns-2 c =
+    called-known _ (Rounding _) _ _ _ _ _ (c .before .before .before .before .before .before .callee2 .given .1)
+    (rw (c .completed .ensures) (completed-is _ _ _ _ _ (c .before .before .before .builtin-rounding .ensures)))
+
+returns-3 : tie.Need-returns-3
+returns-3 c = called-known _ (Host _) _ _ _ _ _ (c .before .callee3 .given .1) (kept (does.HandedOver _) _)
+
+returns-4 : tie.Need-returns-4
+returns-4 c = called-known _ (Refused _) _ _ _ _ _ (c .before .callee4 .given .1) (kept (does.Refused _) _)
 
 pub call-spec : {M : Type 1} → statement M
 call-spec =
     tie.close
     (tie.spec
-    (λ c κs. search needs)
+    (λ c. search needs)
     returns
-    mul-callee
-    shared-slice-read-callee
+    (λ c. search needs)
     (λ c κs. search needs)
-    returns-2)
+    (λ c κs. search needs)
+    (λ c. search needs)
+    returns-2
+    (λ c. search needs)
+    returns-3
+    (λ c. search needs)
+    returns-4)

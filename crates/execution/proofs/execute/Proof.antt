@@ -1,9 +1,9 @@
 use mathlib.Core.Path.{refl, sym, _∙_}
 use mir.Syntax.{w64}
 use mir.Facts.{toZ-ofZ}
-use Rattle.execution.proofs.Transfers.{written, transferred, floats-written}
+use Rattle.execution.proofs.Transfers.{written, transferred, called, floats-written}
 use Rattle.execution.specs.Execution.{executed-here}
-use Rattle.execution.specs.declared.shapes.Shape.the-variants.{Branch, Goto, Call, Return, Host}
+use Rattle.execution.specs.declared.shapes.Shape.the-variants.{Branch, Goto, Return, Host}
 use borrow.Author.Needs.{needs}
 use Rattle.execution.proofs.execute.Statement.{statement}
 use Rattle.execution.proofs.execute.Tie as tie
@@ -34,8 +34,8 @@ returns-4 c =
 
 returns-5 : tie.Need-returns-5
 returns-5 c =
-    executed-here _ _ (c .before .before .before .before .before .before .before .before .before .before .before .before .pre .0 .lumps) _ _ (c .before .before .before .before .before .before .before .before .before .part .ensures) (c .before .before .part2 .ensures) _ _ _ _
-    (transferred _ _ _ _ _ _ _ _ (c .before .before .before .before .before .shape-of .result) Call (c .before .before .before .enum-told2 .given .1) (c .before .before .before .before .before .shape-of .ensures) _ (rw (c .before .before .before .before .before .before .cell-of .ensures) at (c .call .ensures)))
+    executed-here _ _ (c .before .before .before .before .before .before .before .before .before .before .before .before .before .before .before .before .pre .0 .lumps) _ _ (c .before .before .before .before .before .before .before .before .before .before .before .before .before .part .ensures) (c .before .before .before .before .before .before .part2 .ensures) _ _ _ _
+    (called _ _ _ _ _ _ _ _ (c .before .before .before .before .before .before .before .before .before .shape-of .result) (c .before .before .before .before .before .before .before .enum-told2 .given .1) (c .before .before .before .before .before .before .before .before .before .shape-of .ensures) _ (c .before .before .before .before .before .before .before .before .before .before .cell-of .ensures) (c .before .before .before .before .callee-at .result) (c .before .before .before .before .callee-at .ensures _) _ _ (c .before .before .call .ensures))
 
 returns-6 : tie.Need-returns-6
 returns-6 c =
@@ -74,6 +74,7 @@ execute-spec =
     (λ c κs. search needs)
     returns-4
     (λ c. search needs)
+    (λ c κs. search needs)
     (λ c κs. search needs)
     (λ c κs. search needs)
     (λ c. search needs)

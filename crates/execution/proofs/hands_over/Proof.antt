@@ -1,4 +1,5 @@
 use mathlib.Core.Path.{refl, sym, _∙_}
+use Rattle.typed.specs.Typing.{typing}
 use Rattle.execution.specs.declared.shapes.Shape.the-variants.{Cells, Branch, Goto, Return}
 use Rattle.execution.proofs.Fetching.{never-handed, floats-not-handed, call-handed, host-handed, handed-here}
 use borrow.Author.Needs.{needs}
@@ -23,7 +24,7 @@ returns-4 c = λ p. handed-here _ _ (c .before .before .before .before .before .
 returns-5 : tie.Need-returns-5
 returns-5 c =
     λ p. handed-here _ _ (c .before .before .before .before .before .before .before .before .before .before .before .before .pre .0 .lumps) _ _ (c .before .before .before .before .part .ensures) (c .before .before .before .part2 .ensures) p _ _ _
-    (call-handed _ _ p _ _ _ _ _ _ (c .before .before .before .before .before .before .before .shape-of .ensures) (c .before .before .before .before .before .enum-told2 .given .1) _ (c .before .before .cell-of .ensures) _ (c .before .call .result) (c .is-handed-over .ensures (c .before .before .before .before .before .before .before .before .before .before .before .before .args .cells .now)) (c .before .call .ensures))
+    (call-handed _ _ p _ _ _ _ _ _ (c .before .before .before .before .before .before .before .shape-of .ensures) (c .before .before .before .before .before .enum-told2 .given .1) _ (c .before .before .cell-of .ensures) _ (c .before .callee-at .result) (c .is-hosts .ensures (typing (c .before .before .before .before .part .result .now) (c .before .before .before .before .before .before .before .before .before .before .before .before .args .recorded .globals .count)) p (c .before .before .before .before .before .before .before .before .before .before .before .before .args .cells .now)) (c .before .callee-at .ensures p))
 
 returns-6 : tie.Need-returns-6
 returns-6 c = λ p. handed-here _ _ (c .before .before .before .before .before .before .before .pre .0 .lumps) _ _ refl refl p _ _ _ (never-handed _ _ p _ _ _ _ _ _ (c .before .before .shape-of .ensures) Return (c .enum-told3 .given .1) refl)

@@ -203,6 +203,13 @@ fn panics() -> Vec<Fact> {
     ]
 }
 
+/// Function 1 calls function 2, a builtin, for a float in cell 4, and returns its result.
+fn rounding(first: i32, x: u32) -> Program {
+    let mut program = program(&[[52, 28, 0, 0], [43, 1, 2, 3]], &[(4, x), (28, 2)]);
+    program.functions.push(Function { first, ..Function::default() });
+    program
+}
+
 fn floats() -> Vec<Fact> {
     let quotient = |more: &[[i16; 4]]| {
         let mut statements = vec![[5, 28, 28, 30]];
@@ -215,6 +222,12 @@ fn floats() -> Vec<Fact> {
     vec![
         fact("NaN: 0.0/0.0", &quotient(&[]), "ends", "ended", Some((30, 0xffc0_0000, 0x7fc0_0000))),
         fact("NaN: 7fa00001 + 1.0", &payload, "ends", "ended", Some((30, 0x7fe0_0001, 0x7fc0_0000))),
+        fact("NaN: fabs of 7fc00001", &rounding(-43, 0x7fc0_0001), "ends", "ended", Some((1, 0x7fc0_0001, 0x7fc0_0000))),
+        fact("NaN: floor of 7fc00001", &rounding(-37, 0x7fc0_0001), "ends", "ended", Some((1, 0x7fc0_0001, 0x7fc0_0000))),
+        fact("NaN: ceil of ffc00000", &rounding(-38, 0xffc0_0000), "ends", "ended", Some((1, 0xffc0_0000, 0x7fc0_0000))),
+        fact("NaN: rint of 7f800001", &rounding(-36, 0x7f80_0001), "ends", "ended", Some((1, 0x7fc0_0001, 0x7fc0_0000))),
+        fact("rint of 0.49999997, in both", &rounding(-36, 0x3eff_ffff), "ends", "ended", Some((1, 0, 0))),
+        fact("ceil of -0.5, in both", &rounding(-38, 0xbf00_0000), "ends", "ended", Some((1, 0x8000_0000, 0x8000_0000))),
         fact("NaN: StoreF moves bits in both", &stored, "ends", "ended", Some((30, 0x7fa0_0001, 0x7fa0_0001))),
         fact(
             "NaN read as an entity: 0.0/0.0, then NotEnt",

@@ -434,6 +434,11 @@ fn whole(r: &mut Random) -> Program {
         let last = program.functions.len() - 1;
         program.functions[last].first = -(maker.r.between(1, 78) as i32);
     }
+    if maker.functions > 2 && maker.r.percent(20) {
+        let function = maker.r.between(2, maker.functions as i64 - 1) as usize;
+        program.functions[function].first = -maker.r.pick(&[36, 37, 38, 43]);
+        program.cells[4] = float(maker.r, &maker.style);
+    }
     if maker.r.percent(10) {
         let flag = if maker.r.percent(10) { 0x8000 } else { 0 };
         program.fielddefs.push((maker.r.below(8) as u16 | flag, 0, 0));

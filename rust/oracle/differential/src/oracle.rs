@@ -177,9 +177,9 @@ pub fn load_whole(variant: Variant, bytes: &[u8]) -> Box<dyn Level> {
 /// How a call ended and what it left.
 pub struct Seen {
     pub end: End,
-    /// Statements fetched, and how many were when the first builtin was called.
+    /// Statements fetched, and how many were at each call of a builtin.
     pub fetched: u64,
-    pub builtin_at: Option<u64>,
+    pub builtins_at: Vec<u64>,
     pub observed: Observed,
     pub cells: Vec<u32>,
 }
@@ -191,7 +191,7 @@ pub fn call(level: &mut dyn Level, cells: usize, counted: bool, what: impl FnOnc
         Ok(()) => End::Done,
         Err(end) => end,
     };
-    let (fetched, builtin_at) = (count::fetched(), count::builtin_at());
+    let (fetched, builtins_at) = (count::fetched(), count::builtins_at());
     count::start(false);
-    Seen { end, fetched, builtin_at, observed: level.observe(), cells: (0..cells.min(32_768)).map(|i| level.cell(i)).collect() }
+    Seen { end, fetched, builtins_at, observed: level.observe(), cells: (0..cells.min(32_768)).map(|i| level.cell(i)).collect() }
 }

@@ -200,6 +200,7 @@ fn print_totals(totals: &Totals) {
         "    {} runs without a known count of statements: a name is no text, and counting would convert it",
         grouped(runs::uncounted())
     );
+    println!("    {} equal runs with calls of fabs, floor, ceil or rint", grouped(runs::rounded()));
     totals.unchanged.print("loads and runs, richter unchanged");
     totals.covered_by_changed.print("programs with such a difference, and the changed Rust:");
     totals.changed.print("loads and runs, richter with the named differences changed, NaN canonical");

@@ -64,11 +64,17 @@ pub fn rules(variant: Variant, nan_as_nan: bool) -> Rules {
 
 thread_local! {
     static UNCOUNTED: Cell<u64> = const { Cell::new(0) };
+    static ROUNDED: Cell<u64> = const { Cell::new(0) };
 }
 
 /// How many runs of the Rust were compared without their count of statements.
 pub fn uncounted() -> u64 {
     UNCOUNTED.with(Cell::get)
+}
+
+/// How many equal runs called builtins: those that are done here, fabs, floor, ceil and rint.
+pub fn rounded() -> u64 {
+    ROUNDED.with(Cell::get)
 }
 
 /// The Rust's level, and a second one that counts where counting could panic.
@@ -95,7 +101,7 @@ impl Levels {
             return (seen, false);
         }
         seen.fetched = counted.fetched;
-        seen.builtin_at = counted.builtin_at;
+        seen.builtins_at = counted.builtins_at;
         (seen, true)
     }
 }
@@ -121,6 +127,9 @@ pub fn verdicts(case: &Case, performed: &Performed, variant: Variant, rules: Rul
             UNCOUNTED.with(|n| n.set(n.get() + 1));
         }
         let verdict = verdict(&call, rules, &seen, left);
+        if matches!(verdict, Verdict::Same { .. }) && !seen.builtins_at.is_empty() {
+            ROUNDED.with(|n| n.set(n.get() + 1));
+        }
         let goes_on = verdict == Verdict::Same { traces: false } && seen.end == End::Done;
         all.push(verdict);
         if !goes_on {

@@ -129,7 +129,7 @@ fn agrees_with_pr_exec(case: &Case) -> bool {
 }
 
 fn ended(view: &View, variant: Variant, seen: &Seen) -> Option<String> {
-    if seen.builtin_at.is_some() {
+    if !seen.builtins_at.is_empty() {
         return None;
     }
     let state = &seen.observed;

@@ -2,7 +2,7 @@
 //! the logger. With the level off, which is how the benchmark runs, nothing is logged.
 
 use log::{LevelFilter, Log, Metadata, Record};
-use std::cell::Cell;
+use std::cell::{Cell, RefCell};
 use std::sync::OnceLock;
 
 /// Where the two messages stand in a `server/mod.rs`.
@@ -16,7 +16,7 @@ static LINES: OnceLock<Vec<Lines>> = OnceLock::new();
 
 thread_local! {
     static FETCHED: Cell<u64> = const { Cell::new(0) };
-    static BUILTIN_AT: Cell<Option<u64>> = const { Cell::new(None) };
+    static BUILTINS_AT: RefCell<Vec<u64>> = const { RefCell::new(Vec::new()) };
 }
 
 fn line_of(source: &str, text: &str) -> u32 {
@@ -43,7 +43,7 @@ impl Log for Counter {
                 FETCHED.with(|n| n.set(n.get() + 1));
             }
             if record.line() == Some(lines.builtin) {
-                BUILTIN_AT.with(|at| at.set(Some(at.get().unwrap_or(fetched()))));
+                BUILTINS_AT.with(|at| at.borrow_mut().push(fetched()));
             }
         }
     }
@@ -69,7 +69,7 @@ pub fn install(modules: &[(&'static str, &str)]) {
 /// Counts from 0, or not at all.
 pub fn start(on: bool) {
     FETCHED.with(|n| n.set(0));
-    BUILTIN_AT.with(|at| at.set(None));
+    BUILTINS_AT.with(|at| at.borrow_mut().clear());
     log::set_max_level(if on {
         LevelFilter::Debug
     } else {
@@ -81,7 +81,7 @@ pub fn fetched() -> u64 {
     FETCHED.with(|n| n.get())
 }
 
-/// The count when the first builtin was called.
-pub fn builtin_at() -> Option<u64> {
-    BUILTIN_AT.with(|at| at.get())
+/// The count at each call of a builtin.
+pub fn builtins_at() -> Vec<u64> {
+    BUILTINS_AT.with(|at| at.borrow().clone())
 }
