@@ -14,6 +14,9 @@ returns-2 c =
     let o = c .before .before .before .before .before .before .before .before .before .before in
     (prints _ _ _ (l .refused-line2 .ensures .0) (load-refused _ _ _ (o .before .before .before .if1 .left) _ (o .load .ensures) _ (c .before .before .before .before .before .answer .given .1)), l .refused-line2 .ensures .1)
 
+enum-told : tie.Need-enum-told
+enum-told c = search needs
+
 state-line-requires : tie.Need-state-line-requires
 state-line-requires c κs = c .before .before .before .before .before .before .before .before .before .before .before .before .before .before .before .before .before .before .before .before .before .before .before .pre
 
@@ -27,5 +30,5 @@ returns-3 c =
 pub show-spec : {M : Type 1} → statement M
 show-spec =
     tie.close (tie.spec (λ c κs. search needs) (λ c. search needs) returns (λ c κs. search needs) (λ c. search needs) (λ c κs. search needs)
-    (λ c. search needs) (λ c. search needs) (λ c. search needs) returns-2 (λ c. search needs) (λ c κs. search needs) state-line-requires
+    (λ c. search needs) (λ c. search needs) (λ c. search needs) returns-2 enum-told (λ c κs. search needs) state-line-requires
     (λ c. search needs) (λ c. search needs) (λ c. search needs) returns-3)
