@@ -33,19 +33,36 @@ pub enum TypeCheck {
     Failed,
 }
 
-// The type of the first definition of a cell.
+// The type of the first definition of a cell. A turn of the loop looks at two definitions, so that the test for the end is made half as often; the
+// first one of an odd number comes before them.
 pub fn find(defs: &[u8], cell: usize) -> u16
     ensures { λ r. ⌜ r ≡ lookup (definitionsIn (now (defs .entry))) cell ⌝ }
 {
-    if defs.len() < DEFINITION_SIZE {
+    if 65536 <= cell {
         return UNTYPED;
     }
-    let def = reads::read_definition(defs, 0);
-    if def.offset as usize == cell {
-        def.kind % SAVE_FLAG
-    } else {
-        find(&defs[DEFINITION_SIZE..], cell)
+    let wanted = cell as u16;
+    let end = defs.len() / DEFINITION_SIZE;
+    let mut i = end % 2;
+    if i == 1 {
+        if reads::u16_at(defs, 2) == wanted {
+            return reads::u16_at(defs, 0) % SAVE_FLAG;
+        }
     }
+    let found = loop {
+        if i == end {
+            break UNTYPED;
+        }
+        let at = DEFINITION_SIZE * i;
+        if reads::u16_at(defs, at + 2) == wanted {
+            break reads::u16_at(defs, at) % SAVE_FLAG;
+        }
+        if reads::u16_at(defs, at + 10) == wanted {
+            break reads::u16_at(defs, at + 8) % SAVE_FLAG;
+        }
+        i += 2;
+    };
+    found
 }
 
 fn scalar(t: u16) -> u16

@@ -61,10 +61,6 @@ pub struct Run {
 ///
 /// Before a load is accepted the context is of zeros, and every operation on it is refused 13.
 ///
-/// The library looks a cell's type up by a recursion down the file's definitions, with 32 bytes of stack for each. The
-/// longest accepted file has 131,000 of them, which takes 4 MB: where files aren't your own, use the machine on a thread
-/// with 8 MB, as a process's first one has, and not on one of Rust's with 2 MB.
-///
 /// ```
 /// use host::assemble::Assembly;
 /// use host::{Machine, Refusal, CELLS, SAVED_STORE};

@@ -3,7 +3,6 @@
 
 use std::fs;
 use std::path::Path;
-use std::thread;
 
 use host::{Context, Handover, Lump, Machine, Outcome, Refusal, RunOutcome, CELLS, SAVED_STORE};
 
@@ -249,14 +248,8 @@ fn perform(machine: &mut Machine, name: &str, given: &[i64]) -> Answer {
     }
 }
 
-/// The last list has a file of 129,000 definitions, and a lookup recurses down them; see `Machine`.
 #[test]
 fn lists_of_calls() {
-    let thread = thread::Builder::new().stack_size(8 << 20);
-    thread.spawn(perform_lists).unwrap().join().unwrap();
-}
-
-fn perform_lists() {
     let numbered = |first: u32, count: &str| -> Vec<u32> {
         (0..count.parse().unwrap()).map(|i| first + i).collect()
     };

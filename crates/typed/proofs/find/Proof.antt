@@ -1,0 +1,66 @@
+-- The definitions from number i on give what all of them give, and their number is even.
+use Prim.Native.Nat.{_+_, _-_, _*_, _/_, _%_, _≤_}
+use mathlib.Core.Path.{_≡_, refl, _∙_}
+use mathlib.Core.Logic.{⊎-elim}
+use native.Mathlib.Omega.{arith}
+use lib.ListN.{length}
+use borrow.Author.Needs.{needs}
+use Rattle.definition.specs.Cells.{lookup}
+use Rattle.functions.specs.Parts.{definitionsIn}
+use Rattle.functions.specs.PartLaws.{record-ends}
+use Rattle.typed.proofs.Lookup.{rest, none-left, found-at, passed-over, from-the-first, odd-start, even-start, none-so-high}
+use Rattle.typed.proofs.find.Statement.{statement}
+use Rattle.typed.proofs.find.Tie as tie
+
+abbrev Inv-loop : tie.InvT-loop
+Inv-loop defs cell wanted end i₀ i =
+    (i ≤ length defs / 8) × ((length defs / 8 - i) % 2 ≡ 0) × (lookup (rest defs i) cell ≡ lookup (definitionsIn defs) cell)
+
+abbrev μ-loop : tie.MeasureT-loop
+μ-loop defs cell wanted end i₀ i = length defs / 8 - i
+
+-- the two definitions of a turn are there
+ends : (c : tie.Else4 Inv-loop μ-loop) → 8 * c .before .loop .i + 16 ≤ length (c .before .before .before .before .before .args .defs .now)
+ends c = omega (arith, record-ends 8 (length (c .before .before .before .before .before .args .defs .now)) (c .before .loop .i + 1) (omega arith) (omega arith))
+
+loop-holds : tie.Need-loop-holds Inv-loop μ-loop
+loop-holds c =
+    (omega arith, omega arith, ⊎-elim (λ w. odd-start _ _ (w .0 .taken) _ (w .1 .ensures) (w .2 .left)) (λ w. even-start _ _ (w .left)) (c .if2 .came))
+
+loop-again : tie.Need-loop-again Inv-loop μ-loop
+loop-again c =
+    let l = c .before .before .before .before .before in
+    let two : l .loop .i + 2 ≡ l .loop .i + 1 + 1 = omega arith in (
+      omega arith,
+      omega arith,
+      rw two (passed-over _ _ _ (omega arith) _ _ (omega arith) (c .before .u16-at5 .ensures) (c .if6 .left) ∙ passed-over _ _ _ (omega arith) _ _ refl (c .before .before .before .u16-at3 .ensures) (c .before .before .if5 .left) ∙ l .loop .inv .2),
+    )
+
+pub find-spec : {M : Type 1} → statement M
+find-spec =
+    tie.close
+    (tie.spec
+    Inv-loop
+    μ-loop
+    (λ c. none-so-high _ _ (λ k. c .before .shared-slice-known .given k .fits) (c .if1 .taken))
+    (λ c. search needs)
+    (λ c κs. omega (arith, record-ends 8 (length (c .before .before .before .args .defs .now)) 0 (omega arith) (omega arith)))
+    (λ c κs. omega (arith, record-ends 8 (length (c .before .before .before .before .before .args .defs .now)) 0 (omega arith) (omega arith)))
+    (λ c. found-at _ _ 0 (omega arith) 2 0 _ _ refl refl (c .before .before .u16-at .ensures) (c .u16-at2 .ensures) (c .before .if3 .taken) ∙ from-the-first _ _)
+    loop-holds
+    (λ c. omega (arith, ends c))
+    (λ c. omega (arith, ends c))
+    (λ c κs. omega (arith, ends c))
+    (λ c κs. omega (arith, ends (c .before .before)))
+    (λ c. omega (arith, ends (c .before .before)))
+    (λ c κs. omega (arith, ends (c .before .before)))
+    (λ c. omega (arith, ends (c .before .before .before .before)))
+    (λ c κs. omega (arith, ends (c .before .before .before .before)))
+    (λ c. omega (arith, ends (c .before .before .before .before)))
+    (λ c. omega arith)
+    loop-again
+    (λ c. none-left _ _ _ (c .if4 .taken) ∙ c .before .loop .inv .2)
+    (λ c. found-at _ _ _ (omega arith) _ _ _ _ refl refl (c .before .before .u16-at3 .ensures) (c .u16-at4 .ensures) (c .before .if5 .taken) ∙ c .before .before .before .before .loop .inv .2)
+    (λ c. found-at _ _ _ (omega arith) _ _ _ _ (omega arith) (omega arith) (c .before .before .u16-at5 .ensures) (c .u16-at6 .ensures) (c .before .if6 .taken)
+    ∙ passed-over _ _ _ (omega arith) _ _ refl (c .before .before .before .before .u16-at3 .ensures) (c .before .before .before .if5 .left)
+    ∙ c .before .before .before .before .before .before .loop .inv .2))
