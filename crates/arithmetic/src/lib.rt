@@ -1,4 +1,4 @@
-// Float and vector arithmetic, and comparisons of floats and vectors. A function here stands for the Rust's functions that its comment lists.
+// Float and vector arithmetic, comparisons of floats and vectors, and the rounding builtins. A function here stands for the Rust's functions that its comment lists.
 use definition::Answer;
 use functions::fetch;
 ghost use mathlib.Core.Path.{_≡_};

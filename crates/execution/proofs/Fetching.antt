@@ -15,7 +15,8 @@ use Rattle.definition.specs.File.{Contents, contentsAt}
 use Rattle.functions.specs.Parts.{partOf, functionsIn}
 use Rattle.functions.specs.Laws.{AllFit}
 use Rattle.typed.specs.Typing.{typing}
-use Rattle.definition.specs.Statements.{Does, orRefused, provided, fetchConditions, statementAt, execute, doesAt, branchesDo, callDoes, shapeOf}
+use Rattle.definition.specs.Statements.{Does, orRefused, provided, fetchConditions, statementAt, execute, doesAt, branchesDo, callDoes, executeAs}
+use Rattle.definition.specs.Statements.{Shape, floats, values, vectors, vectorsToFloat, strings, negates, negatesV, negatesS, stores, storesV, branches, jumps, call, return, host, shapeOf}
 use Rattle.definition.specs.Operations.{isHandedOver}
 use Rattle.functions.specs.declared.fetch.Fetched.the-variants.{At, Refused}
 use Rattle.functions.specs.Answers.{fetched}
@@ -24,12 +25,11 @@ use Rattle.execution.specs.declared.Callee.{Callee}
 use Rattle.execution.specs.declared.Callee.the-variants as callee
 use Rattle.execution.specs.declared.Executed.{Executed}
 use Rattle.execution.specs.declared.Executed.the-variants as does
-use Rattle.execution.specs.declared.shapes.CellOp.{CellOp}
-use Rattle.execution.specs.declared.shapes.Shape as code
-use Rattle.execution.specs.declared.shapes.Shape.the-variants.{Cells, Branch, Goto, Call, Return, Host}
-use Rattle.execution.specs.Shapes.{isFloats, shapeAs, effectAs}
-use Rattle.execution.specs.Execution.{statement, executeWith, calleeDoes, executed, execution, on-parts}
-use Rattle.execution.proofs.Transfers.{does-is, effect-does, floats-does, call-is}
+use Rattle.execution.specs.declared.shapes.Shape.the-variants.{Call}
+use Rattle.execution.specs.Shapes.{isCall, isHost}
+use Rattle.execution.specs.Execution.{onlyFunctions, statement, executeWith, calleeDoes, executed, execution, on-parts}
+use Rattle.execution.proofs.Opcodes.{call-shape}
+use Rattle.execution.proofs.Transfers.{call-is}
 
 module _ (k : Contents) (p : ℤ) (cells : List ℕ) where
   refused-as : (n m : ℕ) (d : Does) → n ≡ m → 0 < n → executed (does.Refused n) cells ≡ execution (orRefused m d) cells
@@ -60,40 +60,36 @@ not-handed cs d h = by (judge cs)
     by zero = h
     by (suc n) = refl
 
--- only a Call and what is the host's can be
-abbrev mayBe : code.Shape → Bool
-mayBe (Cells what) = false
-mayBe (Branch when) = false
-mayBe Goto = false
-mayBe Call = true
-mayBe Return = false
-mayBe Host = true
-
-module _ (fs : List FunctionDef) (g : Typing) (p : ℤ) (op x y z : ℕ) (cells : List ℕ) (shape : code.Shape) (is : shapeAs shape op ≡ shapeOf op) where
+module _ (fs : List FunctionDef) (g : Typing) (p : ℤ) (op x y z : ℕ) (cells : List ℕ) where
   abbrev goal : Bool → Type 0
   goal b = b ≡ isHandedOver (executeWith fs g p (statement op x y z) cells)
 
-  pub never-handed : (s : code.Shape) → shape ≡ s → mayBe s ≡ false → goal false
-  unfolding branchesDo
-  never-handed (Cells what) t m =
-      sym (not-handed _ _ refl)
-      ∙ ap isHandedOver (sym (effect-does what fs g p op x y z cells) ∙ does-is fs g p op x y z cells shape (Cells what) t is)
-  never-handed (Branch when) t m = sym (not-handed _ _ refl) ∙ ap isHandedOver (does-is fs g p op x y z cells shape (Branch when) t is)
-  never-handed Goto t m = ap isHandedOver (does-is fs g p op x y z cells shape Goto t is)
-  never-handed Call t m = absurd (true≢false m)
-  never-handed Return t m = ap isHandedOver (does-is fs g p op x y z cells shape Return t is)
-  never-handed Host t m = absurd (true≢false m)
+  -- of what is no Call, what is the host's
+  pub other-handed : (b : Bool) → isCall (shapeOf op) ≡ false → b ≡ isHost (shapeOf op) → goal b
+  unfolding executeWith branchesDo
+  other-handed b other e = e ∙ by (shapeOf op) other
+    where
+      by : (s : Shape) → isCall s ≡ false
+          → isHost s ≡ isHandedOver (executeAs s (onlyFunctions fs) g p (statement op x y z) (cellOf x) (cellOf y) (cellOf z) cells)
+      by (floats f) e = sym (not-handed _ _ refl)
+      by (values t f) e = sym (not-handed _ _ refl)
+      by (vectors ta tb f) e = sym (not-handed _ _ refl)
+      by (vectorsToFloat f) e = sym (not-handed _ _ refl)
+      by (strings f) e = sym (not-handed _ _ refl)
+      by (negates t f) e = sym (not-handed _ _ refl)
+      by negatesV e = sym (not-handed _ _ refl)
+      by negatesS e = sym (not-handed _ _ refl)
+      by (stores t) e = sym (not-handed _ _ refl)
+      by storesV e = sym (not-handed _ _ refl)
+      by (branches when) e = sym (not-handed _ _ refl)
+      by jumps e = refl
+      by call e = absurd (true≢false e)
+      by return e = refl
+      by host e = refl
 
-  pub host-handed : shape ≡ Host → goal true
-  host-handed t = ap isHandedOver (does-is fs g p op x y z cells shape Host t is)
-
-  pub call-handed : shape ≡ Call → (a : ℕ) → a ≡ cellOf x → (b : Bool) (c : Callee) → b ≡ isHandedOver (calleeDoes c g p cells)
+  pub call-handed : isCall (shapeOf op) ≡ true → (a : ℕ) → a ≡ cellOf x → (b : Bool) (c : Callee) → b ≡ isHandedOver (calleeDoes c g p cells)
       → calleeDoes c g p cells ≡ callDoes fs g p a cells → goal b
-  call-handed t a e b c h k = h ∙ ap isHandedOver (call-is fs g p op x y z cells shape t is a e c k)
-
-pub floats-not-handed : (fs : List FunctionDef) (g : Typing) (p : ℤ) (op x y z : ℕ) (cells : List ℕ) → isFloats (shapeOf op) ≡ true
-    → false ≡ isHandedOver (executeWith fs g p (statement op x y z) cells)
-floats-not-handed fs g p op x y z cells is = sym (not-handed _ _ refl) ∙ ap isHandedOver (floats-does fs g p op x y z cells is)
+  call-handed t a e b c h k = h ∙ ap isHandedOver (call-is fs g p op x y z cells Call refl (call-shape (shapeOf op) t) a e c k)
 
 pub handed-known : (c known : Callee) (b : Bool) → c ≡ known → ((g : Typing) (p : ℤ) (cells : List ℕ) → b ≡ isHandedOver (calleeDoes known g p cells))
     → (g : Typing) (p : ℤ) (cells : List ℕ) → b ≡ isHandedOver (calleeDoes c g p cells)

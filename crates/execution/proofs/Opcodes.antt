@@ -13,7 +13,7 @@ use Rattle.floats.specs.Opcodes.{floatsOf, floatOp}
 use Rattle.floats.proofs.Opcodes.{among, Missed, missed}
 use Rattle.execution.specs.declared.shapes.Shape as code
 use Rattle.execution.specs.declared.shapes.Shape.the-variants.{Call, Host}
-use Rattle.execution.specs.Shapes.{isFloats, shapeAs}
+use Rattle.execution.specs.Shapes.{isFloats, isCall, isHost, shapeAs}
 
 -- a test of each row of the table holds of each opcode's
 row : (f : ℕ → Shape → Bool) (op : ℕ) → op < 66 → every f 0 opcodes ≡ true → f op (shapeOf op) ≡ true
@@ -73,62 +73,37 @@ at s k op e h = rw e h
 abbrev pub isCallNumber : ℕ → Bool
 isCallNumber op = leb 51 op && leb op 59
 
-abbrev isCall : Shape → Bool
-isCall (floats f) = false
-isCall (values t f) = false
-isCall (vectors ta tb f) = false
-isCall (vectorsToFloat f) = false
-isCall (strings f) = false
-isCall (negates t f) = false
-isCall negatesV = false
-isCall negatesS = false
-isCall (stores t) = false
-isCall storesV = false
-isCall (branches when) = false
-isCall jumps = false
-isCall call = true
-isCall return = false
-isCall host = false
+pub call-shape : (s : Shape) → isCall s ≡ true → call ≡ s
+call-shape (floats f) e = absurd (true≢false (sym e))
+call-shape (values t f) e = absurd (true≢false (sym e))
+call-shape (vectors ta tb f) e = absurd (true≢false (sym e))
+call-shape (vectorsToFloat f) e = absurd (true≢false (sym e))
+call-shape (strings f) e = absurd (true≢false (sym e))
+call-shape (negates t f) e = absurd (true≢false (sym e))
+call-shape negatesV e = absurd (true≢false (sym e))
+call-shape negatesS e = absurd (true≢false (sym e))
+call-shape (stores t) e = absurd (true≢false (sym e))
+call-shape storesV e = absurd (true≢false (sym e))
+call-shape (branches when) e = absurd (true≢false (sym e))
+call-shape jumps e = absurd (true≢false (sym e))
+call-shape call e = refl
+call-shape return e = absurd (true≢false (sym e))
+call-shape host e = absurd (true≢false (sym e))
 
-call-is : (s : Shape) → isCall s ≡ true → call ≡ s
-call-is (floats f) e = absurd (true≢false (sym e))
-call-is (values t f) e = absurd (true≢false (sym e))
-call-is (vectors ta tb f) e = absurd (true≢false (sym e))
-call-is (vectorsToFloat f) e = absurd (true≢false (sym e))
-call-is (strings f) e = absurd (true≢false (sym e))
-call-is (negates t f) e = absurd (true≢false (sym e))
-call-is negatesV e = absurd (true≢false (sym e))
-call-is negatesS e = absurd (true≢false (sym e))
-call-is (stores t) e = absurd (true≢false (sym e))
-call-is storesV e = absurd (true≢false (sym e))
-call-is (branches when) e = absurd (true≢false (sym e))
-call-is jumps e = absurd (true≢false (sym e))
-call-is call e = refl
-call-is return e = absurd (true≢false (sym e))
-call-is host e = absurd (true≢false (sym e))
+module _ (op : ℕ) (known : op < 66) where
+  pub call-number-is : isCallNumber op ≡ isCall (shapeOf op)
+  unfolding opcodes
+  call-number-is = same op known _ _ (row (λ n s. Bool·beq (isCallNumber n) (isCall s)) op known refl)
+
+  pub host-bit-is : eqb (1152930165391622144 / 2 ^ (op % 64) % 2) 1 ≡ isHost (shapeOf op)
+  unfolding opcodes
+  host-bit-is = same op known _ _ (row (λ n s. Bool·beq (eqb (1152930165391622144 / 2 ^ (n % 64) % 2) 1) (isHost s)) op known refl)
 
 pub is-call : (op : ℕ) → op < 66 → isCallNumber op ≡ true → shapeAs Call op ≡ shapeOf op
 unfolding opcodes
-is-call op h e = call-is (shapeOf op) (rw e at (row (λ n s. not (isCallNumber n) || isCall s) op h refl))
+is-call op h e = call-shape (shapeOf op) (rw e at (row (λ n s. not (isCallNumber n) || isCall s) op h refl))
 
 -- ---- the last arm
-
-abbrev isHost : Shape → Bool
-isHost (floats f) = false
-isHost (values t f) = false
-isHost (vectors ta tb f) = false
-isHost (vectorsToFloat f) = false
-isHost (strings f) = false
-isHost (negates t f) = false
-isHost negatesV = false
-isHost negatesS = false
-isHost (stores t) = false
-isHost storesV = false
-isHost (branches when) = false
-isHost jumps = false
-isHost call = false
-isHost return = false
-isHost host = true
 
 host-is : (s : Shape) → isHost s ≡ true → host ≡ s
 host-is (floats f) e = absurd (true≢false (sym e))

@@ -3,7 +3,7 @@ use Prim.Native.Nat.{ℕ}
 use mathlib.Core.List.{List}
 use mathlib.Core.Bool.{Bool, true, false}
 use Rattle.definition.specs.Cells.{Typing}
-use Rattle.definition.specs.Statements.{Shape, values, vectors, vectorsToFloat, strings, negates, negatesV, negatesS, stores, storesV, branches, jumps, call, return, host}
+use Rattle.definition.specs.Statements.{Shape, floats, values, vectors, vectorsToFloat, strings, negates, negatesV, negatesS, stores, storesV, branches, jumps, call, return, host}
 use Rattle.definition.specs.Statements.{Effect, valuesEffect, vectorsEffect, vectorsToFloatEffect, stringsEffect, negatesEffect, negatesVEffect, negatesSEffect, storesEffect, storesVEffect}
 use Rattle.floats.specs.Opcodes.{byShape, valueOp, componentOp, vectorsToFloatOp, notOp}
 use Rattle.execution.specs.declared.shapes.CellOp.{CellOp}
@@ -13,6 +13,42 @@ use Rattle.execution.specs.declared.shapes.Shape.the-variants.{Cells, Br
 
 abbrev pub isFloats : Shape → Bool
 isFloats = byShape (λ g. true) (λ g. false) (λ g. false) (λ g. false) (λ g. false) false
+
+-- Call0 to Call8
+abbrev pub isCall : Shape → Bool
+isCall (floats f) = false
+isCall (values t f) = false
+isCall (vectors ta tb f) = false
+isCall (vectorsToFloat f) = false
+isCall (strings f) = false
+isCall (negates t f) = false
+isCall negatesV = false
+isCall negatesS = false
+isCall (stores t) = false
+isCall storesV = false
+isCall (branches when) = false
+isCall jumps = false
+isCall call = true
+isCall return = false
+isCall host = false
+
+-- "go to the host"
+abbrev pub isHost : Shape → Bool
+isHost (floats f) = false
+isHost (values t f) = false
+isHost (vectors ta tb f) = false
+isHost (vectorsToFloat f) = false
+isHost (strings f) = false
+isHost (negates t f) = false
+isHost negatesV = false
+isHost negatesS = false
+isHost (stores t) = false
+isHost storesV = false
+isHost (branches when) = false
+isHost jumps = false
+isHost call = false
+isHost return = false
+isHost host = true
 
 abbrev pub cellShape : CellOp → ℕ → Shape
 cellShape (Values t) op = values t (valueOp op)

@@ -227,30 +227,21 @@ fn is_hosts(callee: Callee) -> bool
     }
 }
 
-// Whether a statement, with the cells as they are, would be handed over: only a Call and what is the host's can be.
+// Whether a statement, with the cells as they are, would be handed over: only a Call and what is the host's can be. (It doesn't ask for
+// the shape: `shape_of` is part of the run's loop where it has one caller.)
 pub fn hands_over(file: &[u8], recorded: FileRecord, cells: &[u32], s: Statement) -> bool
     requires { ⌜ Usable (length (now file)) recorded (length (now cells)) ⌝ }
     requires { ⌜ s .opcode < 66 ⌝ }
     ensures { λ r. ⌜ ((p : ℤ) → r ≡ isHandedOver (execute (contentsAt recorded (now (file .entry))) p s (now (cells .entry)))) ⌝ }
 {
-    if shapes::is_floats(s.opcode) {
-        return false;
+    if !shapes::is_call(s.opcode) {
+        return shapes::is_host(s.opcode);
     }
-    let shape = shapes::shape_of(s.opcode);
-    match shape {
-        Shape::Cells(_what) => return false,
-        Shape::Branch(_when) => return false,
-        Shape::Goto => return false,
-        Shape::Call => {
-            let defs = parts::part(file, DEFINITION_SIZE, recorded.globaldefs);
-            let functions = parts::part(file, FUNCTION_SIZE, recorded.functions);
-            let count = recorded.globals.count;
-            let callee = callee_at(defs, functions, count, cells, fetch::cell_of(s.arg1));
-            return is_hosts(callee);
-        }
-        Shape::Return => return false,
-        Shape::Host => return true,
-    }
+    let defs = parts::part(file, DEFINITION_SIZE, recorded.globaldefs);
+    let functions = parts::part(file, FUNCTION_SIZE, recorded.functions);
+    let count = recorded.globals.count;
+    let callee = callee_at(defs, functions, count, cells, fetch::cell_of(s.arg1));
+    is_hosts(callee)
 }
 
 // What the statement at a position does; one that writes cells has done so.

@@ -10,7 +10,7 @@ ghost use mathlib.Core.Path.{_≡_};
 ghost use mathlib.Core.Bool.{false};
 ghost use Prim.Native.Nat.{_<_};
 ghost use Rattle.definition.specs.Statements.{shapeOf};
-ghost use Rattle.execution.specs.Shapes.{isFloats, shapeAs};
+ghost use Rattle.execution.specs.Shapes.{isFloats, isCall, isHost, shapeAs};
 
 // The shapes that write cells, with the types of their operands where these differ. That of two floats to a float isn't here: it is told by one bit.
 pub enum CellOp {
@@ -47,6 +47,23 @@ pub fn is_floats(op: u16) -> bool
         return true;
     }
     (FLOATS >> (op % 64)) % 2 == 1
+}
+
+pub fn is_call(op: u16) -> bool
+    requires { ⌜ op < 66 ⌝ }
+    ensures { λ r. ⌜ r ≡ isCall (shapeOf op) ⌝ }
+{
+    (ops::CALL_0 <= op) & (op <= ops::CALL_8)
+}
+
+// Bit k is that of opcode k: whether it goes to the host.
+const HOST: u64 = 0x1000_07e0_7f00_0000;
+
+pub fn is_host(op: u16) -> bool
+    requires { ⌜ op < 66 ⌝ }
+    ensures { λ r. ⌜ r ≡ isHost (shapeOf op) ⌝ }
+{
+    (HOST >> (op % 64)) % 2 == 1
 }
 
 // The shape of any other opcode. One number to an arm and a `return` in each: the prover reads consecutive numbers in one arm as ranges.

@@ -7,7 +7,6 @@ use std::fs;
 use std::io::{self, BufRead, BufWriter, Write};
 use std::num::{IntErrorKind, ParseIntError};
 use std::process::ExitCode;
-use std::thread;
 
 use host::{Handover, LoadError, Machine, Outcome, Refusal, RunOutcome};
 
@@ -21,9 +20,6 @@ const FIRST_SAVED: u32 = 2_684_354_560;
 
 /// A longer file is answered by its length alone, as this one is: refused 1 or 13.
 const TOO_LONG: usize = 1_048_577;
-
-/// Enough for the lookup of a type in the longest file, however small the first thread's stack is.
-const STACK: usize = 16 << 20;
 
 /// A line of the input.
 enum Line {
@@ -290,17 +286,11 @@ fn main() -> ExitCode {
         eprintln!("usage: replay PROGRAM < CALLS");
         return ExitCode::from(2);
     };
-    let thread = thread::Builder::new().stack_size(STACK);
-    let done = thread
-        .spawn(|| replay_file(path))
-        .map(|replay| replay.join());
-    match done {
-        Ok(Ok(Ok(()))) => ExitCode::SUCCESS,
-        Ok(Ok(Err(error))) | Err(error) => {
+    match replay_file(path) {
+        Ok(()) => ExitCode::SUCCESS,
+        Err(error) => {
             eprintln!("replay: {error}");
             ExitCode::FAILURE
         }
-        // The thread has said why.
-        Ok(Err(_panic)) => ExitCode::FAILURE,
     }
 }
