@@ -17,7 +17,7 @@ pub mod load;
 mod raw;
 mod state;
 
-// All that an operation leaves for the next, beside the lent bytes, cells and saved store.
+// All that an operation leaves for the next, beside the lent bytes, cells, saved store and entity cells.
 #[repr(C)]
 pub struct ExecutionContext {
     pub file: FileRecord,
@@ -26,6 +26,8 @@ pub struct ExecutionContext {
     // How many frames are in use, and how many cells of the saved store.
     pub depth: usize,
     pub saved: usize,
+    // How many entities there are (document 02, R-3).
+    pub entity_count: usize,
     pub frames: [StackFrame; GREATEST_DEPTH],
 }
 
