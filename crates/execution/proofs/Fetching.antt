@@ -2,7 +2,7 @@
 use Prim.Native.Nat.{ℕ, zero, suc, _<_, _≤_}
 use mathlib.Core.Path.{_≡_, refl, sym, _∙_, ap}
 use mathlib.Core.List.{List}
-use mathlib.Core.Bool.{Bool, true, false, true≢false}
+use mathlib.Core.Bool.{Bool, true, false, true≢false, not}
 use native.Mathlib.Omega.{arith}
 use lib.IntN.{ℤ, pos}
 use lib.ListN.{length}
@@ -14,21 +14,21 @@ use Rattle.definition.specs.declared.FileRecord.{FileRecord}
 use Rattle.definition.specs.File.{Contents, contentsAt}
 use Rattle.functions.specs.Parts.{partOf, functionsIn}
 use Rattle.functions.specs.Laws.{AllFit}
-use Rattle.definition.specs.Statements.{Entities, Does, orRefused, provided, fetchConditions, statementAt, execute, doesAt, branchesDo, callDoes, Tables, executeAs, executeIn}
+use Rattle.definition.specs.Statements.{Entities, Does, orRefused, provided, fetchConditions, statementAt, execute, doesAt, branchesDo, builtinDoes, callDoes, Tables, executeAs, executeIn}
 use Rattle.definition.specs.Statements.{Shape, floats, values, vectors, vectorsToFloat, strings, negates, negatesV, negatesS, stores, storesV, loads, addresses, storesP, branches, jumps, call, return, host, shapeOf}
 use Rattle.definition.specs.Operations.{isHandedOver}
 use Rattle.functions.specs.declared.fetch.Fetched.the-variants.{At, Refused}
 use Rattle.functions.specs.Answers.{fetched}
 use Rattle.functions.specs.Laws.{FetchedAt, fetch-accepts, fetch-refuses}
-use Rattle.execution.specs.declared.Callee.{Callee}
-use Rattle.execution.specs.declared.Callee.the-variants as callee
+use Rattle.definition.specs.Floats.{roundingOf}
+use Rattle.floats.specs.Rounding.{isRounding}
 use Rattle.execution.specs.declared.Executed.{Executed}
 use Rattle.execution.specs.declared.Executed.the-variants as does
 use Rattle.execution.specs.declared.shapes.Shape.the-variants.{Call}
 use Rattle.execution.specs.Shapes.{isCall, isHost}
 use Rattle.execution.specs.Execution.{statement, calleeDoes, executed, execution, tablesIn, on-parts}
 use Rattle.execution.proofs.Opcodes.{call-shape}
-use Rattle.execution.proofs.Transfers.{call-is}
+use Rattle.execution.proofs.Transfers.{does-is, builtin-rounds, builtin-hosts}
 
 module _ (k : Contents) (p : ℤ) (e : Entities) (cells : List ℕ) where
   refused-as : (n m : ℕ) (d : Does) → n ≡ m → 0 < n → executed (does.Refused n) cells (e .cells) ≡ execution (orRefused m d) cells (e .cells)
@@ -88,16 +88,17 @@ module _ (k : Tables) (p : ℤ) (op x y z : ℕ) (e : Entities) (cells : List �
       by return q = refl
       by host q = refl
 
-  pub call-handed : isCall (shapeOf op) ≡ true → (a : ℕ) → a ≡ cellOf x → (b : Bool) (c : Callee) → b ≡ isHandedOver (calleeDoes c (k .globals) p cells)
-      → calleeDoes c (k .globals) p cells ≡ callDoes (k .functions) (k .globals) p a cells → goal b
-  call-handed t a q b c h found = h ∙ ap isHandedOver (call-is k p op x y z e cells Call refl (call-shape (shapeOf op) t) a q c found)
+  -- of a Call, what its callee comes to
+  pub call-handed : isCall (shapeOf op) ≡ true → (a : ℕ) → a ≡ cellOf x → (b : Bool) → b ≡ isHandedOver (callDoes (k .functions) (k .globals) p a cells) → goal b
+  call-handed t a q b h = h ∙ ap (λ (i : ℕ). isHandedOver (callDoes (k .functions) (k .globals) p i cells)) q ∙ ap isHandedOver (does-is k p op x y z e cells Call Call refl (call-shape (shapeOf op) t))
 
-pub handed-known : (c known : Callee) (b : Bool) → c ≡ known → ((g : Typing) (p : ℤ) (cells : List ℕ) → b ≡ isHandedOver (calleeDoes known g p cells))
-    → (g : Typing) (p : ℤ) (cells : List ℕ) → b ≡ isHandedOver (calleeDoes c g p cells)
-handed-known c known b e h g p cells = h g p cells ∙ ap (λ (d : Callee). isHandedOver (calleeDoes d g p cells)) (sym e)
-
-pub rounding-not-handed : (n : ℕ) (g : Typing) (p : ℤ) (cells : List ℕ) → false ≡ isHandedOver (calleeDoes (callee.Rounding n) g p cells)
-rounding-not-handed n g p cells = sym (not-handed _ _ refl)
+-- a builtin is the host's unless the machine does it
+pub builtin-handed : (n : ℕ) (g : Typing) (p : ℤ) (cells : List ℕ) → not (isRounding n) ≡ isHandedOver (builtinDoes (roundingOf n) n g p cells)
+builtin-handed n g p cells = go (isRounding n) refl
+  where
+    go : (b : Bool) → isRounding n ≡ b → not b ≡ isHandedOver (builtinDoes (roundingOf n) n g p cells)
+    go true h = sym (not-handed _ _ refl) ∙ ap isHandedOver (builtin-rounds n g p cells h)
+    go false h = ap isHandedOver (builtin-hosts n g p cells h)
 
 pub handed-here : (r : FileRecord) (file : List ℕ) → AllFit (length file) r → (functions defs fields : List ℕ) → functions ≡ partOf 36 (r .functions) file
     → defs ≡ partOf 8 (r .globaldefs) file → fields ≡ partOf 8 (r .fielddefs) file → (p : ℤ) (st : Statement) (e : Entities) (cells : List ℕ) (b : Bool)

@@ -268,15 +268,28 @@ pub fn execute(
     }
 }
 
-fn is_hosts(callee: Callee) -> bool
-    ensures { λ r. ⌜ ((g : Typing) (p : ℤ) (cells : List ℕ) → r ≡ isHandedOver (calleeDoes callee g p cells)) ⌝ }
+// Whether a Call of the function with a number is handed over. (What `callee_of` finds is more than carrying on needs: with one caller it is part of the
+// run's loop.)
+fn calls_host(functions: &[u8], value: u32) -> bool
+    ensures { λ r. ⌜ ((g : Typing) (p : ℤ) (cells : List ℕ) → r ≡ isHandedOver (callOf (functionsIn (now (functions .entry))) g p value cells)) ⌝ }
 {
-    match callee {
-        Callee::Function(_f) => return false,
-        Callee::Rounding(_n) => return false,
-        Callee::Host(_n) => return true,
-        Callee::Refused(_r) => return false,
+    if value == 0 {
+        return false;
     }
+    let functions::FunctionId::Id(f) = functions::id_from_i32(
+        value,
+        functions.len() / FUNCTION_SIZE,
+    ) else {
+        return false;
+    };
+    let def = functions::get_def(functions, f);
+    if !functions::is_builtin(def) {
+        return false;
+    }
+    if !functions::builtin_known(def) {
+        return false;
+    }
+    !rounding::is_rounding(functions::builtin_of(def))
 }
 
 // Whether a statement, with the cells as they are, would be handed over: only a Call and what is the host's can be. (It doesn't ask for
@@ -290,10 +303,11 @@ pub fn hands_over(file: &[u8], recorded: FileRecord, cells: &[u32], s: Statement
         return shapes::is_host(s.opcode);
     }
     let defs = parts::part(file, DEFINITION_SIZE, recorded.globaldefs);
-    let functions = parts::part(file, FUNCTION_SIZE, recorded.functions);
-    let count = recorded.globals.count;
-    let callee = callee_at(defs, functions, count, cells, fetch::cell_of(s.arg1));
-    is_hosts(callee)
+    let a = fetch::cell_of(s.arg1);
+    if typed::check_cell(defs, recorded.globals.count, typed::FUNCTION, a) != 0 {
+        return false;
+    }
+    calls_host(parts::part(file, FUNCTION_SIZE, recorded.functions), cells[a])
 }
 
 // What the statement at a position does; one that writes cells or entity cells has done so.

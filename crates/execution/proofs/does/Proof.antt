@@ -29,7 +29,7 @@ execute-requires : tie.Need-execute-requires
 execute-requires c κs =
     let s = c .before .before .before .before .before .before .before .before .before .before in
     let a = fetch-accepts _ _ _ _ (sym (c .before .before .before .fetched2 .given .1) ∙ fetched-here (c .before .before .before .before .before)) in
-    ((s .pre .0, s .pre .1), (omega (arith, a .there, count-statements (s .args .recorded) (s .args .file .now), lump-fitting 8 _ (s .args .recorded .statements) (s .pre .0 .lumps .statements) .count), a .opcode))
+    (s .pre .0, (s .pre .1, (omega (arith, a .there, count-statements (s .args .recorded) (s .args .file .now), lump-fitting 8 _ (s .args .recorded .statements) (s .pre .0 .lumps .statements) .count), a .opcode)))
 
 returns-2 : tie.Need-returns-2
 returns-2 c = is-fetched _ _ _ _ _ _ _ _ _ (sym (c .before .before .before .before .before .before .before .before .fetched2 .given .1) ∙ fetched-here (c .before .before .before .before .before .before .before .before .before .before)) (c .before .before .before .before .execute .ensures)
