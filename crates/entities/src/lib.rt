@@ -86,7 +86,14 @@ fn check_loads(
     }
     let a = at.a;
     let b = at.b;
-    check_loaded(fields, table, entities, t, reads::wide(cells[a]), reads::wide(cells[b]))
+    check_loaded(
+        fields,
+        table,
+        entities,
+        t,
+        reads::wide(cells[a]),
+        reads::wide(cells[b]),
+    )
 }
 
 // A value of type t: three cells of a vector, else one.
@@ -134,13 +141,7 @@ fn pointer_to(table: EntityTable, entity: usize, field: usize) -> usize
     (entity * table.size + field) * 4
 }
 
-fn check_address(
-    defs: &[u8],
-    count: usize,
-    table: EntityTable,
-    cells: &[u32],
-    at: Operands,
-) -> u8
+fn check_address(defs: &[u8], count: usize, table: EntityTable, cells: &[u32], at: Operands) -> u8
     requires { ⌜ (count ≤ length (now cells)) × Sized table ⌝ }
     ensures { λ r. ⌜ r ≡ addressRefusal (typing (now (defs .entry)) count) (table .number) (table .size) (at .a) (at .b) (at .c) (now (cells .entry)) ⌝ }
 {

@@ -8,13 +8,13 @@ use Rattle.entities.proofs.move_value.Statement.{statement}
 use Rattle.entities.proofs.move_value.Tie as tie
 
 shared-slice-read-to-2 : tie.Need-shared-slice-read-to-2
-shared-slice-read-to-2 c = let h = vector-reach _ _ _ (c .before .if1 .taken) (c .before .before .before .pre .0) in simp length-set (omega arith)
+shared-slice-read-to-2 c = let h = vector-reach _ _ _ (c .before .if1 .taken) (c .before .before .before .pre .0) in omega arith
 
 slice-write-to-2 : tie.Need-slice-write-to-2
 slice-write-to-2 c = let h = vector-reach _ _ _ (c .before .if1 .taken) (c .before .before .before .pre .1) in simp length-set (omega arith)
 
 shared-slice-read-to-3 : tie.Need-shared-slice-read-to-3
-shared-slice-read-to-3 c = let h = vector-reach _ _ _ (c .before .before .if1 .taken) (c .before .before .before .before .pre .0) in simp length-set (omega arith)
+shared-slice-read-to-3 c = let h = vector-reach _ _ _ (c .before .before .if1 .taken) (c .before .before .before .before .pre .0) in omega arith
 
 slice-write-to-3 : tie.Need-slice-write-to-3
 slice-write-to-3 c = let h = vector-reach _ _ _ (c .before .before .if1 .taken) (c .before .before .before .before .pre .1) in simp length-set (omega arith)
