@@ -153,10 +153,10 @@ fn check_address(defs: &[u8], count: usize, table: EntityTable, cells: &[u32], a
     let b = at.b;
     let entity = reads::wide(cells[a]);
     let field = reads::wide(cells[b]);
-    if table.number <= entity {
+    if entity >= table.number {
         return 30;
     }
-    if table.size <= field {
+    if field >= table.size {
         return 31;
     }
     if pointer_to(table, entity, field) <= GREATEST_POINTER {
