@@ -202,7 +202,7 @@ access-last g want cell e = go (eqb want 3) e
     go false e = cell-reach g want cell e
 
 -- the last component is the highest
-reaches : (t cell n : ℕ) → component t cell 2 < n → Reaches t cell n
+pub reaches : (t cell n : ℕ) → component t cell 2 < n → Reaches t cell n
 reaches t cell n h = go (eqb t 3) refl h
   where
     go : (b : Bool) → eqb t 3 ≡ b → cond b (cell + 2) cell < n → Reaches t cell n
