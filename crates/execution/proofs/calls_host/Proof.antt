@@ -25,7 +25,7 @@ returns-4 : tie.Need-returns-4
 returns-4 c = λ g p cells. ap isHandedOver (call-unknown _ g p _ cells (c .before .before .before .before .before .before .before .before .before .if1 .left) _ (length-records _ _ _ _) _ (sym (c .before .before .before .before .before .before .f .given .1) ∙ c .before .before .before .before .before .before .before .before .id-from-i32 .ensures) _ (c .before .before .before .before .get-def .ensures) (sym (c .before .before .before .is-builtin .ensures) ∙ not-false _ (c .before .before .if2 .left)) (sym (c .before .builtin-known .ensures) ∙ not-true _ (c .if3 .taken)))
 
 builtin-of-requires : tie.Need-builtin-of-requires
-builtin-of-requires c κs = sym (c@is-builtin .ensures) ∙ not-false _ (c@if2 .left)
+builtin-of-requires c κs = sym (c .before .before .before .is-builtin .ensures) ∙ not-false _ (c .before .before .if2 .left)
 
 returns-5 : tie.Need-returns-5
 returns-5 c = λ g p cells.

@@ -38,4 +38,12 @@ pub does-spec : {M : Type 1} → statement M
 does-spec =
     tie.close
     (tie.spec
-    )
+    (λ c κs. search needs)
+    (λ c κs. search needs)
+    (λ c. search needs)
+    returns
+    (λ c. search needs)
+    execute-requires
+    (λ c. search needs)
+    (λ c. search needs)
+    returns-2)

@@ -54,6 +54,12 @@ returns-8 c =
     executed-here _ _ (c .before .before .before .before .before .before .before .before .before .before .before .pre .0 .lumps) _ _ _ refl (c .before .before .before .before .before .before .before .part .ensures) refl _ _ _ _ _
     (transferred _ _ _ _ _ _ _ _ (c .before .before .before .shape-of .result) Host (c .before .enum-told4 .given .1) (c .before .before .before .shape-of .ensures) _ (cc))
 
+field-requires : tie.Need-field-requires
+field-requires c κs =
+    let s = c .before .before .before .before .before .before .before .before .before .before .before .before .before .before .before .before in
+    let u = s .pre .1 .0 in
+    ((s .pre .0 .lends, s .pre .1 .1 .0), record { number-most = u .number-most; size-least = u .size-least; size-below = u .size-most; enough = u .lends-fields })
+
 pub execute-spec : {M : Type 1} → statement M
 execute-spec =
     tie.close
@@ -77,7 +83,7 @@ execute-spec =
     (λ c κs. search needs)
     (λ c κs. search needs)
     (λ c κs. search needs)
-    (λ c κs. search needs)
+    field-requires
     (λ c. search needs)
     (λ c. search needs)
     returns-3

@@ -1,9 +1,19 @@
 use mathlib.Core.Path.{refl}
 use Rattle.execution.proofs.Transfers.{completed-is, put-is, field-known}
 use Rattle.execution.specs.declared.shapes.FieldOp.the-variants.{Loads, Address, StoresP}
+use Rattle.entities.specs.Lent.{lent-sized}
 use borrow.Author.Needs.{needs}
 use Rattle.execution.proofs.field.Statement.{statement}
 use Rattle.execution.proofs.field.Tie as tie
+
+op-loads-requires : tie.Need-op-loads-requires
+op-loads-requires c κs = (c .before .before .before .before .before .before .before .before .before .pre .0 .0, c .before .before .before .before .before .before .before .before .before .pre .1)
+
+op-address-requires : tie.Need-op-address-requires
+op-address-requires c κs = (c .before .before .before .before .before .before .before .pre .0 .0, lent-sized (c .before .before .before .before .before .before .before .pre .1))
+
+op-stores-p-requires : tie.Need-op-stores-p-requires
+op-stores-p-requires c κs = (c .before .before .before .before .before .before .before .before .before .pre .0 .0, c .before .before .before .before .before .before .before .before .before .pre .1)
 
 returns : tie.Need-returns
 returns c =
@@ -25,18 +35,18 @@ field-spec =
     tie.close
     (tie.spec
     (λ c. search needs)
-    (λ c κs. search needs)
+    op-loads-requires
     (λ c κs. search needs)
     (λ c. search needs)
     (λ c. search needs)
     returns
     (λ c. search needs)
-    (λ c κs. search needs)
+    op-address-requires
     (λ c κs. search needs)
     (λ c. search needs)
     returns-2
     (λ c. search needs)
-    (λ c κs. search needs)
+    op-stores-p-requires
     (λ c κs. search needs)
     (λ c. search needs)
     (λ c. search needs)

@@ -25,8 +25,25 @@ returns-3 c =
     (call-handed _ p _ _ _ _ e _ (sym (c .before .before .before .before .before .before .before .before .is-call .ensures) ∙ not-false _ (c .before .before .before .before .before .before .before .if1 .left)) _ (c .before .before .before .before .before .cell-of .ensures) _
     (c .calls-host .ensures _ p _ ∙ ap isHandedOver (call-goes _ _ p _ _ _ (sym (c .before .before .before .before .check-cell .ensures) ∙ c .before .before .before .if2 .left) refl)))
 
+mul-calls-host : tie.Need-mul-calls-host
+mul-calls-host c = let h = cell-reach _ _ _ (sym (c .before .before .check-cell .ensures) ∙ c .before .if2 .left) in search needs
+
+shared-slice-read-calls-host : tie.Need-shared-slice-read-calls-host
+shared-slice-read-calls-host c = let h = cell-reach _ _ _ (sym (c .before .before .before .check-cell .ensures) ∙ c .before .before .if2 .left) in search needs
+
 pub hands-over-spec : {M : Type 1} → statement M
 hands-over-spec =
     tie.close
     (tie.spec
-    )
+    (λ c κs. search needs)
+    (λ c κs. search needs)
+    returns
+    (λ c κs. search needs)
+    (λ c κs. search needs)
+    (λ c κs. search needs)
+    returns-2
+    (λ c κs. search needs)
+    mul-calls-host
+    shared-slice-read-calls-host
+    (λ c κs. search needs)
+    returns-3)
