@@ -90,14 +90,11 @@ module _ (count size number named : ℕ) where
       made-by : (r : ℕ) → r ≡ judge ((leb ((number * size + named) * 4) 2147483647 otherwise 32) ∷ []) → r ≡ judge (madeConditions count size number named)
       made-by r e = holds _ _ r (lt-ltb number count there) (holds _ _ r (lt-ltb named size inside) e)
 
-      pub made : (p : ℕ) → p ≡ (number * size + named) * 4 → p ≤ 2147483647 → 0 ≡ judge (madeConditions count size number named)
-      made p e h = made-by 0 (holds _ [] 0 (rw (← e) (le-leb p 2147483647 h)) nothing)
+      pub made-whole : (p : ℕ) → p ≡ (number * size + named) * 4 → p ≤ 2147483647 → 0 ≡ judge (madeConditions count size number named)
+      made-whole p e h = made-by 0 (holds _ [] 0 (rw (← e) (le-leb p 2147483647 h)) nothing)
 
       pub made-too-high : (p : ℕ) → p ≡ (number * size + named) * 4 → 2147483647 < p → 32 ≡ judge (madeConditions count size number named)
       made-too-high p e h = made-by 32 (fails _ [] (rw (← e) (lt-leb p 2147483647 h)))
-
-  pub made-reach : judge (madeConditions count size number named) ≡ 0 → (number < count) × (named < size) × ((number * size + named) * 4 ≤ 2147483647)
-  made-reach e = let h = judge-passed _ e in (ltb-true _ _ (h .0), ltb-true _ _ (h .1 .0), leb-true _ _ (h .1 .1 .0))
 
 -- ---- a pointer that is written through
 
@@ -139,18 +136,53 @@ operands-reach g t a b c cells e =
     let k = reach-move g true 5 b t c cells (h .1) in
     record { a-below = read-reach g true 4 a cells (h .0) .first-below; b-below = k .0 .first-below; c-reaches = k .1 }
 
-pub loaded-reach : (t : ℕ) (h : Typing) (e : Entities) (number named : ℕ) → loadedRefusal t h e number named ≡ 0
-    → (number < e .count) × Reaches t named (h .count)
-loaded-reach t h e number named x =
-    let k = neither _ _ x in
-    (ltb-true _ _ (judge-passed _ (k .0) .0), field-reach h t named (neither _ _ (k .1) .0))
+pub record LoadReach (t : ℕ) (g h : Typing) (e : Entities) (a b c : ℕ) (cells : List ℕ) : Type 0 where
+  pub operands : OperandsReach (g .count) t a b c
+  pub owner : getD cells a 0 < e .count
+  pub field-reaches : Reaches t (getD cells b 0) (h .count)
 
-pub storesP-reach : (t : ℕ) (g h : Typing) (e : Entities) (a b c : ℕ) (cells : List ℕ) → storesPRefusal t g h e a b c cells ≡ 0
-    → Reaches t a (g .count) × (b < g .count) × Reaches t (getD cells b 0 / 4) (e .count * h .count)
-storesP-reach t g h e a b c cells x =
+pub load-reach : (t : ℕ) (g h : Typing) (e : Entities) (a b c : ℕ) (cells : List ℕ) → loadsRefusal t g h e a b c cells ≡ 0 → LoadReach t g h e a b c cells
+load-reach t g h e a b c cells x =
+    let k = neither _ _ x in
+    let l = neither _ _ (k .1) in
+    record {
+      operands = operands-reach g t a b c cells (k .0);
+      owner = ltb-true _ _ (judge-passed _ (l .0) .0);
+      field-reaches = field-reach h t (getD cells b 0) (neither _ _ (l .1) .0);
+    }
+
+pub record AddressReach (count number size a b c : ℕ) (cells : List ℕ) : Type 0 where
+  pub operands : OperandsReach count 7 a b c
+  pub owner : getD cells a 0 < number
+  pub inside : getD cells b 0 < size
+  pub fits : (getD cells a 0 * size + getD cells b 0) * 4 ≤ 2147483647
+
+pub address-reach : (g : Typing) (number size a b c : ℕ) (cells : List ℕ) → addressRefusal g number size a b c cells ≡ 0
+    → AddressReach (g .count) number size a b c cells
+address-reach g number size a b c cells x =
+    let k = neither _ _ x in
+    let l = judge-passed _ (k .1) in
+    record {
+      operands = operands-reach g 7 a b c cells (k .0);
+      owner = ltb-true _ _ (l .0);
+      inside = ltb-true _ _ (l .1 .0);
+      fits = leb-true _ _ (l .1 .1 .0);
+    }
+
+pub record StoreReach (t : ℕ) (g h : Typing) (e : Entities) (a b : ℕ) (cells : List ℕ) : Type 0 where
+  pub a-reaches : Reaches t a (g .count)
+  pub b-below : b < g .count
+  pub pointed : Reaches t (getD cells b 0 / 4) (e .count * h .count)
+
+pub store-reach : (t : ℕ) (g h : Typing) (e : Entities) (a b c : ℕ) (cells : List ℕ) → storesPRefusal t g h e a b c cells ≡ 0 → StoreReach t g h e a b cells
+store-reach t g h e a b c cells x =
     let p = getD cells b 0 in
     let k = neither _ _ x in
     let m = reach-move g (mustBeNatural t) t a 7 b cells (neither _ _ (k .0) .1) in
     let l = neither _ _ (neither _ _ (k .1) .0) in
     let owner = ltb-true _ _ (and-right (not (negative p) && eqb (p % 4) 0) (ltb (p / 4 / h .count) (e .count)) (judge-passed _ (l .0) .0)) in
-    (m .0, m .1 .first-below, reach-pointed t (e .count) (h .count) (p / 4) owner (field-reach h t (p / 4 % h .count) (l .1)))
+    record {
+      a-reaches = m .0;
+      b-below = m .1 .first-below;
+      pointed = reach-pointed t (e .count) (h .count) (p / 4) owner (field-reach h t (p / 4 % h .count) (l .1));
+    }

@@ -17,8 +17,5 @@ pub record Lent (table : EntityTable) (n : ℕ) : Type 0 where
   pub size-below : table .size < 2147483648
   pub enough : table .number * table .size ≤ n
 
-pub lent-sized : {table : EntityTable} {n : ℕ} → Lent table n → Sized table
-lent-sized l = record { number-most = l .number-most; size-least = l .size-least; size-below = l .size-below }
-
 abbrev pub entitiesIn : EntityTable → List ℕ → Entities
 entitiesIn table cells = record { count = table .number; cells = cells }
