@@ -8,12 +8,12 @@ use mathlib.Core.List.{List, [], _∷_, _++_}
 use mathlib.Core.Bool.{Bool, true, false, not, _&&_, _||_, cond}
 use mathlib.Core.Option.{Option, none, some}
 use native.Mathlib.Omega.{arith}
-use native.Mathlib.Nat.{add-zero, zero-add}
+use native.Mathlib.Nat.{add-zero, zero-add, mul-div-cancel, mul-add-mod-self-right, mod-eq-of-lt}
 use lib.IntN.{ℤ, pos, _+ℤ_}
 use lib.ListN.{length, getD, set, take, drop, length-set}
 use lib.Seq.{getD-set-same, getD-set-other, take-set-le, drop-set-lt}
 use lib.Dec.{eqb, leb, ltb}
-use borrow.Author.Tests.{ltb-true, leb-true, eqb-true, eqb-false}
+use borrow.Author.Tests.{ltb-true, lt-ltb, leb-true, eqb-true, eqb-false}
 use Rattle.definition.specs.declared.Statement.{Statement}
 use Rattle.definition.specs.declared.FunctionDef.{FunctionDef}
 use Rattle.definition.specs.declared.Handover.{Handover}
@@ -21,8 +21,8 @@ use Rattle.definition.specs.declared.Handover.the-variants.{Builtin, Opcode}
 use Rattle.definition.specs.Checks.{Condition, Conditions, _otherwise_, Checked, refused, accepted, decided, guard, judge}
 use Rattle.definition.specs.File.{opcodeCount, Contents, contentsOf, fileOf, negative, between, noFunction, isBuiltin, builtinOf, builtinKnown, builtinNumber}
 use Rattle.definition.specs.Floats.{fabsF, floorF, ceilF, rintF, roundingOf}
-use Rattle.definition.specs.Cells.{vector, pointer, cellOf, Typing, mustBeNatural, access, readAccess, fieldAccess}
-use Rattle.definition.specs.Statements.{Entities, Does, next, puts, calls, returns, refuses, handsOver, orRefused, provided, unused, valueMoved, pointsAtField, storesPEffect, Effect, effectDoes, branchesDo, builtinDoes, callOf, callDoes, statementAt, fetchConditions, Tables, tablesOf, executeAs, execute, doesAt}
+use Rattle.definition.specs.Cells.{string, vector, entity, field, pointer, cellOf, Typing, mustBeNatural, access, readAccess, fieldAccess}
+use Rattle.definition.specs.Statements.{Entities, Does, next, puts, calls, returns, refuses, handsOver, orRefused, provided, unused, valueMoved, storedNatural, pointsAtField, storesPEffect, loadsEffect, addressesEffect, Effect, effectDoes, branchesDo, builtinDoes, callOf, callDoes, statementAt, fetchConditions, Tables, tablesOf, executeAs, execute, doesAt}
 use Rattle.definition.specs.Statements.{Shape, floats, values, vectors, vectorsToFloat, strings, negates, negatesV, negatesS, stores, storesV, loads, addresses, storesP, branches, jumps, call, return, host, opcodes, shapeOf}
 use Rattle.definition.specs.Machine.{Program, Config, entitiesOf, withEntities, advanced, entryConditions, entered, enter, left, returnConditions, returned, Stepped, completed, refusedStep, handedStep, asStep, stepAs, step, Ran, goOn, runAs, runFor}
 use Rattle.definition.specs.Load.{loaded, load, programAt, programOf}
@@ -33,8 +33,8 @@ use Rattle.definition.specs.Log.{Log, Kind, statementKind}
 use Rattle.definition.specs.Trace.{StepProperty, StateProperty, logAfterSteps, Always}
 use Rattle.definition.specs.Returns.{Demand3}
 use Rattle.definition.specs.ReturnsProof.{demand3}
-use Rattle.definition.specs.CheckLaws.{All, judge-passed, judge-all, all-front, all-back, and-left, and-right, WhenAccepted, guarded}
-use Rattle.definition.specs.StatementLaws.{every, every-at, lastOf, fields-below, pointer-cell, Keeps, keeps-all, HasKind, beforeIn, statement-has-kind}
+use Rattle.definition.specs.CheckLaws.{All, judge-passed, judge-all, all-front, all-back, all-both, and-left, and-right, WhenAccepted, guarded}
+use Rattle.definition.specs.StatementLaws.{every, every-at, lastOf, fields-below, access-last, entity-cell, pointer-cell, Keeps, keeps-all, HasKind, beforeIn, statement-has-kind}
 use Rattle.definition.specs.Invariant.{roomIn}
 
 -- ---- what a call leaves of the entity cells
@@ -301,6 +301,14 @@ written-three source i to j =
     go (suc (suc zero)) h fits = getD-set-same two (j + 2) z 0 (omega (arith, fits, length-set one (j + 1) y, length-set to j x))
     go (suc (suc (suc k))) h fits = absurd (omega (arith, h))
 
+-- a value that ends at a cell below a count
+width-inside : (t cell count : ℕ) → lastOf t cell < count → cell + widthOf t ≤ count
+width-inside t cell count h = go (eqb t vector) h
+  where
+    go : (b : Bool) → cond b (cell + 2) cell < count → cell + cond b 3 1 ≤ count
+    go true h = omega (arith, h)
+    go false h = omega (arith, h)
+
 -- a value of a type that is moved
 moved-written : (t : ℕ) (source : List ℕ) (i : ℕ) (to : List ℕ) (j : ℕ) → Written to (valueMoved t source i to j) source i j (widthOf t)
 unfolding valueMoved
@@ -446,18 +454,11 @@ module _ (k : Tables) (p : ℤ) (st : Statement) (e : Entities) (cells : List �
         number = at / size;
         field = named;
         there = ltb-true _ _ (and-right (not (negative pointer-there) && eqb (pointer-there % 4) 0) (ltb (at / size) (e .count)) points);
-        inside = inside t named size (widthAt (st .opcode)) width last;
+        inside = subst (λ (w : ℕ). named + w ≤ size) width (width-inside t named size last);
         pointed = omega (arith, split, fourth, pointer-cell pointer-there 4);
         writes = subst (λ (w : ℕ). Written (e .cells) (valueMoved t cells a (e .cells) at) cells a (at / size * size + named) w) width
             (subst (λ (i : ℕ). Written (e .cells) (valueMoved t cells a (e .cells) at) cells a i (widthOf t)) (sym split) (moved-written t cells a (e .cells) at));
       }
-    where
-      inside : (t named size width : ℕ) → widthOf t ≡ width → lastOf t named < size → named + width ≤ size
-      inside t named size width e h = subst (λ (w : ℕ). named + w ≤ size) e (go (eqb t vector) h)
-        where
-          go : (b : Bool) → cond b (named + 2) named < size → named + cond b 3 1 ≤ size
-          go true h = omega (arith, h)
-          go false h = omega (arith, h)
 
   -- a statement that writes cells claims nothing of the two
   plainly : (x : Effect) → Statement-claims (effectDoes p x)
@@ -576,3 +577,182 @@ step-writes file c c′ e = go (programOf file .does (c .state .pc) (entitiesOf 
     go (returns a) is e = inl (completes (returnConditions P a c) (returned P a c) e (returned-same P a c))
     go (refuses n) is e = absurd (let z : _≡_ {A = ℕ} 0 1 = cc in omega arith)
     go (handsOver h) is e = absurd (let z : _≡_ {A = ℕ} 0 1 = cc in omega arith)
+
+-- ---- the round trip: Address, then StoreP through the pointer that it made, then a Load of the same entity and field
+
+-- 17 of a value that was read and stored is not met when it is loaded
+natural-again : (m n x : Bool) → not (m && x) ≡ true → not (n && x) ≡ true → not ((m || n) && x) ≡ true
+natural-again true n x p q = p
+natural-again false n x p q = q
+
+-- Address of the entity in a and the field in b to c; a store of the value of type t in s through c; a load of the entity in a and the field in b to d
+module _ (t : ℕ) (g h : Typing) (e : Entities) (a b c s d : ℕ) (cells : List ℕ) where
+  -- the cells after the Address
+  abbrev pub pointed : List ℕ
+  pointed = addressesEffect g h e a b c cells .cells
+
+  -- the entities after the store
+  abbrev pub stored : Entities
+  stored = record { count = e .count; cells = storesPEffect t g h e s c 0 pointed .cells }
+
+  -- the load
+  abbrev pub reloaded : Effect
+  reloaded = loadsEffect t g h stored a b d pointed
+
+  abbrev number : ℕ
+  number = getD cells a 0
+
+  abbrev named : ℕ
+  named = getD cells b 0
+
+  abbrev place : ℕ
+  place = number * h .count + named
+
+  -- what the Address was accepted for
+  record Made : Type 0 where
+    reads-entity : All (readAccess g (mustBeNatural entity) entity a cells)
+    reads-field : All (readAccess g (mustBeNatural field) field b cells)
+    writes-pointer : All (access g pointer c)
+    there : number < e .count
+    inside : named < h .count
+
+  made : All (addressesEffect g h e a b c cells .conditions) → Made
+  unfolding addressesEffect
+  made q =
+      let re = readAccess g (mustBeNatural entity) entity a cells in
+      let rf = readAccess g (mustBeNatural field) field b cells in
+      let ap = access g pointer c in
+      let operands = all-front (re ++ rf ++ ap) _ q in
+      let limits = all-back (re ++ rf ++ ap) _ q in
+      record {
+        reads-entity = all-front re rf (all-front (re ++ rf) ap operands);
+        reads-field = all-back re rf (all-front (re ++ rf) ap operands);
+        writes-pointer = all-back (re ++ rf) ap operands;
+        there = ltb-true _ _ (limits .0);
+        inside = ltb-true _ _ (limits .1 .0);
+      }
+
+  -- what the store was accepted for
+  record Passed : Type 0 where
+    natural-read : not (mustBeNatural t && negative (getD pointed s 0)) ≡ true
+    field-of : All (fieldAccess h t (getD pointed c 0 / 4 % h .count))
+    natural-string : not (eqb t string && negative (getD pointed s 0)) ≡ true
+
+  passed : All (storesPEffect t g h e s c 0 pointed .conditions) → Passed
+  unfolding storesPEffect readAccess
+  passed q =
+      let p = getD pointed c 0 in
+      let last = (not (mustBeNatural t && negative (getD pointed s 0)) otherwise 17) ∷ [] in
+      let read = unused 0 ++ (access g t s ++ last) in
+      let ap = access g pointer c in
+      let there = (pointsAtField h e p otherwise 32) ∷ [] in
+      let fa = fieldAccess h t (p / 4 % h .count) in
+      let front = all-front (read ++ ap ++ there ++ fa) _ q in
+      let reading = all-front read ap (all-front (read ++ ap) there (all-front (read ++ ap ++ there) fa front)) in
+      record {
+        natural-read = all-back (access g t s) last (all-back (unused 0) (access g t s ++ last) reading) .0;
+        field-of = all-back (read ++ ap ++ there) fa front;
+        natural-string = all-back (read ++ ap ++ there ++ fa) _ q .0;
+      }
+
+  -- the pointer does not replace the entity or the field, and the lent cells and entity cells are as many as 13 asks
+  pub record Apart : Type 0 where
+    pub from-entity : a ≢ c
+    pub from-field : b ≢ c
+    pub cells-enough : g .count ≤ length cells
+    pub entities-enough : e .count * h .count ≤ length (e .cells)
+
+  module _ (apart : Apart) (m : Made) (z : Passed) where
+    same-entity : getD pointed a 0 ≡ number
+    unfolding addressesEffect
+    same-entity = getD-set-other cells c a _ 0 (apart .from-entity)
+
+    same-field : getD pointed b 0 ≡ named
+    unfolding addressesEffect
+    same-field = getD-set-other cells c b _ 0 (apart .from-field)
+
+    the-pointer : getD pointed c 0 ≡ place * 4
+    unfolding addressesEffect
+    the-pointer = getD-set-same cells c _ 0 (omega (arith, access-last g pointer c (m .writes-pointer), apart .cells-enough))
+
+    its-place : getD pointed c 0 / 4 ≡ place
+    its-place = ap (λ (p : ℕ). p / 4) the-pointer ∙ mul-div-cancel place (omega arith)
+
+    its-field : getD pointed c 0 / 4 % h .count ≡ named
+    its-field = ap (λ (p : ℕ). p % h .count) its-place ∙ mul-add-mod-self-right number (h .count) named ∙ mod-eq-of-lt (m .inside)
+
+    field-passes : All (fieldAccess h t named)
+    field-passes = subst (λ (f : ℕ). All (fieldAccess h t f)) its-field (z .field-of)
+
+    -- what the store wrote: the value, at the place of the field
+    store-wrote : Written (e .cells) (stored .cells) pointed s place (widthOf t)
+    unfolding storesPEffect
+    store-wrote =
+        subst (λ (i : ℕ). Written (e .cells) (valueMoved t pointed s (e .cells) (getD pointed c 0 / 4)) pointed s i (widthOf t)) its-place
+        (moved-written t pointed s (e .cells) (getD pointed c 0 / 4))
+
+    at-most : (i : ℕ) → i < widthOf t → place + i < length (e .cells)
+    at-most i less =
+        let fits : named + widthOf t ≤ h .count = width-inside t named (h .count) (fields-below h t named field-passes) in
+        omega (arith, entity-cell (e .count) (h .count) number (named + i) (m .there) (omega (arith, fits, less)), apart .entities-enough)
+
+    stored-value : (i : ℕ) → i < widthOf t → getD (stored .cells) (place + i) 0 ≡ getD pointed (s + i) 0
+    stored-value i less = store-wrote .taken i less (at-most i less)
+
+    same-place : getD pointed a 0 * h .count + getD pointed b 0 ≡ place
+    same-place = rw (same-entity, same-field)
+
+    -- the value that is loaded is not negative where it must not be
+    loads-natural : not (storedNatural t && negative (getD (stored .cells) (getD pointed a 0 * h .count + getD pointed b 0) 0)) ≡ true
+    loads-natural =
+        let first : getD (stored .cells) place 0 ≡ getD pointed s 0 =
+        (rw (add-zero place, add-zero s) at (stored-value 0 (some-width t)))
+        in
+        rw (same-place, first) (natural-again (mustBeNatural t) (eqb t string) (negative (getD pointed s 0)) (z .natural-read) (z .natural-string))
+      where
+        some-width : (t : ℕ) → 0 < widthOf t
+        some-width t = go (eqb t vector)
+          where
+            go : (b : Bool) → 0 < cond b 3 1
+            go true = omega arith
+            go false = omega arith
+
+    -- the load is refused only for its destination
+    reload-accepted : All (access g t d) → All (reloaded .conditions)
+    unfolding loadsEffect readAccess
+    reload-accepted destination =
+        let re : Conditions = access g entity a ++ ((not (mustBeNatural entity && negative (getD pointed a 0)) otherwise 17) ∷ []) in
+        let rf : Conditions = access g field b ++ ((not (mustBeNatural field && negative (getD pointed b 0)) otherwise 17) ∷ []) in
+        let there : Conditions = (ltb (getD pointed a 0) (e .count) otherwise 30) ∷ [] in
+        let fa : Conditions = fieldAccess h t (getD pointed b 0) in
+        let is-there : ltb (getD pointed a 0) (e .count) ≡ true = rw same-entity (lt-ltb number (e .count) (m .there)) in
+        all-both (re ++ rf ++ access g t d ++ there ++ fa) _
+        (all-both (re ++ rf ++ access g t d ++ there) fa
+        (all-both (re ++ rf ++ access g t d) there
+        (all-both (re ++ rf) (access g t d)
+        (all-both re rf
+        (subst (λ (v : ℕ). All (access g entity a ++ ((not (mustBeNatural entity && negative v) otherwise 17) ∷ []))) (sym same-entity) (m .reads-entity))
+        (subst (λ (v : ℕ). All (access g field b ++ ((not (mustBeNatural field && negative v) otherwise 17) ∷ []))) (sym same-field) (m .reads-field)))
+        destination)
+        (is-there, tt))
+        (subst (λ (f : ℕ). All (fieldAccess h t f)) (sym same-field) field-passes))
+        (loads-natural, tt)
+
+    -- and the cells from d on have the value
+    reload-value : All (access g t d) → (i : ℕ) → i < widthOf t → getD (reloaded .cells) (d + i) 0 ≡ getD pointed (s + i) 0
+    unfolding loadsEffect addressesEffect
+    reload-value destination i less =
+        let from = getD pointed a 0 * h .count + getD pointed b 0 in
+        let moves : Written pointed (reloaded .cells) (stored .cells) from d (widthOf t) = moved-written t (stored .cells) from pointed d in
+        let fits : d + widthOf t ≤ g .count = width-inside t d (g .count) (access-last g t d destination) in
+        let room : d + i < length pointed = omega (arith, fits, less, apart .cells-enough, length-set cells c (place * 4)) in
+        moves .taken i less room ∙ ap (λ (j : ℕ). getD (stored .cells) (j + i) 0) same-place ∙ stored-value i less
+
+  -- a pointer made by Address and stored through at once writes the field that a load of the same entity and field reads: the load is refused only for
+  -- its destination, and gives back the value that was stored
+  pub round-trip : Apart → All (addressesEffect g h e a b c cells .conditions) → All (storesPEffect t g h e s c 0 pointed .conditions) → All (access g t d)
+      → All (reloaded .conditions) × ((i : ℕ) → i < widthOf t → getD (reloaded .cells) (d + i) 0 ≡ getD pointed (s + i) 0)
+  round-trip apart pointing storing destination =
+      let m = made pointing in
+      let z = passed storing in
+      (reload-accepted apart m z destination, reload-value apart m z destination)
