@@ -1,41 +1,41 @@
 -- ENTITY CELLS, document 02's R-3: "runs that write entities, which keep what was last written; the other lent entity cells are untouched, by a load too,
 -- though between calls the host may change any". Which of the lent entity cells each call may change, what a statement writes through a pointer, and what
 -- still goes to the host.
-use Prim.Native.Nat.{ℕ, zero, suc, _+_, _-_, _*_, _/_, _%_, _≤_, _<_}
+use Prim.Native.Nat.{ℕ, zero, suc, _+_, _*_, _/_, _%_, _≤_, _<_}
 use mathlib.Core.Path.{_≡_, refl, sym, _∙_, ap, subst}
 use mathlib.Core.Logic.{_≢_, _⊎_, inl, inr}
 use mathlib.Core.List.{List, [], _∷_, _++_}
-use mathlib.Core.Bool.{Bool, true, false, not, _&&_, _||_, cond}
+use mathlib.Core.Bool.{Bool, true, false, not, _&&_, cond}
 use mathlib.Core.Option.{Option, none, some}
 use native.Mathlib.Omega.{arith}
-use native.Mathlib.Nat.{add-zero, zero-add, mul-div-cancel, mul-add-mod-self-right, mod-eq-of-lt}
+use native.Mathlib.Nat.{add-zero, zero-add}
 use lib.IntN.{ℤ, pos, _+ℤ_}
 use lib.ListN.{length, getD, set, take, drop, length-set}
 use lib.Seq.{getD-set-same, getD-set-other, take-set-le, drop-set-lt}
 use lib.Dec.{eqb, leb, ltb}
-use borrow.Author.Tests.{ltb-true, lt-ltb, leb-true, eqb-true, eqb-false}
+use borrow.Author.Tests.{ltb-true, leb-true, eqb-true}
 use Rattle.definition.specs.declared.Statement.{Statement}
 use Rattle.definition.specs.declared.FunctionDef.{FunctionDef}
 use Rattle.definition.specs.declared.Handover.{Handover}
 use Rattle.definition.specs.declared.Handover.the-variants.{Builtin, Opcode}
-use Rattle.definition.specs.Checks.{Condition, Conditions, _otherwise_, Checked, refused, accepted, decided, guard, judge}
-use Rattle.definition.specs.File.{opcodeCount, Contents, contentsOf, fileOf, negative, between, noFunction, isBuiltin, builtinOf, builtinKnown, builtinNumber}
+use Rattle.definition.specs.Checks.{Conditions, _otherwise_, Checked, refused, accepted, decided, guard, judge}
+use Rattle.definition.specs.File.{opcodeCount, contentsOf, negative, between, noFunction, isBuiltin, builtinOf, builtinKnown, builtinNumber}
 use Rattle.definition.specs.Floats.{fabsF, floorF, ceilF, rintF, roundingOf}
-use Rattle.definition.specs.Cells.{string, vector, entity, field, pointer, cellOf, Typing, mustBeNatural, access, readAccess, fieldAccess}
-use Rattle.definition.specs.Statements.{Entities, Does, next, puts, calls, returns, refuses, handsOver, orRefused, provided, unused, valueMoved, storedNatural, pointsAtField, storesPEffect, loadsEffect, addressesEffect, Effect, effectDoes, branchesDo, builtinDoes, callOf, callDoes, statementAt, fetchConditions, Tables, tablesOf, executeAs, execute, doesAt}
+use Rattle.definition.specs.Cells.{vector, field, pointer, cellOf, mustBeNatural, access, readAccess, fieldAccess}
+use Rattle.definition.specs.Statements.{Entities, Does, next, puts, calls, returns, refuses, handsOver, orRefused, provided, unused, valueMoved, pointsAtField, storesPEffect, Effect, effectDoes, branchesDo, builtinDoes, callOf, callDoes, statementAt, fetchConditions, Tables, tablesOf, executeAs, execute, doesAt}
 use Rattle.definition.specs.Statements.{Shape, floats, values, vectors, vectorsToFloat, strings, negates, negatesV, negatesS, stores, storesV, loads, addresses, storesP, branches, jumps, call, return, host, opcodes, shapeOf}
 use Rattle.definition.specs.Machine.{Program, Config, entitiesOf, withEntities, advanced, entryConditions, entered, enter, left, returnConditions, returned, Stepped, completed, refusedStep, handedStep, asStep, stepAs, step, Ran, goOn, runAs, runFor}
 use Rattle.definition.specs.Load.{loaded, load, programAt, programOf}
-use Rattle.definition.specs.Operations.{sound, natural, hostEnter, stepIf, statement, runConditions, runAfter, run, carryOn, leftTimes, abandon, rawRead, rawWrite}
+use Rattle.definition.specs.Operations.{sound, natural, hostEnter, stepIf, statement, runConditions, runAfter, run, carryOn, leftTimes, abandon, rawWrite}
 use Rattle.definition.specs.Answers.{kept, statementOutcome, loadOutcome}
 use Rattle.definition.specs.Calls.{Call, enters, steps, runs, carries, abandons, reads, writes, lends, after, smallSteps}
-use Rattle.definition.specs.Log.{Log, Kind, statementKind}
+use Rattle.definition.specs.Log.{Log, Kind, entry, leaving, other, statementKind}
 use Rattle.definition.specs.Trace.{StepProperty, StateProperty, logAfterSteps, Always}
-use Rattle.definition.specs.Returns.{Demand3}
+use Rattle.definition.specs.Returns.{DepthsMatch, StepCorrect, Demand3}
 use Rattle.definition.specs.ReturnsProof.{demand3}
-use Rattle.definition.specs.CheckLaws.{All, judge-passed, judge-all, all-front, all-back, all-both, and-left, and-right, WhenAccepted, guarded}
-use Rattle.definition.specs.StatementLaws.{every, every-at, lastOf, fields-below, access-last, entity-cell, pointer-cell, Keeps, keeps-all, HasKind, beforeIn, statement-has-kind}
-use Rattle.definition.specs.Invariant.{roomIn}
+use Rattle.definition.specs.CheckLaws.{All, judge-passed, judge-all, all-front, all-back, and-left, and-right, WhenAccepted, guarded}
+use Rattle.definition.specs.StatementLaws.{every, every-at, lastOf, fields-below, pointer-cell, Keeps, keeps-all, HasKind, beforeIn, statement-has-kind}
+use Rattle.definition.specs.Invariant.{roomIn, Inductive, always}
 
 -- ---- what a call leaves of the entity cells
 
@@ -302,7 +302,7 @@ written-three source i to j =
     go (suc (suc (suc k))) h fits = absurd (omega (arith, h))
 
 -- a value that ends at a cell below a count
-width-inside : (t cell count : ℕ) → lastOf t cell < count → cell + widthOf t ≤ count
+pub width-inside : (t cell count : ℕ) → lastOf t cell < count → cell + widthOf t ≤ count
 width-inside t cell count h = go (eqb t vector) h
   where
     go : (b : Bool) → cond b (cell + 2) cell < count → cell + cond b 3 1 ≤ count
@@ -310,7 +310,7 @@ width-inside t cell count h = go (eqb t vector) h
     go false h = omega (arith, h)
 
 -- a value of a type that is moved
-moved-written : (t : ℕ) (source : List ℕ) (i : ℕ) (to : List ℕ) (j : ℕ) → Written to (valueMoved t source i to j) source i j (widthOf t)
+pub moved-written : (t : ℕ) (source : List ℕ) (i : ℕ) (to : List ℕ) (j : ℕ) → Written to (valueMoved t source i to j) source i j (widthOf t)
 unfolding valueMoved
 moved-written t source i to j = go (eqb t vector)
   where
@@ -520,7 +520,7 @@ module _ (k : Tables) (p : ℤ) (st : Statement) (e : Entities) (cells : List �
   executed-claims host row = let sixty : st .opcode ≡ 60 = eqb-true (st .opcode) 60 row in (sixty, sixty)
 
 -- the statement at a position of a file
-abbrev at : List ℕ → ℤ → Statement
+abbrev pub at : List ℕ → ℤ → Statement
 at file p = statementAt (contentsOf file .statements) p
 
 does-claims : (file : List ℕ) (p : ℤ) (e : Entities) (cells : List ℕ)
@@ -578,181 +578,31 @@ step-writes file c c′ e = go (programOf file .does (c .state .pc) (entitiesOf 
     go (refuses n) is e = absurd (let z : _≡_ {A = ℕ} 0 1 = cc in omega arith)
     go (handsOver h) is e = absurd (let z : _≡_ {A = ℕ} 0 1 = cc in omega arith)
 
--- ---- the round trip: Address, then StoreP through the pointer that it made, then a Load of the same entity and field
+-- ---- over lists of calls
 
--- 17 of a value that was read and stored is not met when it is loaded
-natural-again : (m n x : Bool) → not (m && x) ≡ true → not (n && x) ≡ true → not ((m || n) && x) ≡ true
-natural-again true n x p q = p
-natural-again false n x p q = q
+-- no entry and no leaving touches an entity cell: what was written in a function stays when it is left
+abbrev pub TransfersKeep : StepProperty
+TransfersKeep (entry f back) c l c′ = Same c c′
+TransfersKeep leaving c l c′ = Same c c′
+TransfersKeep other c l c′ = Unit {0}
 
--- Address of the entity in a and the field in b to c; a store of the value of type t in s through c; a load of the entity in a and the field in b to d
-module _ (t : ℕ) (g h : Typing) (e : Entities) (a b c s d : ℕ) (cells : List ℕ) where
-  -- the cells after the Address
-  abbrev pub pointed : List ℕ
-  pointed = addressesEffect g h e a b c cells .cells
+transfers-inductive : (file : List ℕ) → Inductive file (λ c l. Unit {0}) TransfersKeep
+transfers-inductive file =
+    record {
+      plain = λ c l p cells entities k keeps puts. (tt, tt);
+      writing = λ c l a v k h. (tt, tt);
+      lending = λ c l entities k. (tt, tt);
+      entering = λ c l f back k h. (entered-same (programOf file) f back c, tt);
+      returning = λ c l a k h. (returned-same (programOf file) a c, tt);
+      leave-one = λ c l k h. (left-same (programOf file) c, tt);
+    }
 
-  -- the entities after the store
-  abbrev pub stored : Entities
-  stored = record { count = e .count; cells = storesPEffect t g h e s c 0 pointed .cells }
+pub transfers-keep : (file : List ℕ) (c : Config) (l : Log) (ks : List Call) → Always file TransfersKeep (λ c′ l′. Unit {0}) c l ks
+transfers-keep file c l ks = always file (λ c′ l′. Unit {0}) TransfersKeep (transfers-inductive file) (λ c′ l′. Unit {0}) (λ c′ l′ k. tt) c l ks tt
 
-  -- the load
-  abbrev pub reloaded : Effect
-  reloaded = loadsEffect t g h stored a b d pointed
-
-  abbrev number : ℕ
-  number = getD cells a 0
-
-  abbrev named : ℕ
-  named = getD cells b 0
-
-  abbrev place : ℕ
-  place = number * h .count + named
-
-  -- what the Address was accepted for
-  record Made : Type 0 where
-    reads-entity : All (readAccess g (mustBeNatural entity) entity a cells)
-    reads-field : All (readAccess g (mustBeNatural field) field b cells)
-    writes-pointer : All (access g pointer c)
-    there : number < e .count
-    inside : named < h .count
-
-  made : All (addressesEffect g h e a b c cells .conditions) → Made
-  unfolding addressesEffect
-  made q =
-      let re = readAccess g (mustBeNatural entity) entity a cells in
-      let rf = readAccess g (mustBeNatural field) field b cells in
-      let ap = access g pointer c in
-      let operands = all-front (re ++ rf ++ ap) _ q in
-      let limits = all-back (re ++ rf ++ ap) _ q in
-      record {
-        reads-entity = all-front re rf (all-front (re ++ rf) ap operands);
-        reads-field = all-back re rf (all-front (re ++ rf) ap operands);
-        writes-pointer = all-back (re ++ rf) ap operands;
-        there = ltb-true _ _ (limits .0);
-        inside = ltb-true _ _ (limits .1 .0);
-      }
-
-  -- what the store was accepted for
-  record Passed : Type 0 where
-    natural-read : not (mustBeNatural t && negative (getD pointed s 0)) ≡ true
-    field-of : All (fieldAccess h t (getD pointed c 0 / 4 % h .count))
-    natural-string : not (eqb t string && negative (getD pointed s 0)) ≡ true
-
-  passed : All (storesPEffect t g h e s c 0 pointed .conditions) → Passed
-  unfolding storesPEffect readAccess
-  passed q =
-      let p = getD pointed c 0 in
-      let last = (not (mustBeNatural t && negative (getD pointed s 0)) otherwise 17) ∷ [] in
-      let read = unused 0 ++ (access g t s ++ last) in
-      let ap = access g pointer c in
-      let there = (pointsAtField h e p otherwise 32) ∷ [] in
-      let fa = fieldAccess h t (p / 4 % h .count) in
-      let front = all-front (read ++ ap ++ there ++ fa) _ q in
-      let reading = all-front read ap (all-front (read ++ ap) there (all-front (read ++ ap ++ there) fa front)) in
-      record {
-        natural-read = all-back (access g t s) last (all-back (unused 0) (access g t s ++ last) reading) .0;
-        field-of = all-back (read ++ ap ++ there) fa front;
-        natural-string = all-back (read ++ ap ++ there ++ fa) _ q .0;
-      }
-
-  -- the pointer does not replace the entity or the field, and the lent cells and entity cells are as many as 13 asks
-  pub record Apart : Type 0 where
-    pub from-entity : a ≢ c
-    pub from-field : b ≢ c
-    pub cells-enough : g .count ≤ length cells
-    pub entities-enough : e .count * h .count ≤ length (e .cells)
-
-  module _ (apart : Apart) (m : Made) (z : Passed) where
-    same-entity : getD pointed a 0 ≡ number
-    unfolding addressesEffect
-    same-entity = getD-set-other cells c a _ 0 (apart .from-entity)
-
-    same-field : getD pointed b 0 ≡ named
-    unfolding addressesEffect
-    same-field = getD-set-other cells c b _ 0 (apart .from-field)
-
-    the-pointer : getD pointed c 0 ≡ place * 4
-    unfolding addressesEffect
-    the-pointer = getD-set-same cells c _ 0 (omega (arith, access-last g pointer c (m .writes-pointer), apart .cells-enough))
-
-    its-place : getD pointed c 0 / 4 ≡ place
-    its-place = ap (λ (p : ℕ). p / 4) the-pointer ∙ mul-div-cancel place (omega arith)
-
-    its-field : getD pointed c 0 / 4 % h .count ≡ named
-    its-field = ap (λ (p : ℕ). p % h .count) its-place ∙ mul-add-mod-self-right number (h .count) named ∙ mod-eq-of-lt (m .inside)
-
-    field-passes : All (fieldAccess h t named)
-    field-passes = subst (λ (f : ℕ). All (fieldAccess h t f)) its-field (z .field-of)
-
-    -- what the store wrote: the value, at the place of the field
-    store-wrote : Written (e .cells) (stored .cells) pointed s place (widthOf t)
-    unfolding storesPEffect
-    store-wrote =
-        subst (λ (i : ℕ). Written (e .cells) (valueMoved t pointed s (e .cells) (getD pointed c 0 / 4)) pointed s i (widthOf t)) its-place
-        (moved-written t pointed s (e .cells) (getD pointed c 0 / 4))
-
-    at-most : (i : ℕ) → i < widthOf t → place + i < length (e .cells)
-    at-most i less =
-        let fits : named + widthOf t ≤ h .count = width-inside t named (h .count) (fields-below h t named field-passes) in
-        omega (arith, entity-cell (e .count) (h .count) number (named + i) (m .there) (omega (arith, fits, less)), apart .entities-enough)
-
-    stored-value : (i : ℕ) → i < widthOf t → getD (stored .cells) (place + i) 0 ≡ getD pointed (s + i) 0
-    stored-value i less = store-wrote .taken i less (at-most i less)
-
-    same-place : getD pointed a 0 * h .count + getD pointed b 0 ≡ place
-    same-place = rw (same-entity, same-field)
-
-    -- the value that is loaded is not negative where it must not be
-    loads-natural : not (storedNatural t && negative (getD (stored .cells) (getD pointed a 0 * h .count + getD pointed b 0) 0)) ≡ true
-    loads-natural =
-        let first : getD (stored .cells) place 0 ≡ getD pointed s 0 =
-        (rw (add-zero place, add-zero s) at (stored-value 0 (some-width t)))
-        in
-        rw (same-place, first) (natural-again (mustBeNatural t) (eqb t string) (negative (getD pointed s 0)) (z .natural-read) (z .natural-string))
-      where
-        some-width : (t : ℕ) → 0 < widthOf t
-        some-width t = go (eqb t vector)
-          where
-            go : (b : Bool) → 0 < cond b 3 1
-            go true = omega arith
-            go false = omega arith
-
-    -- the load is refused only for its destination
-    reload-accepted : All (access g t d) → All (reloaded .conditions)
-    unfolding loadsEffect readAccess
-    reload-accepted destination =
-        let re : Conditions = access g entity a ++ ((not (mustBeNatural entity && negative (getD pointed a 0)) otherwise 17) ∷ []) in
-        let rf : Conditions = access g field b ++ ((not (mustBeNatural field && negative (getD pointed b 0)) otherwise 17) ∷ []) in
-        let there : Conditions = (ltb (getD pointed a 0) (e .count) otherwise 30) ∷ [] in
-        let fa : Conditions = fieldAccess h t (getD pointed b 0) in
-        let is-there : ltb (getD pointed a 0) (e .count) ≡ true = rw same-entity (lt-ltb number (e .count) (m .there)) in
-        all-both (re ++ rf ++ access g t d ++ there ++ fa) _
-        (all-both (re ++ rf ++ access g t d ++ there) fa
-        (all-both (re ++ rf ++ access g t d) there
-        (all-both (re ++ rf) (access g t d)
-        (all-both re rf
-        (subst (λ (v : ℕ). All (access g entity a ++ ((not (mustBeNatural entity && negative v) otherwise 17) ∷ []))) (sym same-entity) (m .reads-entity))
-        (subst (λ (v : ℕ). All (access g field b ++ ((not (mustBeNatural field && negative v) otherwise 17) ∷ []))) (sym same-field) (m .reads-field)))
-        destination)
-        (is-there, tt))
-        (subst (λ (f : ℕ). All (fieldAccess h t f)) (sym same-field) field-passes))
-        (loads-natural, tt)
-
-    -- and the cells from d on have the value
-    reload-value : All (access g t d) → (i : ℕ) → i < widthOf t → getD (reloaded .cells) (d + i) 0 ≡ getD pointed (s + i) 0
-    unfolding loadsEffect addressesEffect
-    reload-value destination i less =
-        let from = getD pointed a 0 * h .count + getD pointed b 0 in
-        let moves : Written pointed (reloaded .cells) (stored .cells) from d (widthOf t) = moved-written t (stored .cells) from pointed d in
-        let fits : d + widthOf t ≤ g .count = width-inside t d (g .count) (access-last g t d destination) in
-        let room : d + i < length pointed = omega (arith, fits, less, apart .cells-enough, length-set cells c (place * 4)) in
-        moves .taken i less room ∙ ap (λ (j : ℕ). getD (stored .cells) (j + i) 0) same-place ∙ stored-value i less
-
-  -- a pointer made by Address and stored through at once writes the field that a load of the same entity and field reads: the load is refused only for
-  -- its destination, and gives back the value that was stored
-  pub round-trip : Apart → All (addressesEffect g h e a b c cells .conditions) → All (storesPEffect t g h e s c 0 pointed .conditions) → All (access g t d)
-      → All (reloaded .conditions) × ((i : ℕ) → i < widthOf t → getD (reloaded .cells) (d + i) 0 ≡ getD pointed (s + i) 0)
-  round-trip apart pointing storing destination =
-      let m = made pointing in
-      let z = passed storing in
-      (reload-accepted apart m z destination, reload-value apart m z destination)
+-- "The return guarantee then also covers runs that write entities", "though between calls the host may change any": demand 3 holds of a list in which others
+-- are lent after any call
+pub returns-over-lendings : (file : List ℕ) (n : ℤ) (cells saved entities : List ℕ) (c : Config) → load file n cells saved entities ≡ accepted c
+    → (ks : List Call) (lent : List ℕ) (more : List Call) → Always file (StepCorrect file) (DepthsMatch file) c [] (ks ++ (lends lent ∷ more))
+unfolding Demand3
+returns-over-lendings file n cells saved entities c accepts ks lent more = demand3 file n cells saved entities c accepts (ks ++ (lends lent ∷ more))

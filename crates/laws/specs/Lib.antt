@@ -11,5 +11,6 @@ pub mod RowDecides
 pub mod Completed
 pub mod Runs
 pub mod Untouched
+pub mod RoundTrip
 pub mod Opcodes
 pub mod Refusals

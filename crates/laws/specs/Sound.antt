@@ -18,17 +18,18 @@ use Rattle.definition.specs.Checks.{Condition, Conditions, Checked, refused, ac
 use Rattle.definition.specs.File.{leastCells, savedStore, mostEntities, greatestDepth, negative, fileOf, contentsOf, lengthFits, lumpsFit, cellsFit, entityFits, contentsAt}
 use Rattle.definition.specs.Machine.{Program, functionOf, State, Config, countOf, limits, zeroFrame, startState, entitiesFit, present, copied, successive, argumentsOf, withCells, withEntities, advanced}
 use Rattle.definition.specs.Machine.{entryConditions, entered, leaveConditions, left, returnConditions, returned}
-use Rattle.definition.specs.Load.{headerConditions, recordConditions, cellConditions, entityConditions, loadConditions, loaded, entitiesGiven, load, sameLump, sameFile, recordedIn, programAt, programOf}
+use Rattle.definition.specs.Load.{headerConditions, recordConditions, cellConditions, loadConditions, loaded, entitiesGiven, load, sameLump, sameFile, recordedIn, programAt, programOf}
 use Rattle.definition.specs.Operations.{frameFunctions, enteredAt, enteredFunctions, allPresent, localsOf, sound}
 use Rattle.definition.specs.Calls.{Call}
 use Rattle.definition.specs.Log.{Log, Kind, entry, leaving, other}
-use Rattle.definition.specs.Trace.{StepProperty, Always}
+use Rattle.definition.specs.Trace.{StepProperty, StateProperty, Always}
 use Rattle.definition.specs.CheckLaws.{All, and-left, and-right, and-both, WhenAccepted, guarded}
 use Rattle.definition.specs.Parts.{Present, present-true, present-more, present-source, length-pasted, length-copied}
 use Rattle.definition.specs.RecordLaws.{length-globals}
 use Rattle.definition.specs.LoadLaws.{load-rows}
 use Rattle.definition.specs.StatementLaws.{Keeps}
 use Rattle.definition.specs.Invariant.{Preserves, Inductive, always, roomIn}
+use Rattle.laws.specs.Starts.{load-starts}
 use Rattle.laws.specs.Entities.{Suffice, LendEnough, while-enough}
 
 -- ---- the entered functions, after an entry and after a leaving
@@ -288,6 +289,25 @@ loaded-suffices file n cells saved entities =
 -- the lent entity cells of an accepted load suffice
 pub load-suffices : (file : List ℕ) (n : ℤ) (cells saved entities : List ℕ) (c : Config) → load file n cells saved entities ≡ accepted c → Suffice file c
 load-suffices file n cells saved entities c accepts = subst (WhenAccepted (Suffice file)) accepts (loaded-suffices file n cells saved entities)
+
+-- "their number given at load and kept in the state"
+number-inductive : (file : List ℕ) (n : ℤ) → Inductive file (λ c l. pos (c .state .entityCount) ≡ n) AnyStep
+unfolding entered left
+number-inductive file n =
+    record {
+      plain = λ c l p cells entities k keeps puts. (tt, k);
+      writing = λ c l a v k h. (tt, k);
+      lending = λ c l entities k. (tt, k);
+      entering = λ c l f back k h. (tt, k);
+      returning = λ c l a k h. (tt, k);
+      leave-one = λ c l k h. (tt, k);
+    }
+
+pub number-kept : (file : List ℕ) (n : ℤ) (cells saved entities : List ℕ) (c : Config) → load file n cells saved entities ≡ accepted c → (calls : List Call)
+    → Always file AnyStep (λ c′ l. pos (c′ .state .entityCount) ≡ n) c [] calls
+number-kept file n cells saved entities c accepts calls =
+    let same-number : StateProperty = λ c′ l. pos (c′ .state .entityCount) ≡ n in
+    always file same-number AnyStep (number-inductive file n) same-number (λ c′ l k. k) c [] calls (load-starts file n cells saved entities c accepts .entity-count)
 
 -- so 13 refuses no call of a list in which every lending is of entity cells enough, nor of one without lendings
 pub never-13-lent : (file : List ℕ) (n : ℤ) (cells saved entities : List ℕ) (c : Config) → load file n cells saved entities ≡ accepted c

@@ -13,7 +13,7 @@ use lib.Dec.{leb}
 use Rattle.definition.specs.Checks.{Condition, Conditions, judge, refused, accepted, guard}
 use Rattle.definition.specs.File.{fileOf, contentsOf, lengthFits, leastCells, cellsFit}
 use Rattle.definition.specs.Machine.{Config, entitiesFit}
-use Rattle.definition.specs.Load.{headerConditions, recordConditions, cellConditions, entityConditions, loaded, entitiesGiven, load}
+use Rattle.definition.specs.Load.{headerConditions, recordConditions, cellConditions, loaded, entitiesGiven, load}
 use Rattle.definition.specs.CheckLaws.{All, and-left, and-right, WhenAccepted, guarded}
 use Rattle.definition.specs.RecordLaws.{length-globals}
 use Rattle.definition.specs.LoadLaws.{load-rows}
