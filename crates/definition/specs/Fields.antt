@@ -88,7 +88,7 @@ loads =
     ∷ row "13, after 12: cells" (loading least (pos 601) 35 2048 [] number) (refused 12)
     ∷ row "13, after 12: saved store" (loading least (negsuc 0) 36 2047 [] number) (refused 12)
     ∷ row "13, after 11" (loading (record { statements = []; globaldefs = []; fielddefs = []; functions = []; strings = []; globals = numbers 36 0; entityfields = 104 }) (pos 601) 36 2048 [] number) (refused 11)
-    ∷ row "untouched, by a load too" (from least (209 holds 7 ∷ []) (fields 4 208)) (accepted (1208 ∷ 7 ∷ 1210 ∷ 1211 ∷ []))
+    ∷ row "untouched, by a load too" (from least (209 holds 7 ∷ []) (fields 212 0)) (accepted (numbers 209 1000 ++ (7 ∷ 1210 ∷ 1211 ∷ [])))
     ∷ []
 
 -- ---- Load: the entity is in cell 28, the field in cell 29, the destination is cell 30
@@ -378,6 +378,8 @@ together =
     ∷ row "what is written through a pointer is what a Load reads" (written (runBy (pos 0) (pos 9) (cells 3 1))) (accepted (0 ∷ 4 ∷ 0x3fc00000 ∷ 460 ∷ 34 ∷ []))
     ∷ row "a Return restores cells" (written (runBy (pos 0) (pos 9) (cells 4 31))) (accepted (0 ∷ 4 ∷ 0x3fc00000 ∷ 32 ∷ 33 ∷ 34 ∷ []))
     ∷ row "and no entity cell: which keep what was last written" (written (runBy (pos 0) (pos 9) (fields 3 114))) (accepted (0 ∷ 4 ∷ 1114 ∷ 0x3fc00000 ∷ 1116 ∷ []))
+    ∷ row "the other lent entity cells are untouched" (written (runBy (pos 0) (pos 9) (fields 212 0)))
+    (accepted (0 ∷ 4 ∷ numbers 115 1000 ++ (0x3fc00000 ∷ numbers 96 1116)))
     ∷ row "nor does an inner Return" (writtenBelow (complete (complete (complete (state and fields 3 114))))) (accepted (2 ∷ 1 ∷ 1 ∷ 0 ∷ 1114 ∷ 30 ∷ 1116 ∷ []))
     ∷ row "an entry touches none" (writtenBelow (complete (fields 3 114))) (accepted (1114 ∷ 1115 ∷ 1116 ∷ []))
     ∷ row "27: a Load" (from (contents [] [] (load24 24 ∷ []) (plain ∷ []) (inEntity 1 10)) [] (enter 1 (carry state))) (refused 27)
