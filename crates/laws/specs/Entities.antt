@@ -231,8 +231,7 @@ module _ (file : List ℕ) where
       → (c : Config) (l : Log) (ks : List Call) → Suffice c → LendEnough (roomIn file c) ks → Always file Step At c l ks → Always file Step At′ c l ks
   while-enough Step At At′ then c l [] enough lent h = then c l h enough
   while-enough Step At At′ then c l (k ∷ ks) enough lent h =
-      let later = enough-after k ks c (after P k c) (entities-by k c) enough lent in
-      (
+      let later = enough-after k ks c (after P k c) (entities-by k c) enough lent in (
         then c l (h .0) enough,
         h .1,
         h .2,

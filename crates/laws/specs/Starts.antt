@@ -3,7 +3,7 @@
 use Prim.Native.Nat.{ℕ, _*_, _≤_, _<_}
 use mathlib.Core.Path.{_≡_, refl, subst}
 use mathlib.Core.List.{List, _++_}
-use mathlib.Core.Bool.{true}
+use mathlib.Core.Bool.{true, false}
 use native.Mathlib.Omega.{arith}
 use borrow.Author.Tests.{leb-true, le-leb, lt-leb}
 use lib.IntN.{ℤ, pos, negsuc}
@@ -80,6 +80,11 @@ length-fits file low high = rw (le-leb 60 (length file) low, le-leb (length file
 -- "10: under 36 or over 32,768"
 pub cells-fit : (file : List ℕ) → 36 ≤ fileOf file .globals .count → fileOf file .globals .count ≤ 32768 → cellsFit leastCells (fileOf file) ≡ true
 cells-fit file low high = rw (le-leb 36 (fileOf file .globals .count) low, le-leb (fileOf file .globals .count) 32768 high)
+
+-- R-3: "More than 600 entities .. are refused 13", however many entity cells are lent
+pub too-many-entities : (n size lent : ℕ) → 600 < n → entitiesFit n size lent ≡ false
+unfolding entitiesFit
+too-many-entities n size lent h = rw (lt-leb n 600 h)
 
 -- the sizes of what an accepted load was given
 pub record Sizes (file : List ℕ) (n : ℤ) (cells saved entities : List ℕ) : Type 0 where
