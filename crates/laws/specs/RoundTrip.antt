@@ -15,14 +15,14 @@ use borrow.Author.Tests.{ltb-true, lt-ltb}
 use Rattle.definition.specs.declared.Statement.{Statement}
 use Rattle.definition.specs.Checks.{Conditions, _otherwise_, judge}
 use Rattle.definition.specs.File.{contentsOf, negative}
-use Rattle.definition.specs.Cells.{string, vector, entity, field, pointer, cellOf, Typing, mustBeNatural, access, readAccess, fieldAccess}
+use Rattle.definition.specs.Cells.{string, vector, entity, field, pointer, cellOf, Typing, typingOf, fieldsOf, mustBeNatural, access, readAccess, fieldAccess}
 use Rattle.definition.specs.Statements.{Entities, Does, orRefused, provided, unused, valueMoved, storedNatural, pointsAtField, storesPEffect, loadsEffect, addressesEffect, Effect, effectDoes, putDoes, fetchConditions, Tables, tablesOf, executeAs, execute, doesAt}
 use Rattle.definition.specs.Statements.{Shape, loads, addresses, storesP, shapeOf}
 use Rattle.definition.specs.Machine.{Program, Config, entitiesOf, advanced, completed, stepAs, step}
 use Rattle.definition.specs.Load.{programAt, programOf}
 use Rattle.definition.specs.CheckLaws.{All, judge-passed, all-front, all-back, all-both}
 use Rattle.definition.specs.StatementLaws.{fields-below, access-last, entity-cell}
-use Rattle.laws.specs.Entities.{widthOf, Written, moved-written, width-inside, at, Suffice}
+use Rattle.laws.specs.Entities.{widthOf, Written, moved-written, width-inside, at}
 
 -- ---- the round trip: Address, then StoreP through the pointer that it made, then a Load of the same entity and field
 
@@ -31,9 +31,49 @@ natural-again : (m n x : Bool) → not (m && x) ≡ true → not (n && x) ≡ tr
 natural-again true n x p q = p
 natural-again false n x p q = q
 
+-- the operands of the three: the entity and the field, which the first and the last share; the pointer, which the first makes and the second goes through; the
+-- value, and the operand that the second does not use; the destination of the last
+pub record Operands : Type 0 where
+  pub of-entity : ℕ
+  pub of-field : ℕ
+  pub of-pointer : ℕ
+  pub of-value : ℕ
+  pub of-none : ℕ
+  pub of-destination : ℕ
+
+-- the cells that they name
+abbrev pub cellsOf : Operands → Operands
+cellsOf o =
+    record {
+      of-entity = cellOf (o .of-entity);
+      of-field = cellOf (o .of-field);
+      of-pointer = cellOf (o .of-pointer);
+      of-value = cellOf (o .of-value);
+      of-none = cellOf (o .of-none);
+      of-destination = cellOf (o .of-destination);
+    }
+
 -- Address of the entity in a and the field in b to c; a store of the value of type t in s through c, with u for its third operand; a load of the entity in a
 -- and the field in b to d
-module _ (t : ℕ) (g h : Typing) (e : Entities) (a b c s u d : ℕ) (cells : List ℕ) where
+module _ (t : ℕ) (g h : Typing) (e : Entities) (o : Operands) (cells : List ℕ) where
+  abbrev a : ℕ
+  a = o .of-entity
+
+  abbrev b : ℕ
+  b = o .of-field
+
+  abbrev c : ℕ
+  c = o .of-pointer
+
+  abbrev s : ℕ
+  s = o .of-value
+
+  abbrev u : ℕ
+  u = o .of-none
+
+  abbrev d : ℕ
+  d = o .of-destination
+
   -- the cells after the Address
   abbrev pub pointed : List ℕ
   pointed = addressesEffect g h e a b c cells .cells
@@ -259,54 +299,41 @@ abbrev op : ℕ → ℕ → ℕ → ℕ → Statement
 op opcode a b c = record { opcode = opcode; arg1 = a; arg2 = b; arg3 = c }
 
 -- three statements one after the other: an Address, a store of a value of type t through what it made, a load of type t of the same entity and field
-pub record RoundTrip (file : List ℕ) (t : ℕ) (x x₁ x₂ x₃ : Config) (a b c s u d : ℕ) : Type 0 where
+pub record RoundTrip (file : List ℕ) (t : ℕ) (o : Operands) (x x₁ x₂ x₃ : Config) : Type 0 where
   pub first : ℕ
   pub second : ℕ
   pub third : ℕ
   pub makes : shapeOf first ≡ addresses
   pub stores-it : shapeOf second ≡ storesP t
   pub loads-it : shapeOf third ≡ loads t
-  pub at-first : at file (x .state .pc) ≡ op first a b c
-  pub at-second : at file (x .state .pc +ℤ pos 1) ≡ op second s c u
-  pub at-third : at file (x .state .pc +ℤ pos 1 +ℤ pos 1) ≡ op third a b d
+  pub at-first : at file (x .state .pc) ≡ op first (o .of-entity) (o .of-field) (o .of-pointer)
+  pub at-second : at file (x .state .pc +ℤ pos 1) ≡ op second (o .of-value) (o .of-pointer) (o .of-none)
+  pub at-third : at file (x .state .pc +ℤ pos 1 +ℤ pos 1) ≡ op third (o .of-entity) (o .of-field) (o .of-destination)
   pub step-first : step (programOf file) x ≡ completed x₁
   pub step-second : step (programOf file) x₁ ≡ completed x₂
   pub step-third : step (programOf file) x₂ ≡ completed x₃
-  -- the pointer does not replace the entity or the field; the lent cells and entity cells are as many as 13 asks
-  pub from-entity : cellOf a ≢ cellOf c
-  pub from-field : cellOf b ≢ cellOf c
-  pub cells-enough : length (contentsOf file .globals) ≤ length (x .cells)
-  pub entities-enough : Suffice file x
+  pub apart : Apart t (typingOf (contentsOf file)) (fieldsOf (contentsOf file)) (entitiesOf x) (cellsOf o) (x .cells)
 
 -- the load gives back the value that was stored
-pub machine-round-trip : (file : List ℕ) (t : ℕ) (x x₁ x₂ x₃ : Config) (a b c s u d : ℕ) → RoundTrip file t x x₁ x₂ x₃ a b c s u d
-    → (i : ℕ) → i < widthOf t → getD (x₃ .cells) (cellOf d + i) 0 ≡ getD (x₂ .cells) (cellOf s + i) 0
-machine-round-trip file t x x₁ x₂ x₃ a b c s u d r i less =
-    let k = tablesOf (contentsOf file) in
-    let g = k .globals in
-    let h = k .fields in
+pub machine-round-trip : (file : List ℕ) (t : ℕ) (o : Operands) (x x₁ x₂ x₃ : Config) → RoundTrip file t o x x₁ x₂ x₃
+    → (i : ℕ) → i < widthOf t → getD (x₃ .cells) (cellOf (o .of-destination) + i) 0 ≡ getD (x₂ .cells) (cellOf (o .of-value) + i) 0
+machine-round-trip file t o x x₁ x₂ x₃ r i less =
+    let g = typingOf (contentsOf file) in
+    let h = fieldsOf (contentsOf file) in
     let e = entitiesOf x in
     let p = x .state .pc in
-    let A = addressesEffect g h e (cellOf a) (cellOf b) (cellOf c) (x .cells) in
-    let one = effect-step file x x₁ (op (r .first) a b c) (r .at-first) (r .step-first) A
-    (executed-step file x x₁ (op (r .first) a b c) (r .at-first) (r .step-first) addresses (r .makes))
-    in
+    let q = cellsOf o in
+    let A = addressesEffect g h e (q .of-entity) (q .of-field) (q .of-pointer) (x .cells) in
+    let one = effect-step file x x₁ _ (r .at-first) (r .step-first) A (executed-step file x x₁ _ (r .at-first) (r .step-first) addresses (r .makes)) in
     let y₁ : Config = advanced x (p +ℤ pos 1) (A .cells) (x .entities) in
-    let S = storesPEffect t g h e (cellOf s) (cellOf c) (cellOf u) (A .cells) in
+    let S = storesPEffect t g h e (q .of-value) (q .of-pointer) (q .of-none) (A .cells) in
     let step₂ : step (programOf file) y₁ ≡ completed x₂ = subst (λ (y : Config). step (programOf file) y ≡ completed x₂) (one .1) (r .step-second) in
-    let two = put-step file y₁ x₂ (op (r .second) s c u) (r .at-second) step₂ S
-    (executed-step file y₁ x₂ (op (r .second) s c u) (r .at-second) step₂ (storesP t) (r .stores-it))
-    in
+    let two = put-step file y₁ x₂ _ (r .at-second) step₂ S (executed-step file y₁ x₂ _ (r .at-second) step₂ (storesP t) (r .stores-it)) in
     let y₂ : Config = advanced y₁ (p +ℤ pos 1 +ℤ pos 1) (A .cells) (S .cells) in
-    let L = loadsEffect t g h (entitiesOf y₂) (cellOf a) (cellOf b) (cellOf d) (A .cells) in
+    let L = loadsEffect t g h (entitiesOf y₂) (q .of-entity) (q .of-field) (q .of-destination) (A .cells) in
     let step₃ : step (programOf file) y₂ ≡ completed x₃ = subst (λ (y : Config). step (programOf file) y ≡ completed x₃) (two .1) (r .step-third) in
-    let three = effect-step file y₂ x₃ (op (r .third) a b d) (r .at-third) step₃ L
-    (executed-step file y₂ x₃ (op (r .third) a b d) (r .at-third) step₃ (loads t) (r .loads-it))
-    in
-    let apart : Apart t g h e (cellOf a) (cellOf b) (cellOf c) (cellOf s) (cellOf u) (cellOf d) (x .cells) =
-    record { from-entity = r .from-entity; from-field = r .from-field; cells-enough = r .cells-enough; entities-enough = r .entities-enough }
-    in
-    let back = round-trip t g h e (cellOf a) (cellOf b) (cellOf c) (cellOf s) (cellOf u) (cellOf d) (x .cells) apart (one .0) (two .0) (load-destination t g h (entitiesOf y₂) (cellOf a) (cellOf b) (cellOf d) (A .cells) (three .0)) .1 i less in
-    ap (λ (y : Config). getD (y .cells) (cellOf d + i) 0) (three .1)
-    ∙ back
-    ∙ sym (ap (λ (y : Config). getD (y .cells) (cellOf s + i) 0) (two .1))
+    let three = effect-step file y₂ x₃ _ (r .at-third) step₃ L (executed-step file y₂ x₃ _ (r .at-third) step₃ (loads t) (r .loads-it)) in
+    let destination = load-destination t g h (entitiesOf y₂) (q .of-entity) (q .of-field) (q .of-destination) (A .cells) (three .0) in
+    ap (λ (y : Config). getD (y .cells) (q .of-destination + i) 0) (three .1)
+    ∙ round-trip t g h e q (x .cells) (r .apart) (one .0) (two .0) destination .1 i less
+    ∙ sym (ap (λ (y : Config). getD (y .cells) (q .of-value + i) 0) (two .1))
