@@ -3,12 +3,10 @@
 -- statement, Load, Address and StoreP, every refusal is met alone, and every two neighbours in the order of checks in one statement, which is refused with
 -- the earlier number.
 use Prim.Native.Nat.{ℕ, _+_}
-use Prim.Native.String.{String}
 use mathlib.Core.List.{List, [], _∷_, _++_}
-use mathlib.Core.Bool.{Bool, true, _&&_}
 use lib.IntN.{ℤ, pos, negsuc}
-use lib.ListN.{length, set, take, drop, replicate}
-use lib.Dec.{T, eqb}
+use lib.ListN.{set, take, drop, replicate}
+use lib.Dec.{T}
 use Rattle.definition.specs.declared.Statement.{Statement}
 use Rattle.definition.specs.declared.Definition.{Definition}
 use Rattle.definition.specs.declared.FunctionDef.{FunctionDef}
@@ -16,7 +14,7 @@ use Rattle.definition.specs.Checks.{judge, refused, accepted}
 use Rattle.definition.specs.File.{Contents}
 use Rattle.definition.specs.Cells.{void, string, float, vector, entity, field, function, pointer}
 use Rattle.definition.specs.Statements.{addressesEffect}
-use Rattle.definition.specs.Machine.{Config, withEntities}
+use Rattle.definition.specs.Machine.{withEntities}
 use Rattle.definition.specs.Load.{load, programOf}
 use Rattle.definition.specs.Starred.{assembled, op, return, call, fn, define, plain, numbers, Seen, andThen, Scenario, _and_, state, cells, enter, complete, runBy, carry, everyOperation}
 use Rattle.definition.specs.Starred.{Row, row, all, computing}

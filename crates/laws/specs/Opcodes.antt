@@ -18,7 +18,7 @@ use Rattle.definition.specs.Checks.{judge}
 use Rattle.definition.specs.File.{Contents, builtinNumber}
 use Rattle.definition.specs.Floats.{rounded, absolute, roundingOf}
 use Rattle.definition.specs.Cells.{lookup, scalar, passes, signed, cellOf, cellAccess, vectorAccess, access, readAccess, withoutVoid, fieldCellAccess, fieldAccess}
-use Rattle.definition.specs.Statements.{Entities, Does, next, puts, calls, returns, refuses, handsOver, shapeOf, fetchConditions, execute, doesAt}
+use Rattle.definition.specs.Statements.{Does, next, puts, calls, returns, refuses, handsOver, shapeOf, fetchConditions, execute, doesAt}
 use Rattle.definition.specs.Statements.{floatsEffect, valuesEffect, vectorResult, vectorsEffect, vectorsToFloatEffect, stringsEffect}
 use Rattle.definition.specs.Statements.{negatesEffect, negatesVEffect, negatesSEffect, storesEffect, storesVEffect, branchesDo, roundingEffect, callOf, callDoes}
 use Rattle.definition.specs.Statements.{valueMoved, loadsEffect, addressesEffect, storesPEffect}

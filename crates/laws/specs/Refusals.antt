@@ -14,7 +14,7 @@ use Rattle.definition.specs.declared.Handover.the-variants.{Builtin, Opcode}
 use Rattle.definition.specs.Checks.{judge, refused, accepted}
 use Rattle.definition.specs.File.{builtinNumber}
 use Rattle.definition.specs.Cells.{cellOf}
-use Rattle.definition.specs.Statements.{Does, next, puts, calls, returns, refuses, handsOver, callOf}
+use Rattle.definition.specs.Statements.{Does, next, calls, returns, refuses, handsOver, callOf}
 use Rattle.definition.specs.Machine.{Program, State, Config, entitiesFit, limits, zeroFrame, present, copied, successive, arguments, copiesPresent}
 use Rattle.definition.specs.Machine.{entryConditions, entered, leaveConditions, returnConditions, Stepped, completed, refusedStep, handedStep}
 use Rattle.definition.specs.Load.{each, recordConditions}
