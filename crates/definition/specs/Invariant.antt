@@ -227,7 +227,6 @@ module _ (file : List ℕ) (K : StateProperty) (Step : StepProperty) (S : Induct
       in-count : (a : ℤ) → below a (countOf c) ≡ true → natural a < countOf c
       in-count (pos i) e = ltb-true i (countOf c) e
       in-count (negsuc i) e = absurd (let z : false ≡ true = e in mathlib.Core.Bool.false≢true z)
-
   call-preserves (lends entities) c l k = one (lends entities) c l (withEntities c entities) refl (S .lending c l entities k)
 
   -- what K shows, holds between the calls, and Step of every small step

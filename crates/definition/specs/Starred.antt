@@ -49,7 +49,7 @@ abbrev functionBytes : FunctionDef → List ℕ
 functionBytes d = bytes u32 (d .first ∷ d .start ∷ d .locals ∷ 0 ∷ d .name ∷ d .srcfile ∷ d .argc ∷ []) ++ d .argsz
 
 -- the lumps one behind the other, the cells first: to read a byte costs by its place
-abbrev assembled : Contents → List ℕ
+abbrev pub assembled : Contents → List ℕ
 assembled k =
     let cells : ℕ = 60 in
     let statements = cells + 4 * length (k .globals) in
@@ -73,7 +73,7 @@ overwritten at xs file = take at file ++ xs ++ drop (at + length xs) file
 
 -- ---- contents
 
-abbrev op : ℕ → ℕ → ℕ → ℕ → Statement
+abbrev pub op : ℕ → ℕ → ℕ → ℕ → Statement
 op opcode a b c = record { opcode = opcode; arg1 = a; arg2 = b; arg3 = c }
 
 abbrev mulV : ℕ → ℕ → ℕ → Statement
@@ -146,7 +146,7 @@ typedProgram definitions statements functions cells =
 abbrev pub program : List Statement → List FunctionDef → List ℕ → Contents
 program = typedProgram []
 
-abbrev numbers : ℕ → ℕ → List ℕ
+abbrev pub numbers : ℕ → ℕ → List ℕ
 numbers zero a = []
 numbers (suc n) a = a ∷ numbers n (a + 1)
 
@@ -177,7 +177,7 @@ cellsWith a (x ∷ xs) = set (cellsWith (a + 1) xs) a x
 abbrev pub Seen : Type 0
 Seen = Checked (List ℕ)
 
-abbrev andThen : {A B : Type 0} → Checked A → (A → Checked B) → Checked B
+abbrev pub andThen : {A B : Type 0} → Checked A → (A → Checked B) → Checked B
 andThen (refused n) rest = refused n
 andThen (accepted a) rest = rest a
 
@@ -273,7 +273,7 @@ abbrev abandonTo : ℤ → Scenario → Scenario
 abandonTo target rest P c = andThen (abandon P target c) (rest P)
 
 -- every operation, with an argument that its own row refuses: entry, statement, run, carry on, abandon, raw read, raw write
-abbrev everyOperation : Scenario
+abbrev pub everyOperation : Scenario
 everyOperation P c =
     let none = negsuc 0 in
     accepted

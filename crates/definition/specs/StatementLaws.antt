@@ -153,10 +153,10 @@ unfolding fieldCellAccess
 field-below h t field k = ltb-true field (h .count) (k .1 .0)
 
 -- the last cell of a value of a type from a cell on
-abbrev lastOf : ℕ → ℕ → ℕ
+abbrev pub lastOf : ℕ → ℕ → ℕ
 lastOf t cell = cond (eqb t vector) (cell + 2) cell
 
-fields-below : (h : Typing) (t field : ℕ) → All (fieldAccess h t field) → lastOf t field < h .count
+pub fields-below : (h : Typing) (t field : ℕ) → All (fieldAccess h t field) → lastOf t field < h .count
 unfolding fieldAccess
 fields-below h t field k = go (eqb t vector) k
   where
@@ -168,7 +168,7 @@ fields-below h t field k = go (eqb t vector) k
         (all-back (fieldCellAccess h float field ++ fieldCellAccess h float (field + 1)) (fieldCellAccess h float (field + 2)) k)
     go false k = field-below h t field k
 
-access-last : (g : Typing) (t cell : ℕ) → All (access g t cell) → lastOf t cell < g .count
+pub access-last : (g : Typing) (t cell : ℕ) → All (access g t cell) → lastOf t cell < g .count
 unfolding access vectorAccess cellAccess
 access-last g t cell k = go (eqb t vector) k
   where

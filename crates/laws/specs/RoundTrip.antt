@@ -1,0 +1,339 @@
+-- THE ROUND TRIP of a field, document 02's R-3: a pointer made by Address, and stored through at once, writes the field that a load of the same entity and
+-- field reads. So a pointer names what its entity and field name.
+use Prim.Native.Nat.{ℕ, zero, suc, _+_, _*_, _/_, _%_, _≤_, _<_}
+use mathlib.Core.Path.{_≡_, refl, sym, _∙_, ap, subst}
+use mathlib.Core.Logic.{_≢_}
+use mathlib.Core.List.{List, [], _∷_, _++_}
+use mathlib.Core.Bool.{Bool, true, false, not, _&&_, _||_, cond}
+use native.Mathlib.Omega.{arith}
+use native.Mathlib.Nat.{add-zero, mul-div-cancel, mul-add-mod-self-right, mod-eq-of-lt}
+use lib.IntN.{pos, _+ℤ_}
+use lib.ListN.{length, getD, length-set}
+use lib.Seq.{getD-set-same, getD-set-other}
+use lib.Dec.{eqb, ltb}
+use borrow.Author.Tests.{ltb-true, lt-ltb}
+use Rattle.definition.specs.declared.Statement.{Statement}
+use Rattle.definition.specs.Checks.{Conditions, _otherwise_, judge}
+use Rattle.definition.specs.File.{contentsOf, negative}
+use Rattle.definition.specs.Cells.{string, vector, entity, field, pointer, cellOf, Typing, typingOf, fieldsOf, mustBeNatural, access, readAccess, fieldAccess}
+use Rattle.definition.specs.Statements.{Entities, Does, orRefused, provided, unused, valueMoved, storedNatural, pointsAtField, storesPEffect, loadsEffect, addressesEffect, Effect, effectDoes, putDoes, fetchConditions, Tables, tablesOf, executeAs, execute, doesAt}
+use Rattle.definition.specs.Statements.{Shape, loads, addresses, storesP, shapeOf}
+use Rattle.definition.specs.Machine.{Program, Config, entitiesOf, advanced, completed, stepAs, step}
+use Rattle.definition.specs.Load.{programAt, programOf}
+use Rattle.definition.specs.CheckLaws.{All, judge-passed, all-front, all-back, all-both}
+use Rattle.definition.specs.StatementLaws.{fields-below, access-last, entity-cell}
+use Rattle.laws.specs.Entities.{widthOf, Written, moved-written, width-inside, at}
+
+-- ---- the round trip: Address, then StoreP through the pointer that it made, then a Load of the same entity and field
+
+-- 17 of a value that was read and stored is not met when it is loaded
+natural-again : (m n x : Bool) → not (m && x) ≡ true → not (n && x) ≡ true → not ((m || n) && x) ≡ true
+natural-again true n x p q = p
+natural-again false n x p q = q
+
+-- the operands of the three: the entity and the field, which the first and the last share; the pointer, which the first makes and the second goes through; the
+-- value, and the operand that the second does not use; the destination of the last
+pub record Operands : Type 0 where
+  pub of-entity : ℕ
+  pub of-field : ℕ
+  pub of-pointer : ℕ
+  pub of-value : ℕ
+  pub of-none : ℕ
+  pub of-destination : ℕ
+
+-- the cells that they name
+abbrev pub cellsOf : Operands → Operands
+cellsOf o =
+    record {
+      of-entity = cellOf (o .of-entity);
+      of-field = cellOf (o .of-field);
+      of-pointer = cellOf (o .of-pointer);
+      of-value = cellOf (o .of-value);
+      of-none = cellOf (o .of-none);
+      of-destination = cellOf (o .of-destination);
+    }
+
+-- Address of the entity in a and the field in b to c; a store of the value of type t in s through c, with u for its third operand; a load of the entity in a
+-- and the field in b to d
+module _ (t : ℕ) (g h : Typing) (e : Entities) (o : Operands) (cells : List ℕ) where
+  abbrev a : ℕ
+  a = o .of-entity
+
+  abbrev b : ℕ
+  b = o .of-field
+
+  abbrev c : ℕ
+  c = o .of-pointer
+
+  abbrev s : ℕ
+  s = o .of-value
+
+  abbrev u : ℕ
+  u = o .of-none
+
+  abbrev d : ℕ
+  d = o .of-destination
+
+  -- the cells after the Address
+  abbrev pub pointed : List ℕ
+  pointed = addressesEffect g h e a b c cells .cells
+
+  -- the entities after the store
+  abbrev pub stored : Entities
+  stored = record { count = e .count; cells = storesPEffect t g h e s c u pointed .cells }
+
+  -- the load
+  abbrev pub reloaded : Effect
+  reloaded = loadsEffect t g h stored a b d pointed
+
+  abbrev number : ℕ
+  number = getD cells a 0
+
+  abbrev named : ℕ
+  named = getD cells b 0
+
+  abbrev place : ℕ
+  place = number * h .count + named
+
+  -- what the Address was accepted for
+  record Made : Type 0 where
+    reads-entity : All (readAccess g (mustBeNatural entity) entity a cells)
+    reads-field : All (readAccess g (mustBeNatural field) field b cells)
+    writes-pointer : All (access g pointer c)
+    there : number < e .count
+    inside : named < h .count
+
+  made : All (addressesEffect g h e a b c cells .conditions) → Made
+  unfolding addressesEffect
+  made q =
+      let re = readAccess g (mustBeNatural entity) entity a cells in
+      let rf = readAccess g (mustBeNatural field) field b cells in
+      let ap = access g pointer c in
+      let operands = all-front (re ++ rf ++ ap) _ q in
+      let limits = all-back (re ++ rf ++ ap) _ q in
+      record {
+        reads-entity = all-front re rf (all-front (re ++ rf) ap operands);
+        reads-field = all-back re rf (all-front (re ++ rf) ap operands);
+        writes-pointer = all-back (re ++ rf) ap operands;
+        there = ltb-true _ _ (limits .0);
+        inside = ltb-true _ _ (limits .1 .0);
+      }
+
+  -- what the store was accepted for
+  record Passed : Type 0 where
+    natural-read : not (mustBeNatural t && negative (getD pointed s 0)) ≡ true
+    field-of : All (fieldAccess h t (getD pointed c 0 / 4 % h .count))
+    natural-string : not (eqb t string && negative (getD pointed s 0)) ≡ true
+
+  passed : All (storesPEffect t g h e s c u pointed .conditions) → Passed
+  unfolding storesPEffect readAccess
+  passed q =
+      let p = getD pointed c 0 in
+      let last = (not (mustBeNatural t && negative (getD pointed s 0)) otherwise 17) ∷ [] in
+      let read = unused u ++ (access g t s ++ last) in
+      let ap = access g pointer c in
+      let there = (pointsAtField h e p otherwise 32) ∷ [] in
+      let fa = fieldAccess h t (p / 4 % h .count) in
+      let front = all-front (read ++ ap ++ there ++ fa) _ q in
+      let reading = all-front read ap (all-front (read ++ ap) there (all-front (read ++ ap ++ there) fa front)) in
+      record {
+        natural-read = all-back (access g t s) last (all-back (unused u) (access g t s ++ last) reading) .0;
+        field-of = all-back (read ++ ap ++ there) fa front;
+        natural-string = all-back (read ++ ap ++ there ++ fa) _ q .0;
+      }
+
+  -- the pointer does not replace the entity or the field, and the lent cells and entity cells are as many as 13 asks
+  pub record Apart : Type 0 where
+    pub from-entity : a ≢ c
+    pub from-field : b ≢ c
+    pub cells-enough : g .count ≤ length cells
+    pub entities-enough : e .count * h .count ≤ length (e .cells)
+
+  module _ (apart : Apart) (m : Made) (z : Passed) where
+    same-entity : getD pointed a 0 ≡ number
+    unfolding addressesEffect
+    same-entity = getD-set-other cells c a _ 0 (apart .from-entity)
+
+    same-field : getD pointed b 0 ≡ named
+    unfolding addressesEffect
+    same-field = getD-set-other cells c b _ 0 (apart .from-field)
+
+    the-pointer : getD pointed c 0 ≡ place * 4
+    unfolding addressesEffect
+    the-pointer = getD-set-same cells c _ 0 (omega (arith, access-last g pointer c (m .writes-pointer), apart .cells-enough))
+
+    its-place : getD pointed c 0 / 4 ≡ place
+    its-place = ap (λ (p : ℕ). p / 4) the-pointer ∙ mul-div-cancel place (omega arith)
+
+    its-field : getD pointed c 0 / 4 % h .count ≡ named
+    its-field = ap (λ (p : ℕ). p % h .count) its-place ∙ mul-add-mod-self-right number (h .count) named ∙ mod-eq-of-lt (m .inside)
+
+    field-passes : All (fieldAccess h t named)
+    field-passes = subst (λ (f : ℕ). All (fieldAccess h t f)) its-field (z .field-of)
+
+    -- what the store wrote: the value, at the place of the field
+    store-wrote : Written (e .cells) (stored .cells) pointed s place (widthOf t)
+    unfolding storesPEffect
+    store-wrote =
+        subst (λ (i : ℕ). Written (e .cells) (valueMoved t pointed s (e .cells) (getD pointed c 0 / 4)) pointed s i (widthOf t)) its-place
+        (moved-written t pointed s (e .cells) (getD pointed c 0 / 4))
+
+    at-most : (i : ℕ) → i < widthOf t → place + i < length (e .cells)
+    at-most i less =
+        let fits : named + widthOf t ≤ h .count = width-inside t named (h .count) (fields-below h t named field-passes) in
+        omega (arith, entity-cell (e .count) (h .count) number (named + i) (m .there) (omega (arith, fits, less)), apart .entities-enough)
+
+    stored-value : (i : ℕ) → i < widthOf t → getD (stored .cells) (place + i) 0 ≡ getD pointed (s + i) 0
+    stored-value i less = store-wrote .taken i less (at-most i less)
+
+    same-place : getD pointed a 0 * h .count + getD pointed b 0 ≡ place
+    same-place = rw (same-entity, same-field)
+
+    -- the value that is loaded is not negative where it must not be
+    loads-natural : not (storedNatural t && negative (getD (stored .cells) (getD pointed a 0 * h .count + getD pointed b 0) 0)) ≡ true
+    loads-natural =
+        let first : getD (stored .cells) place 0 ≡ getD pointed s 0 =
+        (rw (add-zero place, add-zero s) at (stored-value 0 (some-width t)))
+        in
+        rw (same-place, first) (natural-again (mustBeNatural t) (eqb t string) (negative (getD pointed s 0)) (z .natural-read) (z .natural-string))
+      where
+        some-width : (t : ℕ) → 0 < widthOf t
+        some-width t = go (eqb t vector)
+          where
+            go : (b : Bool) → 0 < cond b 3 1
+            go true = omega arith
+            go false = omega arith
+
+    -- the load is refused only for its destination
+    reload-accepted : All (access g t d) → All (reloaded .conditions)
+    unfolding loadsEffect readAccess
+    reload-accepted destination =
+        let re : Conditions = access g entity a ++ ((not (mustBeNatural entity && negative (getD pointed a 0)) otherwise 17) ∷ []) in
+        let rf : Conditions = access g field b ++ ((not (mustBeNatural field && negative (getD pointed b 0)) otherwise 17) ∷ []) in
+        let there : Conditions = (ltb (getD pointed a 0) (e .count) otherwise 30) ∷ [] in
+        let fa : Conditions = fieldAccess h t (getD pointed b 0) in
+        let is-there : ltb (getD pointed a 0) (e .count) ≡ true = rw same-entity (lt-ltb number (e .count) (m .there)) in
+        all-both (re ++ rf ++ access g t d ++ there ++ fa) _
+        (all-both (re ++ rf ++ access g t d ++ there) fa
+        (all-both (re ++ rf ++ access g t d) there
+        (all-both (re ++ rf) (access g t d)
+        (all-both re rf
+        (subst (λ (v : ℕ). All (access g entity a ++ ((not (mustBeNatural entity && negative v) otherwise 17) ∷ []))) (sym same-entity) (m .reads-entity))
+        (subst (λ (v : ℕ). All (access g field b ++ ((not (mustBeNatural field && negative v) otherwise 17) ∷ []))) (sym same-field) (m .reads-field)))
+        destination)
+        (is-there, tt))
+        (subst (λ (f : ℕ). All (fieldAccess h t f)) (sym same-field) field-passes))
+        (loads-natural, tt)
+
+    -- and the cells from d on have the value
+    reload-value : All (access g t d) → (i : ℕ) → i < widthOf t → getD (reloaded .cells) (d + i) 0 ≡ getD pointed (s + i) 0
+    unfolding loadsEffect addressesEffect
+    reload-value destination i less =
+        let from = getD pointed a 0 * h .count + getD pointed b 0 in
+        let moves : Written pointed (reloaded .cells) (stored .cells) from d (widthOf t) = moved-written t (stored .cells) from pointed d in
+        let fits : d + widthOf t ≤ g .count = width-inside t d (g .count) (access-last g t d destination) in
+        let room : d + i < length pointed = omega (arith, fits, less, apart .cells-enough, length-set cells c (place * 4)) in
+        moves .taken i less room ∙ ap (λ (j : ℕ). getD (stored .cells) (j + i) 0) same-place ∙ stored-value i less
+
+  -- a pointer made by Address and stored through at once writes the field that a load of the same entity and field reads: the load is refused only for
+  -- its destination, and gives back the value that was stored
+  pub round-trip : Apart → All (addressesEffect g h e a b c cells .conditions) → All (storesPEffect t g h e s c u pointed .conditions) → All (access g t d)
+      → All (reloaded .conditions) × ((i : ℕ) → i < widthOf t → getD (reloaded .cells) (d + i) 0 ≡ getD pointed (s + i) 0)
+  round-trip apart pointing storing destination =
+      let m = made pointing in
+      let z = passed storing in
+      (reload-accepted apart m z destination, reload-value apart m z destination)
+
+-- ---- the same of three statements that a machine completes one after the other
+
+-- what a step shows, where the statement is provided that conditions hold
+provided-steps : (P : Program) (cs : Conditions) (does : Does) (c c′ : Config) → stepAs P (provided cs does) c ≡ completed c′
+    → All cs × (stepAs P does c ≡ completed c′)
+unfolding stepAs
+provided-steps P cs does c c′ = go (judge cs) refl
+  where
+    go : (n : ℕ) → judge cs ≡ n → stepAs P (orRefused n does) c ≡ completed c′ → All cs × (stepAs P does c ≡ completed c′)
+    go zero e h = (judge-passed cs e, h)
+    go (suc n) e h = absurd (let z : _≡_ {A = ℕ} 0 1 = cc in omega arith)
+
+module _ (file : List ℕ) (c c′ : Config) (st : Statement) (is : at file (c .state .pc) ≡ st) (completes : step (programOf file) c ≡ completed c′) where
+  abbrev k : Tables
+  k = tablesOf (contentsOf file)
+
+  -- the statement is executed by its shape
+  executed-step : (shape : Shape) → shapeOf (st .opcode) ≡ shape
+      → stepAs (programOf file) (executeAs shape k (c .state .pc) st (cellOf (st .arg1)) (cellOf (st .arg2)) (cellOf (st .arg3)) (entitiesOf c) (c .cells)) c ≡ completed c′
+  unfolding step programAt doesAt execute
+  executed-step shape e =
+      let by : Shape → Statement → Does = λ s x. executeAs s k (c .state .pc) x (cellOf (x .arg1)) (cellOf (x .arg2)) (cellOf (x .arg3)) (entitiesOf c) (c .cells) in
+      let fetched = provided-steps (programOf file) (fetchConditions (contentsOf file .statements) (c .state .pc)) _ c c′ completes .1 in
+      subst (λ (s : Shape). stepAs (programOf file) (by s st) c ≡ completed c′) e
+      (subst (λ (x : Statement). stepAs (programOf file) (by (shapeOf (x .opcode)) x) c ≡ completed c′) is fetched)
+
+  effect-step : (x : Effect) → stepAs (programOf file) (effectDoes (c .state .pc) x) c ≡ completed c′
+      → All (x .conditions) × (c′ ≡ advanced c (c .state .pc +ℤ pos 1) (x .cells) (c .entities))
+  unfolding stepAs
+  effect-step x e =
+      let parts = provided-steps (programOf file) (x .conditions) _ c c′ e in
+      let f = parts .1 in
+      (parts .0, cc)
+
+  put-step : (x : Effect) → stepAs (programOf file) (putDoes (c .state .pc) x) c ≡ completed c′
+      → All (x .conditions) × (c′ ≡ advanced c (c .state .pc +ℤ pos 1) (c .cells) (x .cells))
+  unfolding stepAs
+  put-step x e =
+      let parts = provided-steps (programOf file) (x .conditions) _ c c′ e in
+      let f = parts .1 in
+      (parts .0, cc)
+
+-- what a load was accepted for: its destination
+load-destination : (t : ℕ) (g h : Typing) (e : Entities) (a b d : ℕ) (cells : List ℕ) → All (loadsEffect t g h e a b d cells .conditions) → All (access g t d)
+unfolding loadsEffect
+load-destination t g h e a b d cells q =
+    let read = readAccess g (mustBeNatural entity) entity a cells ++ readAccess g (mustBeNatural field) field b cells in
+    let there = (ltb (getD cells a 0) (e .count) otherwise 30) ∷ [] in
+    let fa = fieldAccess h t (getD cells b 0) in
+    all-back read (access g t d) (all-front (read ++ access g t d) there (all-front (read ++ access g t d ++ there) fa (all-front (read ++ access g t d ++ there ++ fa) _ q)))
+
+abbrev op : ℕ → ℕ → ℕ → ℕ → Statement
+op opcode a b c = record { opcode = opcode; arg1 = a; arg2 = b; arg3 = c }
+
+-- three statements one after the other: an Address, a store of a value of type t through what it made, a load of type t of the same entity and field
+pub record RoundTrip (file : List ℕ) (t : ℕ) (o : Operands) (x x₁ x₂ x₃ : Config) : Type 0 where
+  pub first : ℕ
+  pub second : ℕ
+  pub third : ℕ
+  pub makes : shapeOf first ≡ addresses
+  pub stores-it : shapeOf second ≡ storesP t
+  pub loads-it : shapeOf third ≡ loads t
+  pub at-first : at file (x .state .pc) ≡ op first (o .of-entity) (o .of-field) (o .of-pointer)
+  pub at-second : at file (x .state .pc +ℤ pos 1) ≡ op second (o .of-value) (o .of-pointer) (o .of-none)
+  pub at-third : at file (x .state .pc +ℤ pos 1 +ℤ pos 1) ≡ op third (o .of-entity) (o .of-field) (o .of-destination)
+  pub step-first : step (programOf file) x ≡ completed x₁
+  pub step-second : step (programOf file) x₁ ≡ completed x₂
+  pub step-third : step (programOf file) x₂ ≡ completed x₃
+  pub apart : Apart t (typingOf (contentsOf file)) (fieldsOf (contentsOf file)) (entitiesOf x) (cellsOf o) (x .cells)
+
+-- the load gives back the value that was stored
+pub machine-round-trip : (file : List ℕ) (t : ℕ) (o : Operands) (x x₁ x₂ x₃ : Config) → RoundTrip file t o x x₁ x₂ x₃
+    → (i : ℕ) → i < widthOf t → getD (x₃ .cells) (cellOf (o .of-destination) + i) 0 ≡ getD (x₂ .cells) (cellOf (o .of-value) + i) 0
+machine-round-trip file t o x x₁ x₂ x₃ r i less =
+    let g = typingOf (contentsOf file) in
+    let h = fieldsOf (contentsOf file) in
+    let e = entitiesOf x in
+    let p = x .state .pc in
+    let q = cellsOf o in
+    let A = addressesEffect g h e (q .of-entity) (q .of-field) (q .of-pointer) (x .cells) in
+    let one = effect-step file x x₁ _ (r .at-first) (r .step-first) A (executed-step file x x₁ _ (r .at-first) (r .step-first) addresses (r .makes)) in
+    let y₁ : Config = advanced x (p +ℤ pos 1) (A .cells) (x .entities) in
+    let S = storesPEffect t g h e (q .of-value) (q .of-pointer) (q .of-none) (A .cells) in
+    let step₂ : step (programOf file) y₁ ≡ completed x₂ = subst (λ (y : Config). step (programOf file) y ≡ completed x₂) (one .1) (r .step-second) in
+    let two = put-step file y₁ x₂ _ (r .at-second) step₂ S (executed-step file y₁ x₂ _ (r .at-second) step₂ (storesP t) (r .stores-it)) in
+    let y₂ : Config = advanced y₁ (p +ℤ pos 1 +ℤ pos 1) (A .cells) (S .cells) in
+    let L = loadsEffect t g h (entitiesOf y₂) (q .of-entity) (q .of-field) (q .of-destination) (A .cells) in
+    let step₃ : step (programOf file) y₂ ≡ completed x₃ = subst (λ (y : Config). step (programOf file) y ≡ completed x₃) (two .1) (r .step-third) in
+    let three = effect-step file y₂ x₃ _ (r .at-third) step₃ L (executed-step file y₂ x₃ _ (r .at-third) step₃ (loads t) (r .loads-it)) in
+    let destination = load-destination t g h (entitiesOf y₂) (q .of-entity) (q .of-field) (q .of-destination) (A .cells) (three .0) in
+    ap (λ (y : Config). getD (y .cells) (q .of-destination + i) 0) (three .1)
+    ∙ round-trip t g h e q (x .cells) (r .apart) (one .0) (two .0) destination .1 i less
+    ∙ sym (ap (λ (y : Config). getD (y .cells) (q .of-value + i) 0) (two .1))
