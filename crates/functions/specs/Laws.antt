@@ -18,7 +18,7 @@ use Rattle.definition.specs.File.{fileOf, lengthFits, lumpFits, lumpsFit, least
 use Rattle.definition.specs.RecordLaws.{length-records}
 use Rattle.definition.specs.Load.{sameLump, sameFile, recordedIn, programAt, programOf}
 use Rattle.definition.specs.Machine.{functionOf, entitiesFit}
-use Rattle.definition.specs.Statements.{Entities, Does, refuses, orRefused, placeOf, statementAt, fetchConditions, execute, doesAt}
+use Rattle.definition.specs.Statements.{Does, Entities, refuses, orRefused, placeOf, statementAt, fetchConditions, execute, doesAt}
 use Rattle.functions.specs.declared.FunctionId.the-variants as function
 use Rattle.functions.specs.declared.string_table.StringId.the-variants as string
 use Rattle.functions.specs.declared.fetch.Fetched.the-variants.{At, Refused}
@@ -294,10 +294,9 @@ fetch-refuses statements p n e = by (judge (fetchConditions statements p)) e
     by (suc j) f = let h : n ≡ suc j = cc in (h, omega arith)
 
 -- what the statement at a position does is what the fetched one does
-pub does-fetched : (k : Contents) (p : ℤ) (i : ℕ) (st : Statement) (entities : Entities) (cells : List ℕ) → At i st ≡ fetched (k .statements) p
-    → execute k p st entities cells ≡ doesAt k p entities cells
+pub does-fetched : (k : Contents) (p : ℤ) (i : ℕ) (st : Statement) (x : Entities) (cells : List ℕ) → At i st ≡ fetched (k .statements) p → execute k p st x cells ≡ doesAt k p x cells
 unfolding doesAt
-does-fetched k p i st entities cells e =
+does-fetched k p i st x cells e =
     let f = fetch-accepts _ _ _ _ e in
     rw (f .conditions, f .statement)
 
@@ -305,8 +304,8 @@ refuses-it : (n : ℕ) (d : Does) → 0 < n → refuses n ≡ orRefused n d
 refuses-it zero d h = absurd (omega arith)
 refuses-it (suc n) d h = refl
 
-pub does-refused : (k : Contents) (p : ℤ) (n : ℕ) (entities : Entities) (cells : List ℕ) → Refused n ≡ fetched (k .statements) p → refuses n ≡ doesAt k p entities cells
+pub does-refused : (k : Contents) (p : ℤ) (n : ℕ) (x : Entities) (cells : List ℕ) → Refused n ≡ fetched (k .statements) p → refuses n ≡ doesAt k p x cells
 unfolding doesAt
-does-refused k p n entities cells e =
+does-refused k p n x cells e =
     let f = fetch-refuses _ _ _ e in
     rw (← f .0) (refuses-it n _ (f .1))
