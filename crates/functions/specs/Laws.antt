@@ -17,7 +17,7 @@ use Rattle.definition.specs.File.{recordsIn, readFunction, noFunction, negative
 use Rattle.definition.specs.File.{fileOf, lengthFits, lumpFits, lumpsFit, leastCells, cellsFit, entityFits}
 use Rattle.definition.specs.RecordLaws.{length-records}
 use Rattle.definition.specs.Load.{sameLump, sameFile, recordedIn, programAt, programOf}
-use Rattle.definition.specs.Machine.{functionOf}
+use Rattle.definition.specs.Machine.{functionOf, entitiesFit}
 use Rattle.definition.specs.Statements.{Does, Entities, refuses, orRefused, placeOf, statementAt, fetchConditions, execute, doesAt}
 use Rattle.functions.specs.declared.FunctionId.the-variants as function
 use Rattle.functions.specs.declared.string_table.StringId.the-variants as string
@@ -131,6 +131,27 @@ same-file a b e =
     let fields : fieldsOfFile a ≡ fieldsOfFile b = cc in
     fields
 
+-- what it is for the cells per entity to fit
+pub record EntitySize (r : FileRecord) : Type 0 where
+  pub least : 105 ≤ r .entityfields
+  pub most : r .entityfields < 2147483648
+
+pub entity-size : (r : FileRecord) → entityFits r ≡ true → EntitySize r
+entity-size r e =
+    let t = both (leb 105 (r .entityfields)) _ e in
+    record { least = leb-true _ _ (t .0); most = leb-false _ _ (not-true _ (t .1)) }
+
+-- what it is for so many entities to have room in the lent cells (document 02, R-3)
+pub record Room (number size lent : ℕ) : Type 0 where
+  pub number-most : number ≤ 600
+  pub cells : number * size ≤ lent
+
+pub entities-room : (number size lent : ℕ) → entitiesFit number size lent ≡ true → Room number size lent
+unfolding entitiesFit
+entities-room number size lent e =
+    let t = both (leb number 600) _ e in
+    record { number-most = leb-true _ _ (t .0); cells = leb-true _ _ (t .1) }
+
 -- what it is for a file to be as a state records, the first of 13's conditions
 pub record Recorded (file : List ℕ) (r : FileRecord) (lent : ℕ) : Type 0 where
   pub same : r ≡ fileOf file
@@ -139,6 +160,7 @@ pub record Recorded (file : List ℕ) (r : FileRecord) (lent : ℕ) : Type 0 whe
   pub least : 36 ≤ r .globals .count
   pub most : r .globals .count ≤ 32768
   pub lends : r .globals .count ≤ lent
+  pub size : EntitySize r
 
 pub recorded : (file : List ℕ) (r : FileRecord) (lent : ℕ) → recordedIn file r lent ≡ true → Recorded file r lent
 unfolding recordedIn fileOf
@@ -149,16 +171,17 @@ recorded file r lent e =
     let e2 = both _ _ (e3 .0) in
     let e1 = both _ _ (e2 .0) in
     let same = same-file _ _ (e1 .0) in
-    let size : r .length ≡ length file = ap (λ (x : FileRecord). x .length) same in
+    let bytes : r .length ≡ length file = ap (λ (x : FileRecord). x .length) same in
     let lengths = both (leb 60 (r .length)) (leb (r .length) 1048576) (e1 .1) in
     let counts = both (leb leastCells (r .globals .count)) (leb (r .globals .count) 32768) (e3 .1) in
     record {
       same = same;
-      longest = rw (← size) (leb-true _ _ (lengths .1));
-      lumps = rw (← size) (all-fit r (e2 .1));
+      longest = rw (← bytes) (leb-true _ _ (lengths .1));
+      lumps = rw (← bytes) (all-fit r (e2 .1));
       least = leb-true _ _ (counts .0);
       most = leb-true _ _ (counts .1);
       lends = leb-true _ _ (e5 .1);
+      size = entity-size r (e4 .1);
     }
 
 -- a file that is too short for a header is as no state records

@@ -39,10 +39,17 @@ pub struct Answered {
 
 impl ExecutionContext {
     // The host enters a function, which is to go back to the present position.
-    pub fn enter(self, file: &[u8], function: i64, cells: &mut [u32], store: &mut [u32]) -> Answered
-        ensures { λ r. ⌜ outcomeOf r (now (cells .exit)) (now (store .exit)) ≡ after (config self (now (cells .entry)) (now (store .entry))) (hostEnter (programOf (now (file .entry))) function) ⌝ }
+    pub fn enter(
+        self,
+        file: &[u8],
+        function: i64,
+        cells: &mut [u32],
+        store: &mut [u32],
+        entities: &[u32],
+    ) -> Answered
+        ensures { λ r. ⌜ outcomeOf r (now (cells .exit)) (now (store .exit)) (now (entities .entry)) ≡ after (config self (now (cells .entry)) (now (store .entry)) (now (entities .entry))) (hostEnter (programOf (now (file .entry))) function) ⌝ }
     {
-        if !self.check_state(file, cells, store) {
+        if !self.check_state(file, cells, store, entities) {
             return self.refused(13);
         }
         let f = fetch::place_of(self.function_count(), function);
