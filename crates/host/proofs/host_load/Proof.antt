@@ -13,7 +13,6 @@ same-length : tie.Need-same-length
 same-length c = search needs
 
 returns : tie.Need-returns
-returns c = load-replied _ _ _ _ _ (c .reply-answer .ensures) (c .before .before .before .load .ensures)
+returns c = load-replied _ _ _ _ _ (c .reply-answer .ensures) (c@load .ensures)
 
-pub host-load-spec : {M : Type 1} → statement M
-host-load-spec = tie.close (tie.spec load-requires reply-answer-requires same-length returns)
+@SPEC host-load-spec
