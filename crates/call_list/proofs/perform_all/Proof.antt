@@ -21,12 +21,12 @@ use Rattle.call_list.proofs.perform_call.Reads as perform-call-reads
 use Rattle.functions.proofs.fetch.place_of.Reads as place-of-reads
 
 abbrev Inv-loop : tie.InvT-loop
-Inv-loop file calls n answers₀ cells₀ saved₀ now₀ i₀ answers cells saved now i =
-    (((length answers ≡ length answers₀) × ((length cells ≡ length cells₀) × (length saved ≡ length saved₀))) × (allTrue (records (formedAt calls) 3 (n - i) (3 * i)) ≡ true))
-    × Left (programOf file) (callIn calls) n (config now₀ cells₀ saved₀) (config now cells saved) answers₀ answers i
+Inv-loop file calls n answers₀ cells₀ saved₀ entities₀ now₀ i₀ answers cells saved entities now i =
+    (((length answers ≡ length answers₀) × ((length cells ≡ length cells₀) × (length saved ≡ length saved₀) × (length entities ≡ length entities₀))) × (allTrue (records (formedAt calls) 3 (n - i) (3 * i)) ≡ true))
+    × Left (programOf file) (callIn calls) n (config now₀ cells₀ saved₀ entities₀) (config now cells saved entities) answers₀ answers i
 
 abbrev μ-loop : tie.MeasureT-loop
-μ-loop file calls n answers₀ cells₀ saved₀ now₀ i₀ answers cells saved now i = n - i
+μ-loop file calls n answers₀ cells₀ saved₀ entities₀ now₀ i₀ answers cells saved entities now i = n - i
 
 -- the numbers of the call, and that their places can be counted
 bound : (c : tie.In-loop Inv-loop μ-loop) → 3 * c@loop .i + 3 < 18446744073709551616
@@ -45,7 +45,7 @@ third : (c : tie.After-perform-call-arg2 Inv-loop μ-loop) → SFits w64 (getD (
 third c = search needs
 
 loop-holds : tie.Need-loop-holds Inv-loop μ-loop
-loop-holds c = (((refl, (refl, refl)), formed-start _ _ ∙ c@pre .1), left-start _ _ _ _ _)
+loop-holds c = (((refl, (refl, refl, refl)), formed-start _ _ ∙ c@pre .1), left-start _ _ _ _ _)
 
 mul-at : tie.Need-mul-at Inv-loop μ-loop
 mul-at c = omega (arith, c .loop-test .taken, c@pre .0 .0)
@@ -119,7 +119,7 @@ loop-again c =
     let p = c@perform-call in
     let t = c@loop-test .taken in
     let q = c@@After-perform-call-arg2 in
-    (((simp length-set (i .0 .0 .0), (p .kept .1 .1 .1 .1 .1 .0 ∙ i .0 .0 .1 .0, p .kept .1 .1 .1 .1 .1 .1 .0 ∙ i .0 .0 .1 .1)), formed-here (formedAt (s .args .calls .now)) (s .args .n) (l .loop .i) t (i .0 .1) .1), left-replied _ _ _ _ _ _ _ _ (i .1) t _ (rw (toZ-ofZ (first q)) at (c@place-of .ensures)) _ _ _ (rw (toZ-ofZ (second q), toZ-ofZ (third q)) at (p .ensures)))
+    (((simp length-set (i .0 .0 .0), (p .kept .1 .1 .1 .1 .1 .0 ∙ i .0 .0 .1 .0, p .kept .1 .1 .1 .1 .1 .1 .0 ∙ i .0 .0 .1 .1, p .kept .1 .1 .1 .1 .1 .1 .1 .0 ∙ i .0 .0 .1 .2)), formed-here (formedAt (s .args .calls .now)) (s .args .n) (l .loop .i) t (i .0 .1) .1), left-replied _ _ _ _ _ _ _ _ (i .1) t _ (rw (toZ-ofZ (first q)) at (c@place-of .ensures)) _ _ _ _ (rw (toZ-ofZ (second q), toZ-ofZ (third q)) at (p .ensures)))
 
 same-length : tie.Need-same-length Inv-loop μ-loop
 same-length c = c@loop .inv .0 .0 .0
@@ -129,6 +129,9 @@ same-length-2 c = c@loop .inv .0 .0 .1 .0
 
 same-length-3 : tie.Need-same-length-3 Inv-loop μ-loop
 same-length-3 c = c@loop .inv .0 .0 .1 .1
+
+same-length-4 : tie.Need-same-length-4 Inv-loop μ-loop
+same-length-4 c = c@loop .inv .0 .0 .1 .2
 
 returns : tie.Need-returns Inv-loop μ-loop
 returns c = left-end _ _ _ _ _ _ _ _ (c@loop .inv .1) (c .loop-test .left)
