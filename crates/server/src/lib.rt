@@ -63,6 +63,7 @@ fn run_for(
     let recorded = context.file;
     let functions = parts::part(file, FUNCTION_SIZE, recorded.functions);
     let cell_count = recorded.globals.count;
+    let number = context.entity_count;
     let mut now = context;
     let mut count: u32 = 0;
     while count < limit {
@@ -70,7 +71,7 @@ fn run_for(
         let done = execution::does(
             file,
             recorded,
-            now.entity_count,
+            number,
             cells,
             entities,
             now.pc,
