@@ -119,7 +119,7 @@ def header_files(f):
         f.add(f"{count}-cells", small_program(cell_count=count), "refused,10" if count < 36 else ENDED)
     for count in (-1, 104, 105, 2**31 - 1):
         begins = ENDED if count >= 105 else "refused,11"
-        f.add(f"{count}-entity-cells", small_program(entity_cells=count), begins)
+        f.add(f"{count}-entity-cells", small_program(cells_per_entity=count), begins)
 
 
 def record_files(f):
@@ -184,8 +184,8 @@ def record_files(f):
     f.add("field-9-before-8", defined(fields=[(SAVE_FLAG | 8, 0)]), "refused,9")
     f.add("field-8-in-an-earlier-record", defined(fields=[(8, 0), (SAVE_FLAG, 0)]), "refused,8")
     f.add("fields-before-cells", program(fields=[(8, 0)], cell_count=35), "refused,8")
-    f.add("10-before-11", program(cell_count=35, entity_cells=104), "refused,10")
-    f.add("6-before-11", program(functions=[function(name=1)], entity_cells=104), "refused,6")
+    f.add("10-before-11", program(cell_count=35, cells_per_entity=104), "refused,10")
+    f.add("6-before-11", program(functions=[function(name=1)], cells_per_entity=104), "refused,6")
 
 
 def cut(assembly):

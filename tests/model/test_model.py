@@ -488,9 +488,9 @@ class Load(unittest.TestCase):
         self.assertEqual(BUILTINS, numbers)
 
     def test_cells(self):
-        self.assembly = Assembly(cell_count=35, entity_cells=104)
+        self.assembly = Assembly(cell_count=35, cells_per_entity=104)
         self.assertEqual(self.load(), refused(10))
-        self.assembly = Assembly(cell_count=36, entity_cells=104)
+        self.assembly = Assembly(cell_count=36, cells_per_entity=104)
         self.assertEqual(self.load(), refused(11))
         self.assembly = Assembly(cell_count=36)
         self.assertEqual(self.load(), ACCEPTED)
@@ -692,7 +692,7 @@ class Check13(unittest.TestCase):
             lumps = list(good.lumps)
             lumps[index] += 1
             self.assertEqual(answer(lumps=tuple(lumps)), refused(13))
-        self.assertEqual(answer(entity_cells=106), refused(13))
+        self.assertEqual(answer(cells_per_entity=106), refused(13))
         self.assertEqual(answer(depth=32), refused(13))
         self.assertEqual(answer(function=4), refused(13))
         self.assertEqual(answer(saved=4), refused(13))
