@@ -124,7 +124,7 @@ def walk_calls(c):
     c.ok(f"put {AT} 416", f"field {POSITION} 28")
     c.word("spent", "run 0 9")
     c.ok(f"put {AT} 420")
-    assert c.do("run 0 9", 32).count in (0, 1, 2, 3)
+    assert c.do("run 0 9", 32).count == 1  # the AddF
 
 
 def refusal_calls(c):
@@ -262,6 +262,8 @@ def state_calls(c):
     c.ok(f"lend {3 * STRIDE + 9} 4294967290")
     c.word("spent", "run 0 4")
     c.ok(f"field {ENTITIES} 0", "lend 0 0", "get 1")
+    c.no(32, "run 0 4")
+    c.ok(f"field {POSITION} 28")
     c.no(30, "run 0 4")
     c.ok("abandon 0")
     c.new("R-3: lent once more before the load: as many as then suffice", PLAYERS, lent=3 * STRIDE)

@@ -5,9 +5,9 @@ from common import (
     random_program, triple,
 )
 from model import (
-    BUILTINS, CELLS, FIELD_DEFS, FLOAT, FUNCTION, FUNCTIONS, GLOBAL_DEFS, HOST_OPCODES, ONE,
-    OPCODES, POINTER, QUIET_NAN, RECORD_SIZES, SAVE_FLAG, STATEMENTS, STRING, STRINGS, VECTOR, VOID,
-    Assembly, function, show,
+    BUILTINS, CELLS, FIELD_DEFS, FLOAT, FUNCTION, FUNCTIONS, GLOBAL_DEFS, HOST_OPCODES, LOADED_FIELDS,
+    ONE, OPCODES, POINTER, QUIET_NAN, RECORD_SIZES, SAVE_FLAG, STATEMENTS, STORED_FIELDS, STRING,
+    STRINGS, VECTOR, VOID, Assembly, function, show,
 )
 
 
@@ -276,6 +276,7 @@ def statement_files(f):
     for number in sorted(HOST_OPCODES):
         file = program(("NotF", 28, 0, 2), (number, -1, 64, 5))
         f.add(f"opcode-{OPCODES[number]}", file, f"opcode,{number},1,2,1,1,0,")
+    no_entity_files(f)
     for number in (1, 7, 35, 78):
         functions = [function(1), function(-number, arguments=-1)]
         file = program(("NotF", 28, 0, 2), ("Call1", 30), functions=functions, cells={30: 2})
@@ -312,6 +313,23 @@ def statement_files(f):
         statements = [("AddF", 28, 29, 30), ("Return", 30)]
         file = program(*statements, definitions=definitions, cells=SHOWN_CELLS)
         f.add(f"definition-{name}", file, begins)
+
+
+def no_entity_files(f):
+    f.note("R-3: the show program has no entities: loads and Address are refused 30, stores through pointers 32, after their operands")
+    for name in (*LOADED_FIELDS, "Address", *STORED_FIELDS):
+        loads = name not in STORED_FIELDS
+        for text, operands, number in (
+            ("", (28, 29, 30) if loads else (29, 28, 0), 30 if loads else 32),
+            ("-16", (35, 29, 30) if loads else (29, 35, 0), 16),
+            ("-15", (28, 64, 30) if loads else (29, 64, 0), 15),
+            ("-last", (28, 29, 64) if loads else (29, 28, 1), 15 if loads else 18),
+        ):
+            file = program(("NotF", 28, 0, 2), (name, *operands), definitions=[(VOID, 35)], fields=[(FLOAT, 0)])
+            f.add(f"no-entities-{name}{text}", file, f"refused,{number},1,2,1,1,0,")
+    for name in ("LoadEnt", "LoadFld", "Address", "StorePEnt", "StorePFld"):
+        file = program((name, 28, 29, 0 if name in STORED_FIELDS else 30), cells={28: 0x80000000})
+        f.add(f"no-entities-{name}-17", file, "refused,17,0,1,1,1,0,")
 
 
 def call_files(f):
