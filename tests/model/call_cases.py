@@ -869,11 +869,11 @@ def random_calls(c):
 
 def random_entity_calls(c):
     chance = Xorshift(362436069)
-    for index in range(24):
+    for index in range(10):
         assembly = random_program(chance, hosts=True, entities=True)
         c.new(f"R-3: calls by chance, {index}", assembly, 64, 2048, 3 * 105 + chance.below(3))
         c.ok(f"load {2 + chance.below(2)}")
-        for _ in range(30):
+        for _ in range(40):
             if chance.below(6) == 0:
                 c.do(random_entity_change(chance, c.machine))
             else:

@@ -81,6 +81,12 @@ def players(**parts):
 PLAYERS = players()
 
 
+def again(c, text, lent):
+    """Goes on in the same list, for another load, with so many entity cells as `new` would lend."""
+    c.lines.append(f"# {text}")
+    c.ok(f"lend {lent} {0xCAFE0000}")
+
+
 def place(entity, field):
     return STRIDE * entity + field
 
@@ -109,7 +115,7 @@ def walk_calls(c):
     assert c.machine.cells[1] == flt(9.0)
     c.ok("get 1", "load 3", "get 32", "enter 1")
     c.word("ended", "run 0 99")
-    c.new("R-3: the same by single statements and short runs, the host changing a player between", PLAYERS, lent=4 * STRIDE)
+    again(c, "R-3: the same by single statements and short runs, the host changing a player between", 4 * STRIDE)
     c.ok("load 4")
     chain(c, 1, 3, 2)
     c.ok("enter 1", *["statement"] * 7)
@@ -117,7 +123,7 @@ def walk_calls(c):
         c.word("spent", f"run 0 {limit}")
     c.ok(f"eput {place(3, SCORE)} {flt(100.0)}", f"eput {place(2, SCORE)} {flt(-50.0)}", f"eput {place(0, SCORE)} 77")
     c.word("ended", "run 0 99999")
-    c.new("R-3: a run that is spent writes on and on; the pointer is an old one", PLAYERS, lent=STRIDE)
+    again(c, "R-3: a run that is spent writes on and on; the pointer is an old one", STRIDE)
     c.ok("load 1", "eput 0 0", "enter 4", f"put {AT} 0")
     assert c.do("run 0 99") == Answer("spent", 0, 99)
     assert scores(c, 0) == [flt(25.0)]
@@ -141,7 +147,7 @@ def refusal_calls(c):
     assert c.do("run 0 100", 17).count == 5  # its LoadEnt
     c.ok(f"eput {place(1, NEXT)} 0")
     c.word("ended", "run 0 100")
-    c.new("R-3: each kind of refusal of a field statement, in a run and alone", PLAYERS, lent=3 * STRIDE)
+    again(c, "R-3: each kind of refusal of a field statement, in a run and alone", 3 * STRIDE)
     c.ok("load 3", "enter 2", "put 28 2", f"eput {place(2, THINK)} 6")
     for put, back, refusal in (
         ("put 28 3", "put 28 2", 30),
@@ -165,7 +171,7 @@ def refusal_calls(c):
     c.ok(f"put {AT} 844", f"field {ENTITIES} 2")
     c.no(32, "statement", "run 0 9")
     c.ok(f"field {ENTITIES} 3", "statement")
-    c.new("R-3: a third operand is refused 18 first, also with a bad pointer and no entities", PLAYERS, lent=STRIDE)
+    again(c, "R-3: a third operand is refused 18 first, also with a bad pointer and no entities", STRIDE)
     at = PLAYERS.place(STATEMENTS, 30)
     c.ok("load 0", "enter 4", f"field {POSITION} 30", f"byte {at + 6} 1")
     c.no(18, "statement", "run 0 1")
@@ -183,10 +189,10 @@ def kept_calls(c):
     assert cells[place(1, ORIGIN) : place(1, ORIGIN) + 3] == [flt(3.0), flt(5.0), flt(7.0)]
     assert [cells[place(1, field)] for field in (NAME, NEXT, WHICH, THINK)] == [19, 0, SCORE, NOTHING]
     c.ok("get 36", "get 1", "get 48")
-    c.new("R-3: an entry and a Return by single statements touch no entity cell", PLAYERS, lent=2 * STRIDE)
+    again(c, "R-3: an entry and a Return by single statements touch no entity cell", 2 * STRIDE)
     c.ok("load 2", f"enter {THINKS}", "put 28 1", "statement", "statement", f"field {POSITION} 27", "statement")
     c.ok(f"enter {THINKS}", "enter 1", f"field {POSITION} 10", "statement", "abandon 0")
-    c.new("R-3: an abandonment restores locals and keeps what was written", PLAYERS, lent=4 * STRIDE)
+    again(c, "R-3: an abandonment restores locals and keeps what was written", 4 * STRIDE)
     c.ok("load 4")
     chain(c, 3, 1, 2, 0)
     c.ok(f"eput {place(0, NEXT)} 4", "put 28 3", f"enter {GOES_ON}")
@@ -194,7 +200,7 @@ def kept_calls(c):
     assert c.machine.state.depth == 5 and scores(c, 0, 1, 2, 3) == [ONE] * 4
     c.ok("abandon 3", "get 28", f"eput {place(1, SCORE)} 99", "abandon 0", "get 28")
     c.ok("enter 6", f"field {POSITION} 30", f"put {AT} 16", "statement", "abandon 0")
-    c.new("R-3: a load keeps all lent entity cells, and the number given is the new one", PLAYERS, lent=3 * STRIDE + 1)
+    again(c, "R-3: a load keeps all lent entity cells, and the number given is the new one", 3 * STRIDE + 1)
     c.ok("load 3", "put 28 2", f"put {AT} {4 * place(2, SCORE)}", f"field {POSITION} 30", "statement")
     c.ok("load 2", "put 28 2", f"field {POSITION} 2")
     c.no(30, "statement")
@@ -207,12 +213,30 @@ def kept_calls(c):
 
 
 def load_calls(c):
-    for lent, taken, too_many in ((0, (0,), (1, 2)), (104, (0,), (1,)), (105, (0, 1), (2,)), (314, (2,), (3,)), (316, (3,), (4,))):
-        c.new(f"R-3: loads with {lent} lent entity cells: as many as they suffice for", PLAYERS, lent=lent)
-        for number in (*too_many, -1, -2147483648, 2147483647):
+    c.new("R-3: loads of more entities than the lent cells suffice for, or of fewer than none", PLAYERS, lent=0)
+    for lent, numbers in ((0, (1, 2)), (104, (1,)), (105, (2, -1)), (314, (3, -2147483648)), (316, (4, 600, 2147483647))):
+        c.ok(f"lend {lent} 7")
+        for number in numbers:
             c.no(13, f"load {number}")
-            c.no(13, *(ANY_CALL if number == too_many[0] else ("get 1", "enter 1")))
-        for number in taken:
+            c.no(13, *(ANY_CALL if number == 2 else ("get 1", "enter 1")))
+    c.ok("lend 62999 8")
+    c.no(13, "load 600")
+    c.ok("lend 63105 9")
+    c.no(13, "load 601", "get 1")
+    c.ok("load 600", "put 28 600", f"field {POSITION} 2")
+    c.no(30, "statement")
+    c.ok(f"field {ENTITIES} 601")
+    c.no(13, "statement")
+    again(c, "R-3: 600 entities are the most, and 63,000 cells just enough", 63_000)
+    c.ok("load 600", "put 28 599", f"field {POSITION} 5", "statement", "get 31", "statement", f"field {POSITION} 2")
+    c.ok("statement", "put 28 600", f"field {POSITION} 5")
+    c.no(30, "statement")
+    c.ok("put 28 599", "put 29 104", "statement", "get 31", "statement", "put 31 252000", f"field {POSITION} 6")
+    c.no(32, "statement")
+    c.lines.append("# R-3: as many as the lent cells suffice for")
+    for lent, numbers in ((0, (0,)), (104, (0,)), (105, (0, 1)), (314, (2,)), (316, (3,))):
+        c.ok(f"lend {lent} 7")
+        for number in numbers:
             c.ok(f"load {number}", "get 1", "enter 1", "statement")
     c.new("R-3: 13 comes after 12, and after 11 and 10", PLAYERS, 63, 2048, STRIDE)
     c.no(12, "load 0", "load 1", "load 2", "load 601", "load -1")
@@ -220,24 +244,6 @@ def load_calls(c):
     c.no(11, "load 0", "load 601", "load -1")
     c.ok("byte 52 35")
     c.no(10, "load 2")
-    c.new("R-3: a saved store of 2,047: 12 too", PLAYERS, 64, 2047, STRIDE)
-    c.no(12, "load 1", "load -1")
-    c.new("R-3: 600 entities are the most, and 63,000 cells just enough", PLAYERS, lent=63_000)
-    c.no(13, "load 601")
-    c.ok("load 600", "put 28 599", f"field {POSITION} 5", "statement", "get 31", "statement", "get 31", f"field {POSITION} 2")
-    c.ok("statement", "put 28 600", f"field {POSITION} 5")
-    c.no(30, "statement")
-    c.ok("put 28 599", "put 29 104", "statement", "get 31", f"field {POSITION} 6", "statement", "put 31 252000", f"field {POSITION} 6")
-    c.no(32, "statement")
-    c.new("R-3: 62,999 cells are too few for 600", PLAYERS, lent=62_999)
-    c.no(13, "load 600")
-    c.ok("load 599")
-    c.new("R-3: 601 entities are too many, though there are cells for them", PLAYERS, lent=63_105)
-    c.no(13, "load 601")
-    c.ok("load 600", "put 28 600", f"field {POSITION} 2")
-    c.no(30, "statement")
-    c.ok(f"field {ENTITIES} 601")
-    c.no(13, "statement")
 
 
 def state_calls(c):
@@ -250,7 +256,7 @@ def state_calls(c):
         c.ok(f"field {ENTITIES} {number}", "get 1")
         c.no(30, "statement")
     c.ok(f"field {ENTITIES} 3", "statement", "abandon 0")
-    c.new("R-3: 13 by the entity cells that are lent now; those lent later are what counts", PLAYERS, lent=3 * STRIDE)
+    again(c, "R-3: 13 by the entity cells that are lent now; those lent later are what counts", 3 * STRIDE)
     c.ok("load 3", "enter 4", f"put {AT} 836", "put 28 1", "statement")
     for lent in (3 * STRIDE - 1, STRIDE, 0):
         c.ok(f"lend {lent} 1000")
@@ -266,12 +272,7 @@ def state_calls(c):
     c.ok(f"field {POSITION} 28")
     c.no(30, "run 0 4")
     c.ok("abandon 0")
-    c.new("R-3: lent once more before the load: as many as then suffice", PLAYERS, lent=3 * STRIDE)
-    c.ok(f"lend {3 * STRIDE - 1} 0")
-    c.no(13, "load 3")
-    c.ok(f"lend {3 * STRIDE} 1065353216", "load 3", "enter 4", f"put {AT} 836", "put 28 1")
-    c.word("spent", "run 0 4")
-    c.new("R-3: with none given at load, lent entity cells belong to no entity", PLAYERS, lent=2 * STRIDE)
+    again(c, "R-3: with none given at load, lent entity cells belong to no entity", 2 * STRIDE)
     c.ok("load 0", "enter 1", "statement")
     c.no(30, "statement")
     c.ok(f"field {POSITION} 5")
@@ -289,7 +290,13 @@ def recorded_calls(c):
                 c.ok(f"byte {56 + i} {byte}")
         c.ok(f"field {STATE_PER_ENTITY} {value}")
 
-    c.new("R-3: cells per entity changed in file and state: what is there now counts, and 13", PLAYERS, lent=3 * STRIDE + 3)
+    c.new("R-3: a state with entities, made up without a load", PLAYERS, lent=2 * STRIDE)
+    c.ok(f"field {STATE_LENGTH} {len(PLAYERS.bytes())}")
+    for index, value in enumerate(struct.unpack_from("<13i", PLAYERS.bytes(), 8)):
+        c.ok(f"field {STATE_LUMPS + index} {value}")
+    c.ok("get 1", f"put {PLAYER} 1", "put 29 5", f"field {ENTITIES} 2", f"field {POSITION} 2", "statement")
+    c.ok(f"field {CURRENT} 5", f"field {DEPTH} 1", f"field {SAVED} 1", f"field {POSITION} 5", "statement", "statement", "abandon 0")
+    again(c, "R-3: cells per entity changed in file and state: what is there now counts, and 13", 3 * STRIDE + 3)
     c.ok("load 3", "put 28 2", "put 29 104", f"field {POSITION} 5", "statement", "get 31", "put 29 105", f"field {POSITION} 5")
     c.no(31, "statement")
     both(106)
@@ -304,18 +311,13 @@ def recorded_calls(c):
     c.ok(f"field {ENTITIES} 0", "get 1")
     c.new("R-3: entities times cells per entity over 32 bits: too few lent cells all the same", players(cells_per_entity=8388608), lent=8)
     c.no(13, "load 512", "load 511", "load 1")
-    c.ok("load 0", f"field {ENTITIES} 512")
-    c.no(13, "get 1", "statement")
-    c.new("R-3: the most cells per entity", players(cells_per_entity=2147483647), lent=8)
+    c.ok("byte 56 255", "byte 57 255", "byte 58 255", "byte 59 127")
     c.no(13, "load 1", "load 2", "load 600")
     c.ok("load 0", "enter 1")
     c.no(30, "run 0 9")
-    c.new("R-3: a state with entities, made up without a load", PLAYERS, lent=2 * STRIDE)
-    c.ok(f"field {STATE_LENGTH} {len(PLAYERS.bytes())}")
-    for index, value in enumerate(struct.unpack_from("<13i", PLAYERS.bytes(), 8)):
-        c.ok(f"field {STATE_LUMPS + index} {value}")
-    c.ok("get 1", f"put {PLAYER} 1", "put 29 5", f"field {ENTITIES} 2", f"field {POSITION} 2", "statement")
-    c.ok(f"field {CURRENT} 5", f"field {DEPTH} 1", f"field {SAVED} 1", f"field {POSITION} 5", "statement", "statement", "abandon 0")
+    both(8388608)
+    c.ok(f"field {ENTITIES} 512")
+    c.no(13, "get 1", "statement")
 
 
 def carry_calls(c):
@@ -331,10 +333,10 @@ def carry_calls(c):
         c.no(30 if opcode <= 30 else 32, "statement")
         c.ok(f"field {ENTITIES} 1")
     c.ok(f"byte {at} 60", f"field {POSITION} 1", "carry")
-    c.new("R-3: after the last statement the position stands past it", PLAYERS, lent=STRIDE)
+    again(c, "R-3: after the last statement the position stands past it", STRIDE)
     c.ok("load 1", "enter 6", f"eput {NAME} 5", "statement", "get 42")
     c.no(14, "statement", "carry")
-    c.new("R-3: field definitions in changed bytes count as they now are", PLAYERS, lent=STRIDE)
+    again(c, "R-3: field definitions in changed bytes count as they now are", STRIDE)
     score, think = PLAYERS.place(FIELD_DEFS, 0), PLAYERS.place(FIELD_DEFS, 5)
     c.ok("load 1", f"field {POSITION} 2", f"byte {score} {STRING}")
     c.no(16, "statement")

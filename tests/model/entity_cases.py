@@ -4,8 +4,8 @@ from collections import namedtuple
 
 from common import GREATEST, NEGATIVE_NAN, ONE, SIGNALLING_NAN, THREE, TWO, triple
 from model import (
-    ENTITY, FIELD, FIELD_DEFS, FLOAT, FUNCTION, LOADED_FIELDS, POINTER, SIGN, STORED_FIELDS, STRING,
-    VECTOR, VOID,
+    ENTITY, FIELD, FIELD_DEFS, FLOAT, FUNCTION, LOADED_FIELDS, POINTER, SAVE_FLAG, SIGN, STORED_FIELDS,
+    STRING, VECTOR, VOID,
 )
 
 # the number of entities given at load, the number of lent entity cells, and those that aren't 0
@@ -38,6 +38,9 @@ DEFINITIONS = [
     (STRING, 66),
     (FUNCTION, 67),
     (VOID, 39),
+    (FIELD | SAVE_FLAG, 57),
+    (ENTITY | SAVE_FLAG, 58),
+    (POINTER | SAVE_FLAG, 59),
 ]
 # 12 to 27: void, first of two, a vector's cells.  There are none from 28 to 105
 FIELDS = [
@@ -381,6 +384,15 @@ def operand_vectors(v):
     for name in ("LoadF", "Address"):
         v.add(name, 40, 41, 42, {40: 2, 41: 104}, enter=1, world=world(3, {314: 6, 315: 7}, more=3))
     v.add("StorePF", 40, 41, 0, {40: ONE, 41: pointer(2, 104)}, enter=2, world=world(3, {314: 6, 315: 7}, more=3))
+    v.note("R-3: the save flag of a definition is ignored")
+    v.add("Address", 58, 57, 59, {58: 2, 57: 7}, world=world())
+    v.add("LoadF", 58, 57, 40, {58: 2, 57: 0}, world=world(3, {210: 6}))
+    v.add("StorePEnt", 58, 59, 0, {58: 2, 59: pointer(2, 8)}, world=world())
+    v.add("StorePF", 59, 59, 0, {59: pointer(2, 28)}, refused=16, world=world())
+    v.note("R-3: other statements leave the entity cells")
+    given = {0: 5, 30: 6, 104: 7, 314: 8}
+    for name, *operands in (("AddF", 40, 41, 42), ("StoreV", 40, 1), ("Call1", 43), ("Return", 40), ("Done", 40), ("Goto", 3)):
+        v.add(name, *operands, cells={40: ONE, 41: TWO, 43: 2}, enter=2, world=world(3, given))
 
 
 LONG = 65540  # cells per entity: more than 16 bits can say

@@ -318,18 +318,15 @@ def statement_files(f):
 def no_entity_files(f):
     f.note("R-3: the show program has no entities: loads and Address are refused 30, stores through pointers 32, after their operands")
     for name in (*LOADED_FIELDS, "Address", *STORED_FIELDS):
-        loads = name not in STORED_FIELDS
-        for text, operands, number in (
-            ("", (28, 29, 30) if loads else (29, 28, 0), 30 if loads else 32),
-            ("-16", (35, 29, 30) if loads else (29, 35, 0), 16),
-            ("-15", (28, 64, 30) if loads else (29, 64, 0), 15),
-            ("-last", (28, 29, 64) if loads else (29, 28, 1), 15 if loads else 18),
-        ):
-            file = program(("NotF", 28, 0, 2), (name, *operands), definitions=[(VOID, 35)], fields=[(FLOAT, 0)])
-            f.add(f"no-entities-{name}{text}", file, f"refused,{number},1,2,1,1,0,")
-    for name in ("LoadEnt", "LoadFld", "Address", "StorePEnt", "StorePFld"):
-        file = program((name, 28, 29, 0 if name in STORED_FIELDS else 30), cells={28: 0x80000000})
-        f.add(f"no-entities-{name}-17", file, "refused,17,0,1,1,1,0,")
+        operands, number = ((28, 29, 30), 30) if name not in STORED_FIELDS else ((29, 28, 0), 32)
+        f.add(f"no-entities-{name}", program((name, *operands)), f"refused,{number},0,1,1,1,0,")
+    for statement, number in (
+        (("LoadF", 28, 29, 35), 16),
+        (("StorePF", 28, 29, 1), 18),
+        (("StorePEnt", 30, 29), 17),
+    ):
+        file = program(statement, definitions=[(VOID, 35)], cells={30: 0x80000000})
+        f.add(f"no-entities-{statement[0]}-{number}", file, f"refused,{number},0,1,1,1,0,")
 
 
 def call_files(f):
