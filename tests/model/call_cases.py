@@ -2,6 +2,7 @@
 
 import struct
 from dataclasses import replace
+from functools import lru_cache
 
 from common import (
     ANY_CALL, CHANCE_FLOATS, CURRENT, DEPTH, ENTITIES, FRAMES, HALF, LEAST, MINUS_INFINITY, MINUS_ZERO,
@@ -18,6 +19,7 @@ FNV_BASIS = 0xCBF29CE484222325
 FNV_PRIME = 0x100000001B3
 
 
+@lru_cache(maxsize=16)  # a refused call leaves what the one before it left
 def fnv(data):
     digest = FNV_BASIS
     for byte in data:

@@ -6,6 +6,7 @@
 It shares no code with the case makers, so it also shows that the formats can be read.
 """
 
+import functools
 import importlib
 import os
 import struct
@@ -113,8 +114,13 @@ def set_entity_cell(model, machine, index, value):
 def digest(machine):
     text = "".join(f"{position},{function};" for position, function in machine.state.frames)
     numbers = machine.cells + machine.saved_store + machine.entity_cells
+    return fnv(text.encode("ascii") + struct.pack(f"<{len(numbers)}I", *numbers))
+
+
+@functools.lru_cache(maxsize=16)  # a refused call leaves what the one before it left
+def fnv(data):
     result = FNV_BASIS
-    for byte in text.encode("ascii") + struct.pack(f"<{len(numbers)}I", *numbers):
+    for byte in data:
         result = (result ^ byte) * FNV_PRIME % 2**64
     return f"{result:016x}"
 
