@@ -147,6 +147,17 @@ def refusal_calls(c):
     assert c.do("run 0 100", 17).count == 5  # its LoadEnt
     c.ok(f"eput {place(1, NEXT)} 0")
     c.word("ended", "run 0 100")
+    field_refusals(c)
+    again(c, "R-3: a third operand is refused 18 first, also with a bad pointer and no entities", STRIDE)
+    at = PLAYERS.place(STATEMENTS, 30)
+    c.ok("load 0", "enter 4", f"field {POSITION} 30", f"byte {at + 6} 1")
+    c.no(18, "statement", "run 0 1")
+    c.ok(f"byte {at + 6} 0")
+    c.no(32, "statement")
+    c.no(27, "carry")
+
+
+def field_refusals(c):
     again(c, "R-3: each kind of refusal of a field statement, in a run and alone", 3 * STRIDE)
     c.ok("load 3", "enter 2", "put 28 2", f"eput {place(2, THINK)} 6")
     for put, back, refusal in (
@@ -171,13 +182,6 @@ def refusal_calls(c):
     c.ok(f"put {AT} 844", f"field {ENTITIES} 2")
     c.no(32, "statement", "run 0 9")
     c.ok(f"field {ENTITIES} 3", "statement")
-    again(c, "R-3: a third operand is refused 18 first, also with a bad pointer and no entities", STRIDE)
-    at = PLAYERS.place(STATEMENTS, 30)
-    c.ok("load 0", "enter 4", f"field {POSITION} 30", f"byte {at + 6} 1")
-    c.no(18, "statement", "run 0 1")
-    c.ok(f"byte {at + 6} 0")
-    c.no(32, "statement")
-    c.no(27, "carry")
 
 
 def kept_calls(c):

@@ -104,12 +104,12 @@ def telling(at, count, values, lent):
     return {i: 0x5000 + i for i in near if 0 <= i < lent} | triple(at, values)
 
 
-def load_of(v, name, entity, field, values, given=None, refused=None, cells=None, entities=3, more=0):
+def load_of(v, name, entity, field, values, given=None, refused=None, entities=3, more=0):
     """A load of typed operands to the typed destination of its type."""
     type_ = LOADED_FIELDS[name]
     lent = entities * STRIDE + more
     given = telling(place(entity, field), width(type_), values, lent) if given is None else given
-    cells = {28: entity, 29: field, **triple(SOURCE[type_], (0xAAAA,) * width(type_)), **(cells or {})}
+    cells = {28: entity, 29: field, **triple(SOURCE[type_], (0xAAAA,) * width(type_))}
     v.add(name, 28, 29, SOURCE[type_], cells, refused=refused, world=World(entities, lent, given))
 
 

@@ -13,6 +13,7 @@ import types
 import replay
 
 HERE = os.path.dirname(os.path.abspath(__file__))
+TURN = 60  # cases of one file before the next file's turn
 
 # (what stands in model.py, what stands there in the mutant)
 MUTANTS = [
@@ -403,18 +404,20 @@ def mutant(source, old, new):
 
 
 def caught(module):
-    """The first line of the cases that the module answers otherwise, or None."""
-    for replayed in replay.REPLAYS:
-        lines = replayed(module)
-        while True:
-            try:
-                line, expected, got = next(lines)
-            except StopIteration:
-                break
-            except Exception as error:
-                return f"{replayed.__name__}: {type(error).__name__}"
-            if expected != got:
-                return line
+    """A line of the cases that the module answers otherwise, or None.  The case files take turns, as some have long runs."""
+    replays = [replayed(module) for replayed in replay.REPLAYS]
+    while replays:
+        for lines in list(replays):
+            for _ in range(TURN):
+                try:
+                    line, expected, got = next(lines)
+                except StopIteration:
+                    replays.remove(lines)
+                    break
+                except Exception as error:
+                    return f"{lines.__name__}: {type(error).__name__}"
+                if expected != got:
+                    return line
     return None
 
 
