@@ -13,7 +13,8 @@ import types
 import replay
 
 HERE = os.path.dirname(os.path.abspath(__file__))
-TURN = 60  # cases of one file before the next file's turn
+# cases of one case file before the next one's turn; some of files.txt run long
+TURN, FILES_TURN = 60, 3
 
 # (what stands in model.py, what stands there in the mutant)
 MUTANTS = [
@@ -408,7 +409,7 @@ def caught(module):
     replays = [replayed(module) for replayed in replay.REPLAYS]
     while replays:
         for lines in list(replays):
-            for _ in range(TURN):
+            for _ in range(FILES_TURN if lines.__name__ == "replay_files" else TURN):
                 try:
                     line, expected, got = next(lines)
                 except StopIteration:
