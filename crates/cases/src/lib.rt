@@ -2,6 +2,8 @@
 // What a text that isn't so gives is not stated.
 ghost use Prim.Native.Nat.{_+_, _*_, _≤_, _<_};
 ghost use lib.ListN.{length};
+use progs::ExecutionContext;
+use progs::load;
 
 pub mod answers;
 pub mod digest;
@@ -177,8 +179,30 @@ pub fn file(s: &[u8], at: usize, file: &mut [u8]) -> usize
     n
 }
 
+// The letter at a place, 0 past the end.
+pub fn letter(s: &[u8], at: usize) -> u8 {
+    if at < s.len() {
+        return s[at];
+    }
+    0
+}
+
 pub fn set_byte(file: &mut [u8], at: usize, b: u8) {
     if at < file.len() {
         file[at] = b;
     }
+}
+
+pub fn set_cell(cells: &mut [u32], at: usize, value: u32) {
+    if at < cells.len() {
+        cells[at] = value;
+    }
+}
+
+// A state of zeros, as a refused load gives it.
+pub fn zero_state() -> ExecutionContext {
+    let mut cells = [0u32; 1];
+    let lent = [0u32; 1];
+    let refused = load::load(b"", 0, &mut cells, &lent, &lent);
+    refused.context
 }
