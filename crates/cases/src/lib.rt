@@ -1,4 +1,4 @@
-// Reading the lines of cases: words separated by one blank, numbers in decimal, bytes in hexadecimal as a line's last word.
+// Reading the lines of cases: words separated by one blank, numbers in decimal, bytes in hexadecimal.
 // What a text that isn't so gives is not stated.
 ghost use Prim.Native.Nat.{_+_, _*_, _≤_, _<_};
 ghost use lib.ListN.{length};
@@ -137,12 +137,23 @@ fn digit_at(s: &[u8], at: usize) -> u8
     0
 }
 
-// How many bytes the digits from `at` to the end of the line spell: `-` is for none.
+// The end of the word that holds `at`.
+fn word_end(s: &[u8], at: usize) -> usize
+    requires { ⌜ at ≤ length (now s) ⌝ }
+    ensures { λ r. ⌜ at ≤ r ⌝ }
+    ensures { λ r. ⌜ r ≤ length (now (s .entry)) ⌝ }
+{
+    let blank = find(s, at, b' ');
+    let line = find(s, at, b'\n');
+    if blank < line { blank } else { line }
+}
+
+// How many bytes the digits from `at` to the end of the word spell: `-` is for none.
 fn given(s: &[u8], at: usize) -> usize
     requires { ⌜ at ≤ length (now s) ⌝ }
     ensures { λ r. ⌜ at + 2 * r ≤ length (now (s .entry)) ⌝ }
 {
-    (find(s, at, b'\n') - at) / 2
+    (word_end(s, at) - at) / 2
 }
 
 // Byte i of the n that the digits from `at` on spell, 0 past them.
@@ -156,7 +167,7 @@ fn byte_of(s: &[u8], at: usize, n: usize, i: usize) -> u8
     0
 }
 
-// The bytes that the line's last word, at `at`, spells go to the front of `to`, and zeros after them.
+// The bytes that the word at `at` spells go to the front of `to`, and zeros after them.
 pub fn bytes(s: &[u8], at: usize, to: &mut [u8])
     requires { ⌜ at ≤ length (now s) ⌝ }
 {
