@@ -27,7 +27,7 @@ LINES = {
     "cup.dat": "ended,0,284,0,0,0,0,40a00000,40000000,40e00000",
     # the position stays at the statement that is handed over or refused; saved are goal's four local cells
     "toss.dat": "builtin,7,3,4,1,1,0,00000000,00000000,00000000",
-    "captain.dat": "opcode,24,2,3,1,1,0,00000000,00000000,00000000",
+    "captain.dat": "refused,30,2,3,1,1,0,00000000,00000000,00000000",
     "referee.dat": "refused,16,2,3,1,1,4,00000000,00000000,00000000",
     "shout.dat": "builtin,23,1,2,1,1,0,00000000,00000000,00000000",
     "shout_optimised.dat": "refused,16,0,1,1,1,0,00000000,00000000,00000000",
@@ -76,7 +76,8 @@ BY_HAND = [
     # one more is refused at the 31st Call: 30 that entered, and the four statements before it
     ("cup.dat", "orders", (32,), "refused:22", 30 * 5 + 4, {}),
     ("toss.dat", "toss", (), "builtin:7", 3, {"tosses": 1, "kick_off": 1}),
-    ("captain.dat", "captain_plays", (), "opcode:24", 2, {"armbands": 1}),
+    # AddF and StoreF; the LoadF finds no entity
+    ("captain.dat", "captain_plays", (), "refused:30", 2, {"armbands": 1}),
     # AddF and StoreF, then the IfNot is refused
     ("referee.dat", "goal", (Text(19),), "refused:16", 2, {"goals": 1, "named": 0}),
     # AddF, StoreF, NotS, IfNot, Return; with a name AddF, StoreF and Done in place of Return
