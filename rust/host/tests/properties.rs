@@ -425,6 +425,44 @@ fn calls_leave_the_depth() {
     assert!(seen.panics > 100 && seen.nested_calls > 50, "{seen:?}");
 }
 
+/// Fields by name, in files, states and entity cells by chance: what is set is read again, the entity's other cells and all other
+/// entities stay, and what isn't there is an error.
+#[test]
+fn fields_by_chance() {
+    let (mut set, mut errors) = (0, 0);
+    for seed in 0..3_000 {
+        let mut chance = Chance::new(6_000_000 + seed);
+        let mut machine = random_machine(&mut chance);
+        let entities = random_entities(&mut chance);
+        machine.load_with(Settings { entities }).ok();
+        if chance.one_in(4) {
+            let context = made_up_context(&mut chance, machine.context());
+            machine.set_context(context);
+        }
+        for _ in 0..10 {
+            let before = machine.clone();
+            let (entity, value) = (chance.between(-1, 4), chance.draw() as f32);
+            let written = machine
+                .field_mut(entity, "")
+                .and_then(|mut field| field.set_float(value));
+            let read = machine.field(entity, "").and_then(|field| field.float());
+            assert_eq!(written, read.map(drop));
+            if read.is_err() {
+                assert_eq!(machine.entities(), before.entities());
+                errors += 1;
+                continue;
+            }
+            assert_eq!(read, Ok(value));
+            let place = usize::from(machine.find_field_by_name("").unwrap().cell);
+            let mut expected = before.entities().to_vec();
+            expected[entity as usize * machine.entity_cells() + place] = value.to_bits();
+            assert_eq!(machine.entities(), expected);
+            set += 1;
+        }
+    }
+    assert!(set > 500 && errors > 500, "{set} {errors}");
+}
+
 /// What the assembler put in comes out again.
 #[test]
 fn records_of_assembled_files() {
