@@ -441,7 +441,7 @@ fn fields_by_chance() {
         }
         for _ in 0..10 {
             let before = machine.clone();
-            let (entity, value) = (chance.between(-1, 4), chance.draw() as f32);
+            let (entity, value) = (chance.between(-1, 3), chance.draw() as f32);
             let written = machine
                 .field_mut(entity, "")
                 .and_then(|mut field| field.set_float(value));

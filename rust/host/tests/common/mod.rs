@@ -93,7 +93,7 @@ pub fn random_assembly(chance: &mut Chance) -> Assembly {
             .push((kind, 28 + chance.below(30) as u16, 0));
     }
     for _ in 0..chance.below(4) {
-        let kind = chance.pick(&[0, 1, 2, 2, 3, 4, 6]);
+        let kind = chance.pick(&[0, 1, 2, 2, 2, 2, 3, 4, 6]);
         let place = chance.pick(&PLACES) as u16;
         assembly.fields.push((kind, place, 0));
     }
@@ -139,6 +139,7 @@ fn random_statement(chance: &mut Chance) -> [i16; 4] {
         0 => chance.between(51, 59),
         1 => chance.pick(&[0, 43]),
         2 => chance.pick(&[49, 50, 61]),
+        3..=5 => 60,
         _ => chance.between(0, 65),
     };
     let mut place = || match chance.below(30) {
@@ -208,7 +209,7 @@ pub fn random_machine(chance: &mut Chance) -> Machine {
         SAVED_STORE + 8
     };
     let numbered = |first: u32, count: usize| (0..count as u32).map(|i| first + i).collect();
-    let entities = chance.pick(&[0, 104, 105, 210, 315, 320, 320]);
+    let entities = chance.pick(&[0, 104, 210, 315, 320, 320, 320, 320, 320, 320, 320, 320]);
     Machine::with_entities(
         file,
         numbered(0xc000_0000, cells),
