@@ -2,6 +2,7 @@
 
 use crate::classes::Class;
 use crate::compare::{compare, compare_load, wraps_an_address, Call, Rules, Verdict};
+use crate::entities::{self, Lent};
 use crate::generate::Case;
 use crate::oracle::{self, End, Level, Seen, Variant};
 use crate::ours::{Answer, Left, Ours};
@@ -14,14 +15,16 @@ pub type Verdicts = Vec<Verdict>;
 
 /// What this machine did with a case.
 pub struct Performed {
+    pub lent: Lent,
     pub load: Result<Left, u32>,
     /// Each call up to the first that did not end.
     pub calls: Vec<Left>,
 }
 
 pub fn perform(case: &Case) -> Performed {
-    match Ours::load(&case.bytes) {
-        Err(number) => Performed { load: Err(number), calls: Vec::new() },
+    let lent = case.lent();
+    match Ours::load(&case.bytes, &lent) {
+        Err(number) => Performed { lent, load: Err(number), calls: Vec::new() },
         Ok(mut ours) => {
             let load = Ok(ours.left(Answer::Completed, 0));
             let mut calls = Vec::new();
@@ -31,7 +34,7 @@ pub fn perform(case: &Case) -> Performed {
                     break;
                 }
             }
-            Performed { load, calls }
+            Performed { lent, load, calls }
         }
     }
 }
@@ -65,6 +68,7 @@ pub fn rules(variant: Variant, nan_as_nan: bool) -> Rules {
 thread_local! {
     static UNCOUNTED: Cell<u64> = const { Cell::new(0) };
     static ROUNDED: Cell<u64> = const { Cell::new(0) };
+    static WROTE: Cell<u64> = const { Cell::new(0) };
 }
 
 /// How many runs of the Rust were compared without their count of statements.
@@ -75,6 +79,11 @@ pub fn uncounted() -> u64 {
 /// How many equal runs called builtins: those that are done here, fabs, floor, ceil and rint.
 pub fn rounded() -> u64 {
     ROUNDED.with(Cell::get)
+}
+
+/// How many equal runs left other entity cells than were lent.
+pub fn wrote() -> u64 {
+    WROTE.with(Cell::get)
 }
 
 /// The Rust's level, and a second one that counts where counting could panic.
@@ -110,7 +119,7 @@ impl Levels {
 pub fn verdicts(case: &Case, performed: &Performed, variant: Variant, rules: Rules) -> Verdicts {
     let view = View(&case.bytes);
     let cells = view.cells();
-    let loaded = oracle::load(variant, &case.bytes);
+    let loaded = oracle::load(variant, &case.bytes, &performed.lent);
     let ours = performed.load.as_ref().map_err(|&n| n);
     let mut level = match loaded {
         Err(end) => return vec![compare_load(&view, Err(&end), ours)],
@@ -118,10 +127,13 @@ pub fn verdicts(case: &Case, performed: &Performed, variant: Variant, rules: Rul
     };
     let seen = oracle::call(&mut *level, cells, false, |_| Ok(()));
     let mut all = vec![compare_load(&view, Ok(&seen), ours)];
-    let mut levels = Levels { level, counting: oracle::load(variant, &case.bytes).ok(), names_are_texts: names_are_texts(&view) };
+    let names_are_texts = names_are_texts(&view);
+    let counting = if names_are_texts { None } else { oracle::load(variant, &case.bytes, &performed.lent).ok() };
+    let mut levels = Levels { level, counting, names_are_texts };
     for (i, (&function, left)) in case.calls.iter().zip(&performed.calls).enumerate() {
         let (seen, counted) = levels.execute(cells, function);
-        let call = Call { view: View(&case.bytes), entered: Some(function), entry_only: false, statement: None };
+        let call =
+            Call { view: View(&case.bytes), entered: Some(function), entry_only: false, statement: None, entities: performed.lent.number };
         let rules = Rules { entries_ended: if rules.ended_adds { i as i64 } else { 0 }, counted, ..rules };
         if !counted {
             UNCOUNTED.with(|n| n.set(n.get() + 1));
@@ -129,6 +141,9 @@ pub fn verdicts(case: &Case, performed: &Performed, variant: Variant, rules: Rul
         let verdict = verdict(&call, rules, &seen, left);
         if matches!(verdict, Verdict::Same { .. }) && !seen.builtins_at.is_empty() {
             ROUNDED.with(|n| n.set(n.get() + 1));
+        }
+        if matches!(verdict, Verdict::Same { .. }) && left.entities != performed.lent.cells {
+            WROTE.with(|n| n.set(n.get() + 1));
         }
         let goes_on = verdict == Verdict::Same { traces: false } && seen.end == End::Done;
         all.push(verdict);
@@ -139,7 +154,7 @@ pub fn verdicts(case: &Case, performed: &Performed, variant: Variant, rules: Rul
     all
 }
 
-/// The comparison, with the addresses that the Rust wraps set apart.
+/// The comparison, with the addresses that the Rust wraps, and what it does otherwise with entities, set apart.
 pub fn verdict(call: &Call, rules: Rules, seen: &Seen, left: &Left) -> Verdict {
     if !rules.counted && matches!(left.answer, Answer::Builtin(_)) {
         return Verdict::LeftOut(Class::HandedOver);
@@ -148,6 +163,10 @@ pub fn verdict(call: &Call, rules: Rules, seen: &Seen, left: &Left) -> Verdict {
         Verdict::Differs(_) if wraps_an_address(call, left) => {
             Verdict::ByDesign("cells of an entry past 32,767, which the Rust wraps to 16 bits")
         }
+        Verdict::Differs(text) => match entities::by_design(call, rules.counted, seen, left) {
+            Some(name) => Verdict::ByDesign(name),
+            None => Verdict::Differs(text),
+        },
         verdict => verdict,
     }
 }

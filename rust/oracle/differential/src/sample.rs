@@ -1,6 +1,7 @@
 //! A sample of the Rust's answers, as lines that the show program must print. Nothing in it comes from this machine.
 
 use crate::classes::{number_of, Class};
+use crate::entities::Lent;
 use crate::generate::{self, Case};
 use crate::oracle::{self, End, Seen, Variant};
 use crate::program::{Lump, View};
@@ -87,7 +88,8 @@ const HOW: &str = "\
 # Answers of richter's program machine, as the show program's lines: NAME LENGTH HEX LINE, bytes not given are zeros.
 # Made by `rust/oracle/differential.sh sample`, from the Rust alone: load, then execute_program of function 1. unchanged: richter as it
 # is, where no named difference of document 01 plays a part. changed: the others, with the named differences changed to pr_exec.c's
-# way and NaN made canonical. An error is written as the refusal it stands for, the panic at the 100,000th statement as spent.
+# way and NaN made canonical. There are no entities. An error is written as the refusal it stands for, the panic at the 100,000th
+# statement as spent.
 ";
 
 fn file(bytes: &[u8]) -> String {
@@ -102,13 +104,13 @@ fn answered(case: &Case, variant: Variant) -> Option<Answered> {
     if variant == Variant::Unchanged && !agrees_with_pr_exec(case) {
         return None;
     }
-    let mut level = match oracle::load(variant, &case.bytes) {
+    let mut level = match oracle::load(variant, &case.bytes, &Lent::default()) {
         Ok(level) => level,
         Err(End::Error(text)) => return refused_load(&view, &text).map(|line| Answered { line, builtins: Vec::new() }),
         Err(_) => return None,
     };
     // What 01's sizes refuse and the Rust takes.
-    if view.cells() > 32_768 || view.entity_cells() < 0 || negative_offset(&view) || wraps(&view) {
+    if view.cells() > 32_768 || view.entity_cells() < 0 || negative_offset(&view) || wraps(&view) || has_pointers_by_design(&view) {
         return None;
     }
     let seen = oracle::call(&mut *level, view.cells(), true, |l| l.execute_program(1));
@@ -142,7 +144,7 @@ fn calls(case: &Case, variant: Variant, function: usize) -> Option<bool> {
     let mut bytes = case.bytes.clone();
     let at = View(&case.bytes).offset(Lump::Functions) as usize + 36 * function;
     bytes[at..at + 4].copy_from_slice(&SET_ORIGIN.to_le_bytes());
-    let mut level = oracle::load(variant, &bytes).ok()?;
+    let mut level = oracle::load(variant, &bytes, &Lent::default()).ok()?;
     let end = oracle::call(&mut *level, 0, false, |l| l.execute_program(1)).end;
     Some(matches!(end, End::Panic(panic) if panic.message.contains("builtin_set_origin")))
 }
@@ -150,6 +152,16 @@ fn calls(case: &Case, variant: Variant, function: usize) -> Option<bool> {
 fn negative_offset(view: &View) -> bool {
     use crate::program::Lump::*;
     [Statements, GlobalDefs, FieldDefs, Functions, Strings, Cells].iter().any(|&l| view.offset(l) < 0)
+}
+
+/// Whether a statement would make a pointer, which the Rust does without entities too, or take one from a cell of another type.
+fn has_pointers_by_design(view: &View) -> bool {
+    let mut statements = (0..).map_while(|position| view.statement(position));
+    statements.any(|[opcode, _, b, _]| match opcode {
+        30 => true,
+        37..=42 => view.global_type(b).is_some_and(|type_| type_ != 7),
+        _ => false,
+    })
 }
 
 /// Whether the cells of an entry could be wrapped to 16 bits.
@@ -176,7 +188,7 @@ fn refused_load(view: &View, text: &str) -> Option<String> {
 fn agrees_with_pr_exec(case: &Case) -> bool {
     let cells = View(&case.bytes).cells();
     let seen = [Variant::Unchanged, Variant::Changed].map(|variant| {
-        let mut level = oracle::load(variant, &case.bytes).ok()?;
+        let mut level = oracle::load(variant, &case.bytes, &Lent::default()).ok()?;
         Some(oracle::call(&mut *level, cells, true, |l| l.execute_program(1)))
     });
     match seen {
