@@ -206,6 +206,8 @@ fn change(file: &str, mut text: String) -> String {
 fn main() {
     let source = PathBuf::from("../richter/src");
     let out = PathBuf::from(env::var_os("OUT_DIR").expect("cargo sets it"));
+    // Of an earlier build there may be files that are others now.
+    let _ = fs::remove_dir_all(out.join("server"));
     for folder in ["server/progs", "server/world"] {
         fs::create_dir_all(out.join(folder)).unwrap();
     }

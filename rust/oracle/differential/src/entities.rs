@@ -75,12 +75,18 @@ fn value(r: &mut Random, type_: u16, entities: usize) -> u32 {
     match type_ {
         _ if r.percent(1) => r.pick(&[u32::MAX, 0x8000_0000, 0x7fff_ffff, 0x7fa0_0001]),
         STRING => r.below(4) as u32,
-        ENTITY => r.below(entities + r.percent(3) as usize) as u32,
+        ENTITY => some_entity(r, entities) as u32,
         FIELD => r.below(105) as u32,
         FUNCTION => r.below(6) as u32,
         0 if r.percent(60) => r.below(4) as u32,
         _ => ((r.between(-64, 64) as f32) / 4.0).to_bits(),
     }
+}
+
+/// The number of an entity, now and then of the one past the last.
+pub fn some_entity(r: &mut Random, entities: usize) -> usize {
+    let past = r.percent(4) as usize;
+    r.below((entities + past).max(1))
 }
 
 const POINTER: u16 = 7;

@@ -220,7 +220,7 @@ impl Fields {
     /// A pointer, mostly to one of the fields of an entity, and the field's type.
     fn pointer(&self, r: &mut Random, entities: usize) -> (u32, u16) {
         let (cell, type_) = r.pick(&self.list);
-        let entity = r.below(entities.max(1) + r.percent(4) as usize) as i64;
+        let entity = entities::some_entity(r, entities) as i64;
         let pointer = 4 * (entity * self.per_entity as i64 + cell as i64);
         let number = match r.below(100) {
             0 => r.pick(&[u32::MAX, 0x8000_0000, 0x7fff_fffc, 0x7fff_ffff]),
@@ -286,9 +286,7 @@ impl Cells {
                 self.of_field[cell] = of;
                 number
             }
-            ENTITY if style.fields && r.percent(97) => {
-                r.below(style.entities + r.percent(4) as usize + (style.entities == 0) as usize) as u32
-            }
+            ENTITY if style.fields && r.percent(97) => entities::some_entity(r, style.entities) as u32,
             ENTITY | FIELD if r.percent(3) => u32::MAX - r.below(3) as u32,
             ENTITY | FIELD => r.below(5) as u32,
             FUNCTION if r.percent(3) => r.pick(&[0, 77, u32::MAX, functions as u32]),

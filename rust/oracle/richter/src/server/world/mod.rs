@@ -13,7 +13,7 @@ pub use self::entity::{EntityError, EntityTypeDef};
 
 use crate::server::progs::{EntityFieldAddr, EntityId, FieldAddr, ProgsError, StringTable};
 
-const NUM_AREA_NODES: usize = 2usize.pow(AREA_DEPTH as u32 + 1) - 1;
+const MAX_ENTITIES: usize = 600;
 
 #[derive(Debug)]
 struct AreaEntity {
