@@ -164,7 +164,12 @@ impl Class {
         }
     }
 
-    /// Whether this machine may answer so where the Rust panics so.
+    /// Whether this machine completes the statement at which the Rust panics so in a run.
+    pub fn goes_on(self) -> bool {
+        matches!(self, Class::NameWithoutZero | Class::NameNotAtCharacter | Class::NegativeFunction | Class::FieldOpcode)
+    }
+
+    /// Whether this machine may answer so where the Rust panics so. `compare` looks at the statement as well.
     pub fn allows(self, answer: Answer) -> bool {
         let refused = |numbers: &[u32]| matches!(answer, Answer::Refused(n) if numbers.contains(&n));
         match self {

@@ -63,6 +63,9 @@ pub fn compare(call: &Call, rules: Rules, rust: &Seen, ours: &Left) -> Verdict {
         }
         return builtin(rules, rust, ours);
     }
+    if matches!(ours.answer, Answer::Opcode(number) if number != 60) {
+        return differs(format!("{}, which the machine does itself", ours.answer));
+    }
     match &rust.end {
         End::Done => done(rules, rust, ours),
         End::Error(text) => error(call, rules, rust, ours, text),
@@ -71,16 +74,7 @@ pub fn compare(call: &Call, rules: Rules, rust: &Seen, ours: &Left) -> Verdict {
             match class {
                 Class::HandedOver => handed_over(rules, rust.fetched, ours),
                 Class::Runaway => runaway(rules, rust, ours),
-                _ if class.allows(ours.answer) => left_out(class, rules, rust, ours),
-                Class::CellEqualToCount if ours.answer == Answer::Refused(17) && Failing::of(call, ours).is_store_s() => {
-                    left_out(class, rules, rust, ours)
-                }
-                // A load's destination is checked first here; the Rust doesn't come to it.
-                Class::AbsentEntity | Class::FieldCellEqualToCount
-                    if matches!(ours.answer, Answer::Refused(15 | 16)) && Failing::of(call, ours).is_load() =>
-                {
-                    left_out(class, rules, rust, ours)
-                }
+                _ if allowed(class, call, rules, rust, ours) => left_out(class, rules, rust, ours),
                 _ => differs(format!("{} where the Rust panics: {:?}", ours.answer, panic)),
             }
         }
@@ -91,7 +85,29 @@ fn differs(text: String) -> Verdict {
     Verdict::Differs(text)
 }
 
+/// Whether this machine may answer so where the Rust panics so, at this statement.
+fn allowed(class: Class, call: &Call, rules: Rules, rust: &Seen, ours: &Left) -> bool {
+    let failing = Failing::of(call, ours);
+    let refused = |numbers: &[u32]| matches!(ours.answer, Answer::Refused(n) if numbers.contains(&n));
+    match class {
+        Class::CellEqualToCount if failing.is_store_s() => refused(&[15, 17]),
+        // A load's destination is checked first here; the Rust doesn't come to it.
+        Class::AbsentEntity => refused(if failing.is_load() { &[15, 16, 30] } else { &[32] }),
+        Class::FieldCellEqualToCount => refused(if failing.is_load() { &[15, 16, 31] } else { &[31] }),
+        // The Rust has checked everything before, so it must be completed here.
+        Class::NegativeFunction if call.statement.is_some() => ours.answer == Answer::Completed,
+        Class::NegativeFunction => !rules.counted || ours.count >= rust.fetched,
+        _ => class.allows(ours.answer),
+    }
+}
+
 fn builtin(rules: Rules, rust: &Seen, ours: &Left) -> Verdict {
+    if let End::Panic(panic) = &rust.end {
+        let class = Class::of(panic);
+        if class.goes_on() && rust.fetched <= ours.count {
+            return Verdict::LeftOut(class);
+        }
+    }
     if rules.counted && !rust.builtins_at.contains(&(ours.count + 1)) {
         return differs(format!("{} after {} statements, the Rust calls builtins at {:?}", ours.answer, ours.count, rust.builtins_at));
     }
@@ -110,12 +126,11 @@ fn handed_over(rules: Rules, fetched: u64, ours: &Left) -> Verdict {
 
 /// A panic: the same number of statements was completed, where the Rust got that far and this machine stopped there.
 fn left_out(class: Class, rules: Rules, rust: &Seen, ours: &Left) -> Verdict {
-    let goes_on = matches!(class, Class::NameWithoutZero | Class::NameNotAtCharacter | Class::NegativeFunction | Class::FieldOpcode);
     let completed = match class {
         Class::NoStatement => rust.fetched,
         _ => rust.fetched.saturating_sub(1),
     };
-    if rules.counted && !goes_on && completed != ours.count {
+    if rules.counted && !class.goes_on() && completed != ours.count {
         return differs(format!("{} statements, the Rust {} and a panic", ours.count, completed));
     }
     Verdict::LeftOut(class)

@@ -104,26 +104,26 @@ pub fn by_design(call: &Call, counted: bool, rust: &Seen, ours: &Left) -> Option
     let Failing::Statement([opcode, a, b, c]) = Failing::of(call, ours) else {
         return None;
     };
-    let (entity, field) = (value_of(ours, a), value_of(ours, b));
-    let other_type = |cell: i16| call.view.global_type(cell).is_some_and(|type_| type_ != POINTER);
-    let number = match ours.answer {
-        Answer::Refused(number) => number,
-        _ => return None,
+    let Answer::Refused(number) = ours.answer else {
+        return None;
     };
+    let (entity, second) = (value_of(ours, a), value_of(ours, b));
+    let per_entity = call.view.entity_cells().max(1) as usize;
+    let other_type = |cell: i16| call.view.global_type(cell).is_some_and(|type_| type_ != POINTER);
+    // The last cell of a vector is two further.
+    let last = |field: usize| if matches!(opcode, 25 | 38) { field + 2 } else { field };
     match (number, opcode) {
-        (16, 30) if other_type(c) => Some("a pointer cell with a definition of another type, which the Rust doesn't look at"),
-        (16, 37..=42) if other_type(b) => Some("a pointer cell with a definition of another type, which the Rust doesn't look at"),
-        (30, 30) if entity.is_some_and(|e| e as usize >= call.entities) => {
-            Some("Address of an entity that isn't there: the Rust makes the pointer")
-        }
-        (31, 30) if field.is_some_and(|f| f as i64 >= call.view.entity_cells() as i64) => {
-            Some("Address of a field that isn't there: the Rust makes the pointer")
-        }
-        (16 | 31, 24..=29) if field.is_some_and(|f| f as usize >= NAMED) => Some(CUT),
+        (16, 30) if other_type(c) => Some(POINTER_CELL),
+        (16, 37..=42) if other_type(b) => Some(POINTER_CELL),
+        (30, 30) if entity >= call.entities => Some("Address of an entity that isn't there: the Rust makes the pointer"),
+        (31, 30) if second >= per_entity => Some("Address of a field that isn't there: the Rust makes the pointer"),
+        (16 | 31, 24..=29) if last(second) >= NAMED => Some(CUT),
+        (16 | 31, 37..=42) if last(second / 4 % per_entity) >= NAMED => Some(CUT),
         _ => None,
     }
 }
 
+const POINTER_CELL: &str = "a pointer cell with a definition of another type, which the Rust doesn't look at";
 const CUT: &str = "a field number past 32,767, which the Rust cuts to 16 bits";
 
 /// Where an entity has more cells than the Rust can name, this machine goes on where the Rust has an error, or panics at the sum.
@@ -137,13 +137,15 @@ fn cut_to_16_bits(call: &Call, rust: &Seen, ours: &Left) -> Option<&'static str>
     (stops && goes_on && call.view.entity_cells() as i64 > NAMED as i64).then_some(CUT)
 }
 
-fn value_of(ours: &Left, cell: i16) -> Option<u32> {
-    usize::try_from(cell).ok().and_then(|cell| ours.cells.get(cell).copied())
+/// What a cell holds, 0 for one that isn't there.
+fn value_of(ours: &Left, cell: i16) -> usize {
+    let found = usize::try_from(cell).ok().and_then(|cell| ours.cells.get(cell));
+    found.map_or(0, |&value| value as usize)
 }
 
 /// The entity cells that a vector written through the pointer may have changed before the Rust came to an error.
 pub fn written(call: &Call, ours: &Left, pointer: i16) -> Vec<usize> {
-    let first = value_of(ours, pointer).unwrap_or(0) as usize / 4;
+    let first = value_of(ours, pointer) / 4;
     let end = call.entities * call.view.entity_cells().max(0) as usize;
     (first..first + 3).filter(|&cell| cell < end).collect()
 }

@@ -196,12 +196,13 @@ fn print_totals(totals: &Totals) {
     changed.print("programs and richter changed:");
     either.print("programs and either:");
     println!("    {} statements completed in the programs compared in full", grouped(totals.statements));
+    println!("    of the runs by richter changed:");
     println!(
-        "    {} runs without a known count of statements: a name is no text, and counting would convert it",
+        "      {:>9}  without a known count of statements: a name is no text, and counting would convert it",
         grouped(runs::uncounted())
     );
-    println!("    {} equal runs with calls of fabs, floor, ceil or rint", grouped(runs::rounded()));
-    println!("    {} equal runs that left entity cells changed", grouped(runs::wrote()));
+    println!("      {:>9}  equal, with calls of fabs, floor, ceil or rint", grouped(runs::rounded()));
+    println!("      {:>9}  equal, and entity cells were changed", grouped(runs::wrote()));
     totals.unchanged.print("loads and runs, richter unchanged");
     totals.covered_by_changed.print("programs with such a difference, and the changed Rust:");
     totals.changed.print("loads and runs, richter with the named differences changed, NaN canonical");

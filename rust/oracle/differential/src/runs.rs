@@ -9,6 +9,7 @@ use crate::ours::{Answer, Left, Ours};
 use crate::program::{Lump, View};
 use changed::switches::{self, Switch};
 use std::cell::Cell;
+use std::thread::LocalKey;
 
 /// What came of a case, for one variant: the verdict of the load, then of each call.
 pub type Verdicts = Vec<Verdict>;
@@ -66,9 +67,17 @@ pub fn rules(variant: Variant, nan_as_nan: bool) -> Rules {
 }
 
 thread_local! {
+    /// Whether runs are being tallied below: those of the changed Rust with all switches on, each once.
+    static TALLIED: Cell<bool> = const { Cell::new(false) };
     static UNCOUNTED: Cell<u64> = const { Cell::new(0) };
     static ROUNDED: Cell<u64> = const { Cell::new(0) };
     static WROTE: Cell<u64> = const { Cell::new(0) };
+}
+
+fn tally(counter: &'static LocalKey<Cell<u64>>, which: bool) {
+    if which && TALLIED.with(Cell::get) {
+        counter.with(|n| n.set(n.get() + 1));
+    }
 }
 
 /// How many runs of the Rust were compared without their count of statements.
@@ -135,16 +144,11 @@ pub fn verdicts(case: &Case, performed: &Performed, variant: Variant, rules: Rul
         let call =
             Call { view: View(&case.bytes), entered: Some(function), entry_only: false, statement: None, entities: performed.lent.number };
         let rules = Rules { entries_ended: if rules.ended_adds { i as i64 } else { 0 }, counted, ..rules };
-        if !counted {
-            UNCOUNTED.with(|n| n.set(n.get() + 1));
-        }
         let verdict = verdict(&call, rules, &seen, left);
-        if matches!(verdict, Verdict::Same { .. }) && !seen.builtins_at.is_empty() {
-            ROUNDED.with(|n| n.set(n.get() + 1));
-        }
-        if matches!(verdict, Verdict::Same { .. }) && left.entities != performed.lent.cells {
-            WROTE.with(|n| n.set(n.get() + 1));
-        }
+        let equal = matches!(verdict, Verdict::Same { .. });
+        tally(&UNCOUNTED, !counted);
+        tally(&ROUNDED, equal && !seen.builtins_at.is_empty());
+        tally(&WROTE, equal && left.entities != performed.lent.cells);
         let goes_on = verdict == Verdict::Same { traces: false } && seen.end == End::Done;
         all.push(verdict);
         if !goes_on {
@@ -174,7 +178,10 @@ pub fn verdict(call: &Call, rules: Rules, seen: &Seen, left: &Left) -> Verdict {
 /// The changed Rust with all switches on.
 pub fn changed(case: &Case, performed: &Performed) -> Verdicts {
     switches::set(&switches::ALL);
-    verdicts(case, performed, Variant::Changed, rules(Variant::Changed, false))
+    TALLIED.with(|t| t.set(true));
+    let verdicts = verdicts(case, performed, Variant::Changed, rules(Variant::Changed, false));
+    TALLIED.with(|t| t.set(false));
+    verdicts
 }
 
 pub fn unchanged(case: &Case, performed: &Performed) -> Verdicts {
