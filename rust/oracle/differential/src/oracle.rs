@@ -130,13 +130,12 @@ macro_rules! level {
             }
 
             fn entities(&self) -> Vec<u32> {
-                let mut cells = vec![0; self.entities * self.per_entity];
-                for (i, cell) in cells.iter_mut().enumerate() {
-                    let (entity, field) = (i / self.per_entity, i % self.per_entity);
-                    if field < NAMED {
-                        let id = $from::server::progs::EntityId(entity);
-                        *cell = u32::from_le_bytes(self.level.world.entity(id).get_bytes(field as i16).unwrap());
-                    }
+                let mut cells = Vec::with_capacity(self.entities * self.per_entity);
+                for number in 0..self.entities {
+                    let entity = self.level.world.entity($from::server::progs::EntityId(number));
+                    let named = self.per_entity.min(NAMED);
+                    cells.extend((0..named).map(|field| u32::from_le_bytes(entity.get_bytes(field as i16).unwrap())));
+                    cells.resize((number + 1) * self.per_entity, 0);
                 }
                 cells
             }
@@ -149,11 +148,10 @@ macro_rules! level {
         fn $load(bytes: &[u8], lent: &Lent) -> Result<Box<dyn Level>, String> {
             let progs = $from::server::progs::load(Cursor::new(bytes)).map_err(|e| e.to_string())?;
             let mut level = $from::server::LevelState::new(progs, lent.number);
-            for (i, cell) in lent.cells.iter().enumerate() {
-                let (entity, field) = (i / lent.per_entity, i % lent.per_entity);
-                if field < NAMED {
-                    let id = $from::server::progs::EntityId(entity);
-                    level.world.entity_mut(id).unwrap().put_bytes(cell.to_le_bytes(), field as i16).unwrap();
+            for (number, cells) in lent.cells.chunks(lent.per_entity.max(1)).enumerate() {
+                let entity = level.world.entity_mut($from::server::progs::EntityId(number)).unwrap();
+                for (field, cell) in cells.iter().take(NAMED).enumerate() {
+                    entity.put_bytes(cell.to_le_bytes(), field as i16).unwrap();
                 }
             }
             Ok(Box::new($name { level, entities: lent.number, per_entity: lent.per_entity }))

@@ -44,11 +44,14 @@ impl World {
         string_table: Rc<RefCell<StringTable>>,
         entities: usize,
     ) -> World {
-        let vacant = (0..MAX_ENTITIES).map(|_| AreaEntitySlot::Vacant);
+        let mut slots = Vec::with_capacity(MAX_ENTITIES);
+        for _ in 0..MAX_ENTITIES {
+            slots.push(AreaEntitySlot::Vacant);
+        }
         let mut world = World {
             string_table,
             type_def,
-            slots: vacant.collect(),
+            slots: slots.into_boxed_slice(),
         };
         for _ in 0..entities {
             world.alloc_uninitialized().unwrap();
