@@ -44,8 +44,15 @@ pub fn entities(r: &mut Random) -> usize {
 
 pub fn case(seed: u64, number: u64) -> Case {
     let mut random = Random::new(seed, number);
-    let r = &mut random;
-    let entities = entities(r);
+    let entities = entities(&mut random);
+    with_entities(&mut random, entities)
+}
+
+pub fn case_without_entities(seed: u64, number: u64) -> Case {
+    with_entities(&mut Random::new(seed, number), 0)
+}
+
+fn with_entities(r: &mut Random, entities: usize) -> Case {
     let kind = match r.below(10) {
         0..=5 => Kind::Random,
         6 | 7 => Kind::Boundary,

@@ -60,7 +60,7 @@ pub fn write(seed: u64, path: &str) -> bool {
     let mut kept: BTreeMap<String, usize> = BTreeMap::new();
     let mut text = String::from(HOW);
     for number in 0..TRIED {
-        let mut case = generate::case(seed ^ 0x5a, number);
+        let mut case = generate::case_without_entities(seed ^ 0x5a, number);
         case.calls = vec![1];
         if case.bytes.len() > BYTES || reserves_too_much(&case.bytes) || !names_are_texts(&View(&case.bytes)) {
             continue;
