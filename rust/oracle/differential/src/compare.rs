@@ -102,9 +102,10 @@ fn allowed(class: Class, call: &Call, rules: Rules, rust: &Seen, ours: &Left) ->
 }
 
 fn builtin(rules: Rules, rust: &Seen, ours: &Left) -> Verdict {
+    // The Rust panics at the statement that is handed over here, or at an earlier one that is completed here.
     if let End::Panic(panic) = &rust.end {
         let class = Class::of(panic);
-        if class.goes_on() && rust.fetched <= ours.count {
+        if class.goes_on() && rust.fetched <= ours.count + 1 {
             return Verdict::LeftOut(class);
         }
     }
