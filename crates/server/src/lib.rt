@@ -68,14 +68,7 @@ fn run_for(
     let mut count: u32 = 0;
     while count < limit {
         let completed = count + 1;
-        let done = execution::does(
-            file,
-            recorded,
-            number,
-            cells,
-            entities,
-            now.pc,
-        );
+        let done = execution::does(file, recorded, number, cells, entities, now.pc);
         match done {
             Executed::Next(p) => {
                 now.pc = p;

@@ -91,8 +91,7 @@ does-requires : tie.Need-does-requires Inv-loop μ-loop
 does-requires c κs =
     let w = c .before .before .before .before .before .before .before .before .before .before .before .pre .0 in
     let i = c .before .before .before .before .loop .inv .0 .0 in
-    let size = ap (λ (r : FileRecord). r .entityfields) (w .loaded .same ∙ sym (i .1 .loaded .same)) in
-    (
+    let size = ap (λ (r : FileRecord). r .entityfields) (w .loaded .same ∙ sym (i .1 .loaded .same)) in (
       record { lumps = w .loaded .lumps; most = w .most; lends = omega (arith, w .lent, i .0 .0) },
       record { size-least = w .size-least; size-most = w .size-most; number-most = rw (i .0 .3) (i .1 .number); lends-fields = rw (i .0 .3, size) (i .1 .fields) },
     )
