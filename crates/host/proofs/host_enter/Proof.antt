@@ -10,8 +10,8 @@ use Rattle.host.proofs.host_enter.Tie as tie
 
 returns : tie.Need-returns
 returns c =
-    let s = c@before in
+    let s = c@@Start in
     let fits : SFits w64 (s .args .function) = search needs in
-    call-enters _ _ _ _ _ 0 _ (pos 0) _ (c .reply-answer .ensures) refl (rw (toZ-ofZ fits) at (c@enter .ensures))
+    call-enters _ _ _ _ _ _ 0 _ (pos 0) _ (c .reply-answer .ensures) refl (rw (toZ-ofZ fits) at (c@enter .ensures))
 
 @SPEC host-enter-spec

@@ -21,9 +21,9 @@ same-length-2 c = search needs
 
 returns : tie.Need-returns
 returns c =
-    let s = c@before in
+    let s = c@@Start in
     let target-fits : SFits w64 (s .args .target) = search needs in
     let limit-fits : SFits w64 (s .args .limit) = search needs in
-    call-runs _ _ _ _ _ 2 _ _ _ (c .reply-run .ensures) refl (rw (toZ-ofZ target-fits, toZ-ofZ limit-fits) at (c@run .ensures))
+    call-runs _ _ _ _ _ _ 2 _ _ _ (c .reply-run .ensures) refl (rw (toZ-ofZ target-fits, toZ-ofZ limit-fits) at (c@run .ensures))
 
 @SPEC host-run-spec

@@ -18,6 +18,6 @@ same-length-2 : tie.Need-same-length-2
 same-length-2 c = search needs
 
 returns : tie.Need-returns
-returns c = call-steps _ _ _ _ _ 1 (pos 0) (pos 0) _ (c .reply-statement .ensures) refl (c@step-once .ensures)
+returns c = call-steps _ _ _ _ _ _ 1 (pos 0) (pos 0) _ (c .reply-statement .ensures) refl (c@step-once .ensures)
 
 @SPEC host-statement-spec
