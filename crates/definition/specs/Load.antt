@@ -1,4 +1,4 @@
--- THE LOAD. Document 01's refusals 1 to 12, in the table's order, and what an accepted load leaves; and the program of a file.
+-- THE LOAD. Document 01's refusals 1 to 12, in the table's order, and 02's 13 after them; what an accepted load leaves; and the program of a file.
 use Prim.Native.Nat.{ℕ, _+_}
 use mathlib.Core.List.{List, [], _∷_, _++_}
 use mathlib.Core.Bool.{Bool, not, _&&_}
