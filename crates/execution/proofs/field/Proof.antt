@@ -1,7 +1,6 @@
 use mathlib.Core.Path.{refl}
 use Rattle.execution.proofs.Transfers.{completed-is, put-is, field-known}
 use Rattle.execution.specs.declared.shapes.FieldOp.the-variants.{Loads, Address, StoresP}
-use Rattle.entities.specs.Lent.{lent-sized}
 use borrow.Author.Needs.{needs}
 use Rattle.execution.proofs.field.Statement.{statement}
 use Rattle.execution.proofs.field.Tie as tie
@@ -10,7 +9,7 @@ op-loads-requires : tie.Need-op-loads-requires
 op-loads-requires c κs = (c .before .before .before .before .before .before .before .before .before .pre .0 .0, c .before .before .before .before .before .before .before .before .before .pre .1)
 
 op-address-requires : tie.Need-op-address-requires
-op-address-requires c κs = (c .before .before .before .before .before .before .before .pre .0 .0, lent-sized (c .before .before .before .before .before .before .before .pre .1))
+op-address-requires c κs = (c .before .before .before .before .before .before .before .pre .0 .0, let l = c .before .before .before .before .before .before .before .pre .1 in record { number-most = l .number-most; size-least = l .size-least; size-below = l .size-below })
 
 op-stores-p-requires : tie.Need-op-stores-p-requires
 op-stores-p-requires c κs = (c .before .before .before .before .before .before .before .before .before .pre .0 .0, c .before .before .before .before .before .before .before .before .before .pre .1)

@@ -2,8 +2,8 @@ use mathlib.Core.Path.{_≡_}
 use borrow.Author.Needs.{needs}
 use Prim.Native.Nat.{_-_}
 use lib.ListN.{length}
-use Rattle.call_cases.proofs.number_cells.Statement.{statement}
-use Rattle.call_cases.proofs.number_cells.Tie as tie
+use Rattle.call_cases.proofs.calls.number_cells.Statement.{statement}
+use Rattle.call_cases.proofs.calls.number_cells.Tie as tie
 
 pub number-cells-spec : {M : Type 1} → statement M
 number-cells-spec =
