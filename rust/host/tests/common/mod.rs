@@ -63,7 +63,7 @@ const FLOATS: [u32; 10] = [
 const PLACES: [u32; 8] = [0, 1, 50, 101, 102, 103, 104, 105];
 
 /// Floats at 28 to 35, places of fields at 36 to 39, function numbers at 40 to 43, small numbers, which name entities too, at 44 to
-/// 47, locals from 48 on.
+/// 47, locals from 48 on, among them pointers at 58 and 59.
 pub fn random_assembly(chance: &mut Chance) -> Assembly {
     let count = chance.between(3, 40);
     let mut assembly = Assembly {
@@ -78,6 +78,11 @@ pub fn random_assembly(chance: &mut Chance) -> Assembly {
     }
     for cell in 40..44 {
         assembly.cells.push((cell, chance.below(8) as u32));
+    }
+    for cell in 58..60 {
+        let entity = chance.below(3) as u32;
+        let pointer = 4 * (105 * entity + chance.pick(&PLACES));
+        assembly.cells.push((cell, pointer));
     }
     for cell in 44..48 {
         assembly.cells.push((cell, chance.below(3) as u32));
@@ -157,7 +162,7 @@ fn random_statement(chance: &mut Chance) -> [i16; 4] {
     }
 }
 
-/// A statement over an entity's field. Pointers are made at 58 and 59.
+/// A statement over an entity's field. Pointers are at 58 and 59.
 fn random_field_statement(chance: &mut Chance) -> [i16; 4] {
     let entity = chance.between(44, 47) as i16;
     let place = chance.between(36, 39) as i16;
@@ -209,7 +214,11 @@ pub fn random_machine(chance: &mut Chance) -> Machine {
         SAVED_STORE + 8
     };
     let numbered = |first: u32, count: usize| (0..count as u32).map(|i| first + i).collect();
-    let entities = chance.pick(&[0, 104, 210, 315, 320, 320, 320, 320, 320, 320, 320, 320]);
+    let entities = if chance.one_in(8) {
+        chance.pick(&[0, 104, 210, 314])
+    } else {
+        320
+    };
     Machine::with_entities(
         file,
         numbered(0xc000_0000, cells),
