@@ -27,7 +27,37 @@ const VALUE: i16 = 45;
 const FRAGS_PLACE: usize = 50;
 const ORIGIN_PLACE: usize = PER_ENTITY - 3;
 
-/// Function 1: `self.frags = self.frags + 1`, and the new value is returned. Function 2 asks the host.
+/// The field definitions: type, place and name.
+const FIELDS: [(u16, usize, &str); 9] = [
+    (FLOAT, FRAGS_PLACE, "frags"),
+    (VECTOR, ORIGIN_PLACE, "origin"),
+    (STRING, 51, "netname"),
+    (ENTITY, 52, "enemy"),
+    (FUNCTION, 53, "think"),
+    (FIELD, 54, "best"),
+    (FLOAT, PER_ENTITY, "past_the_end"),
+    (VECTOR, PER_ENTITY - 2, "half_outside"),
+    (0, 55, "nothing"),
+];
+
+fn functions() -> Vec<Function> {
+    let from = |first| Function {
+        first,
+        ..Function::default()
+    };
+    let counts = Function {
+        local: VALUE.into(),
+        locals: 1,
+        ..from(1)
+    };
+    let builtin = Function {
+        arguments: -1,
+        ..from(-7)
+    };
+    vec![from(0), counts, from(6), builtin]
+}
+
+/// Function 1: `self.frags = self.frags + 1`, and the new value is returned. Function 2 asks the host, builtin 7.
 fn program() -> Assembly {
     let mut program = Assembly {
         statements: vec![
@@ -41,24 +71,7 @@ fn program() -> Assembly {
             statement("LoadV", SELF, ORIGIN, 50),
             statement("Return", 50, 0, 0),
         ],
-        functions: vec![
-            Function::default(),
-            Function {
-                first: 1,
-                local: VALUE.into(),
-                locals: 1,
-                ..Function::default()
-            },
-            Function {
-                first: 6,
-                ..Function::default()
-            },
-            Function {
-                first: -7,
-                arguments: -1,
-                ..Function::default()
-            },
-        ],
+        functions: functions(),
         cells: vec![
             (SELF as usize, 1),
             (FRAGS as usize, FRAGS_PLACE as u32),
@@ -68,19 +81,10 @@ fn program() -> Assembly {
         ],
         ..Assembly::default()
     };
-    let mut field = |kind, place: usize, name: &str| {
+    for (kind, place, name) in FIELDS {
         let name = program.text(name);
         program.fields.push((kind, place as u16, name));
-    };
-    field(FLOAT, FRAGS_PLACE, "frags");
-    field(VECTOR, ORIGIN_PLACE, "origin");
-    field(STRING, 51, "netname");
-    field(ENTITY, 52, "enemy");
-    field(FUNCTION, 53, "think");
-    field(FIELD, 54, "best");
-    field(FLOAT, PER_ENTITY, "past_the_end");
-    field(VECTOR, PER_ENTITY - 2, "half_outside");
-    field(0, 55, "nothing");
+    }
     program.text("red flag");
     program
 }
@@ -267,59 +271,43 @@ fn entity_cells_lent_anew() {
     assert_eq!(machine.field(1, "frags").unwrap().float(), Ok(1.0));
 }
 
-#[test]
-fn fields_by_name() {
-    let mut machine = loaded(3);
-    let flag = machine.find_text("red flag").unwrap();
+/// Sets each field of entity 2, and gives the entity cells that must come out.
+fn set_all(machine: &mut Machine, origin: [f32; 3], flag: i64) -> Result<Vec<u32>, FieldError> {
     let mut expected = machine.entities().to_vec();
     let at = |place: usize| 2 * PER_ENTITY + place;
-    machine
-        .field_mut(2, "frags")
-        .unwrap()
-        .set_float(-0.5)
-        .unwrap();
+    machine.field_mut(2, "frags")?.set_float(-0.5)?;
+    machine.field_mut(2, "origin")?.set_vector(origin)?;
+    machine.field_mut(2, "netname")?.set_text(flag)?;
+    machine.field_mut(2, "enemy")?.set_entity(1)?;
+    machine.field_mut(2, "think")?.set_function(3)?;
     expected[at(FRAGS_PLACE)] = (-0.5_f32).to_bits();
-    let origin = [1.0, f32::INFINITY, -0.0];
-    machine
-        .field_mut(2, "origin")
-        .unwrap()
-        .set_vector(origin)
-        .unwrap();
-    for (i, value) in origin.into_iter().enumerate() {
-        expected[at(ORIGIN_PLACE + i)] = value.to_bits();
-    }
-    machine
-        .field_mut(2, "netname")
-        .unwrap()
-        .set_text(flag)
-        .unwrap();
-    machine
-        .field_mut(2, "enemy")
-        .unwrap()
-        .set_entity(1)
-        .unwrap();
-    machine
-        .field_mut(2, "think")
-        .unwrap()
-        .set_function(3)
-        .unwrap();
     expected[at(51)..at(54)].copy_from_slice(&[flag as u32, 1, 3]);
-    assert_eq!(machine.entities(), expected);
+    expected[at(ORIGIN_PLACE)..at(PER_ENTITY)].copy_from_slice(&origin.map(f32::to_bits));
+    Ok(expected)
+}
 
-    assert_eq!(machine.field(2, "frags").unwrap().float(), Ok(-0.5));
-    assert_eq!(machine.field(2, "origin").unwrap().vector(), Ok(origin));
-    assert_eq!(machine.field(2, "netname").unwrap().text(), Ok(flag));
+#[test]
+fn fields_by_name() -> Result<(), FieldError> {
+    let mut machine = loaded(3);
+    let flag = machine.find_text("red flag").unwrap();
+    let origin = [1.0, f32::INFINITY, -0.0];
+    let expected = set_all(&mut machine, origin, flag)?;
+    assert_eq!(machine.entities(), expected);
+    assert_eq!(machine.field(2, "frags")?.float(), Ok(-0.5));
+    assert_eq!(machine.field(2, "origin")?.vector(), Ok(origin));
+    assert_eq!(machine.field(2, "netname")?.text(), Ok(flag));
     assert_eq!(machine.text(flag), Some(&b"red flag"[..]));
-    assert_eq!(machine.field(2, "enemy").unwrap().entity(), Ok(1));
-    assert_eq!(machine.field(2, "think").unwrap().function(), Ok(3));
+    assert_eq!(machine.field(2, "enemy")?.entity(), Ok(1));
+    assert_eq!(machine.field(2, "think")?.function(), Ok(3));
     // the last cells of entity 1 are its own
-    let last = machine.field(1, "origin").unwrap();
+    let last = machine.field(1, "origin")?;
     let bits = [0, 1, 2].map(|i| f32::from_bits(numbered(3)[PER_ENTITY + ORIGIN_PLACE + i]));
     assert_eq!(last.vector(), Ok(bits));
     assert_eq!(usize::from(last.definition().cell), ORIGIN_PLACE);
     // a negative number stands as it is
-    machine.entities_mut()[at(53)] = u32::MAX;
-    assert_eq!(machine.field(2, "think").unwrap().function(), Ok(-1));
+    machine.entities_mut()[2 * PER_ENTITY + 53] = u32::MAX;
+    assert_eq!(machine.field(2, "think")?.function(), Ok(-1));
+    Ok(())
 }
 
 /// A field that is looked up once, for all entities.

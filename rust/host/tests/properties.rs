@@ -226,6 +226,15 @@ fn random_context(chance: &mut Chance) -> Context {
     context
 }
 
+/// A state of chance numbers, or more often one with some of its numbers changed.
+fn any_context(chance: &mut Chance, now: &Context) -> Context {
+    if chance.one_in(5) {
+        random_context(chance)
+    } else {
+        made_up_context(chance, now)
+    }
+}
+
 /// Check 13 on a program file that was loaded, read again from document 01's row, with records read by this crate.
 fn sound(machine: &Machine, loaded: &Context) -> bool {
     let context = machine.context();
@@ -271,11 +280,7 @@ fn states_that_a_host_makes_up() {
         for _ in 0..40 {
             perform(&mut machine, random_call(&mut chance)).ok();
             let kept = *machine.context();
-            let made = if chance.one_in(5) {
-                random_context(&mut chance)
-            } else {
-                made_up_context(&mut chance, &kept)
-            };
+            let made = any_context(&mut chance, &kept);
             machine.set_context(made);
             let is_sound = sound(&machine, &loaded);
             let answer = check(&mut machine, Call::Read(0));
