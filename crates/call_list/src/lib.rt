@@ -213,7 +213,16 @@ fn perform_all(
     while i < n {
         let at = 3 * i;
         let kind = fetch::place_of(7, calls[at]);
-        let done = perform_call(now, file, kind, calls[at + 1], calls[at + 2], cells, store, entities);
+        let done = perform_call(
+            now,
+            file,
+            kind,
+            calls[at + 1],
+            calls[at + 2],
+            cells,
+            store,
+            entities,
+        );
         answers[at] = done.word;
         answers[at + 1] = done.detail;
         answers[at + 2] = done.count;

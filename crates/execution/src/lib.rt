@@ -307,7 +307,10 @@ pub fn hands_over(file: &[u8], recorded: FileRecord, cells: &[u32], s: Statement
     if typed::check_cell(defs, recorded.globals.count, typed::FUNCTION, a) != 0 {
         return false;
     }
-    calls_host(parts::part(file, FUNCTION_SIZE, recorded.functions), cells[a])
+    calls_host(
+        parts::part(file, FUNCTION_SIZE, recorded.functions),
+        cells[a],
+    )
 }
 
 // What the statement at a position does; one that writes cells or entity cells has done so.

@@ -63,18 +63,12 @@ fn run_for(
     let recorded = context.file;
     let functions = parts::part(file, FUNCTION_SIZE, recorded.functions);
     let cell_count = recorded.globals.count;
+    let number = context.entity_count;
     let mut now = context;
     let mut count: u32 = 0;
     while count < limit {
         let completed = count + 1;
-        let done = execution::does(
-            file,
-            recorded,
-            now.entity_count,
-            cells,
-            entities,
-            now.pc,
-        );
+        let done = execution::does(file, recorded, number, cells, entities, now.pc);
         match done {
             Executed::Next(p) => {
                 now.pc = p;

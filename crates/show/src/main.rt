@@ -14,12 +14,6 @@ fn main() {
     let mut entities = [0u32; 1];
     let mut line = [0u8; LINE_ROOM];
     let n = io::read_full(STDIN_FILENO, &mut file);
-    let end = shown::show(
-        &file[..n],
-        &mut cells,
-        &mut store,
-        &mut entities,
-        &mut line,
-    );
+    let end = shown::show(&file[..n], &mut cells, &mut store, &mut entities, &mut line);
     io::write_all(STDOUT_FILENO, &line[..end]);
 }

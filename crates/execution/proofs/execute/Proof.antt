@@ -22,7 +22,6 @@ returns-2 c =
     (written _ _ _ _ _ _ _ _ (c .before .before .before .before .before .before .before .before .before .before .shape-of .result) _ (c .before .before .before .before .before .before .before .before .shape .given .1) (c .before .before .before .before .before .before .before .before .before .before .shape-of .ensures)
     _ _ _ (c .before .before .before .before .before .before .before .before .before .before .before .cell-of .ensures) (c .before .before .before .before .before .before .cell-of2 .ensures) (c .before .before .before .before .before .cell-of3 .ensures) _ _ _ (c .before .before .before .write .ensures) (c .completed2 .ensures))
 
-
 returns-3 : tie.Need-returns-3
 returns-3 c =
     executed-here _ _ (c .before .before .before .before .before .before .before .before .before .before .before .before .before .before .before .before .before .before .before .before .before .pre .0 .lumps) _ _ _ refl (c .before .before .before .before .before .before .before .before .before .before .before .before .before .before .before .before .before .part .ensures) (c .before .before .before .before .before .before .before .before .before .part2 .ensures) _ _ _ _ _

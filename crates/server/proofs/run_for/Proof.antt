@@ -27,12 +27,12 @@ use Rattle.server.proofs.run_for.Statement.{statement}
 use Rattle.server.proofs.run_for.Tie as tie
 
 abbrev Inv-loop : tie.InvT-loop
-Inv-loop file limit target cells₀ saved₀ entities₀ recorded functions cells-of-file now₀ count₀ cells saved entities now count =
-    ((((length cells ≡ length cells₀) × (length saved ≡ length saved₀) × (length entities ≡ length entities₀)) × Within file now (length cells) (length saved) (length entities)) × Apart target (now .depth))
+Inv-loop file limit target cells₀ saved₀ entities₀ recorded functions cells-of-file number now₀ count₀ cells saved entities now count =
+    ((((length cells ≡ length cells₀) × (length saved ≡ length saved₀) × (length entities ≡ length entities₀) × (number ≡ now .«entity_count»)) × Within file now (length cells) (length saved) (length entities)) × Apart target (now .depth))
     × RunLeft (programOf file) limit target (config now₀ cells₀ saved₀ entities₀) (config now cells saved entities) count
 
 abbrev μ-loop : tie.MeasureT-loop
-μ-loop file limit target cells₀ saved₀ entities₀ recorded functions cells-of-file now₀ count₀ cells saved entities now count = limit - count
+μ-loop file limit target cells₀ saved₀ entities₀ recorded functions cells-of-file number now₀ count₀ cells saved entities now count = limit - count
 
 -- what the statement at the position did
 did : (c : tie.After-does Inv-loop μ-loop)
@@ -44,7 +44,7 @@ did c =
     let l = c .before .before .before .before .before in
     let s = c .before .before .before .before .before .before .before .before .before .before .before .before in
     let g : SFits w64 (l .loop .now .pc) = search needs in
-    (rw (toZ-ofZ g) at (c .does .ensures)) ∙ ap (λ (d : Does). execution d (l .loop .cells) (l .loop .entities)) (does-here _ _ (s .pre .0 .loaded) _ _ _)
+    (rw (toZ-ofZ g, l .loop .inv .0 .0 .0 .3) at (c .does .ensures)) ∙ ap (λ (d : Does). execution d (l .loop .cells) (l .loop .entities)) (does-here _ _ (s .pre .0 .loaded) _ _ _)
 
 -- the file's count of cells, which no statement changes
 count-here : (c : tie.At-loop Inv-loop μ-loop) → c .before .before .before .before .before .before .before .args .context .file .globals .count ≡ c .loop .now .file .globals .count
@@ -82,7 +82,7 @@ called-at : (c : tie.After-done2 Inv-loop μ-loop) → AtStatement (c .before .b
 called-at c = call-at _ _ _ (c .done2 .given .1) (does-call-at _ (c .before .before .before .before .before .before .before .before .before .before .before .loop .now) _ _ _ _ _ (c .before .before .before .before .before .before .before .before .before .before .before .loop .inv .0 .0 .1 .loaded) (did (c .before .before .before .before .before .before)))
 
 loop-holds : tie.Need-loop-holds Inv-loop μ-loop
-loop-holds c = let s = c .before .before .before .before .before .before in ((((refl, refl, refl), s .pre .0), s .pre .1), run-start _ _ _ _ (λ z. let over = s .pre .1 (omega (arith, z)) in absurd (omega (arith, z, over, s .pre .0 .depth))))
+loop-holds c = let s = c .before .before .before .before .before .before in ((((refl, refl, refl, refl), s .pre .0), s .pre .1), run-start _ _ _ _ (λ z. let over = s .pre .1 (omega (arith, z)) in absurd (omega (arith, z, over, s .pre .0 .depth))))
 
 add-completed : tie.Need-add-completed Inv-loop μ-loop
 add-completed c = omega (arith, c .loop-test .taken, c .before .before .before .before .before .before .before .before .good .1 .1 .0)
@@ -91,10 +91,9 @@ does-requires : tie.Need-does-requires Inv-loop μ-loop
 does-requires c κs =
     let w = c .before .before .before .before .before .before .before .before .before .before .before .pre .0 in
     let i = c .before .before .before .before .loop .inv .0 .0 in
-    let size = ap (λ (r : FileRecord). r .entityfields) (w .loaded .same ∙ sym (i .1 .loaded .same)) in
-    (
+    let size = ap (λ (r : FileRecord). r .entityfields) (w .loaded .same ∙ sym (i .1 .loaded .same)) in (
       record { lumps = w .loaded .lumps; most = w .most; lends = omega (arith, w .lent, i .0 .0) },
-      record { size-least = w .size-least; size-most = w .size-most; number-most = i .1 .number; lends-fields = rw size (i .1 .fields) },
+      record { size-least = w .size-least; size-most = w .size-most; number-most = rw (i .0 .3) (i .1 .number); lends-fields = rw (i .0 .3, size) (i .1 .fields) },
     )
 
 after-requires : tie.Need-after-requires Inv-loop μ-loop
@@ -219,7 +218,7 @@ loop-again c =
     let k = d .does .kept .1 .1 .1 .0 in
     let h = d .does .kept .1 .1 .1 .1 .0 in
     let g : SFits w64 (c .before .done .given .0 .0) = search needs in
-    ((((k ∙ i .0 .0 .0 .0, i .0 .0 .0 .1, h ∙ i .0 .0 .0 .2), rw (toZ-ofZ g) (within-lent _ _ _ _ _ _ _ _ (next-within _ _ _ _ _ (i .0 .0 .1) _) k refl h)), i .0 .1), rw (toZ-ofZ g) (turn-next _ _ _ _ _ _ _ _ _ (l .loop .inv .1) (c .before .before .before .before .before .before .before .before .before .before .before .loop-test .taken) _ _ _ (did (d)) _ _ (c .before .done .given .1) refl))
+    ((((k ∙ i .0 .0 .0 .0, i .0 .0 .0 .1, h ∙ i .0 .0 .0 .2, i .0 .0 .0 .3), rw (toZ-ofZ g) (within-lent _ _ _ _ _ _ _ _ (next-within _ _ _ _ _ (i .0 .0 .1) _) k refl h)), i .0 .1), rw (toZ-ofZ g) (turn-next _ _ _ _ _ _ _ _ _ (l .loop .inv .1) (c .before .before .before .before .before .before .before .before .before .before .before .loop-test .taken) _ _ _ (did (d)) _ _ (c .before .done .given .1) refl))
 
 loop-less-2 : tie.Need-loop-less-2 Inv-loop μ-loop
 loop-less-2 c = omega (arith, c .before .before .before .before .before .before .before .before .before .before .before .before .before .before .before .before .before .before .before .before .before .before .before .before .before .loop-test .taken)
@@ -237,7 +236,7 @@ loop-again-2 c =
     let g : SFits w64 (l .loop .now .pc) = search needs in
     let f : SFits w64 (n .result .first) = search needs in
     let back = a .ensures ∙ ap (λ (j : ℕ). pos j +ℤ pos 1) (rw (toZ-ofZ g) at (c .before .before .before .before .before .before .before .before .before .before .before .before .place-of .ensures)) in
-    ((((k ∙ i .0 .0 .0 .0, m ∙ i .0 .0 .0 .1, h ∙ i .0 .0 .0 .2), rw (toZ-ofZ f, toZ-ofZ {w = w64} {z = a .result} (record { sfits = a .ok })) (within-lent _ _ _ _ _ _ _ _ (entered-within _ _ _ _ _ (i .0 .0 .1) _ _ _ _ (room (c .before .before))) k m h)), (λ u. i .0 .1 (omega (arith, u)))), rw (toZ-ofZ f, toZ-ofZ {w = w64} {z = a .result} (record { sfits = a .ok })) (turn-enters _ _ _ _ _ _ _ _ _ (l .loop .inv .1) (c .before .before .before .before .before .before .before .before .before .before .before .before .before .before .before .before .before .before .before .before .before .before .before .before .before .loop-test .taken) _ _ _ (did (d)) _ (c .before .before .before .before .before .before .before .before .before .before .before .before .before .before .before .done2 .given .1) _ _ _ (entry-did (c .before .before .before .before .before .before .before .before)) (c .before .before .if1 .left) (i .0 .1) (called-at (c .before .before .before .before .before .before .before .before .before .before .before .before .before .before .before)) _ back))
+    ((((k ∙ i .0 .0 .0 .0, m ∙ i .0 .0 .0 .1, h ∙ i .0 .0 .0 .2, i .0 .0 .0 .3), rw (toZ-ofZ f, toZ-ofZ {w = w64} {z = a .result} (record { sfits = a .ok })) (within-lent _ _ _ _ _ _ _ _ (entered-within _ _ _ _ _ (i .0 .0 .1) _ _ _ _ (room (c .before .before))) k m h)), (λ u. i .0 .1 (omega (arith, u)))), rw (toZ-ofZ f, toZ-ofZ {w = w64} {z = a .result} (record { sfits = a .ok })) (turn-enters _ _ _ _ _ _ _ _ _ (l .loop .inv .1) (c .before .before .before .before .before .before .before .before .before .before .before .before .before .before .before .before .before .before .before .before .before .before .before .before .before .loop-test .taken) _ _ _ (did (d)) _ (c .before .before .before .before .before .before .before .before .before .before .before .before .before .before .before .done2 .given .1) _ _ _ (entry-did (c .before .before .before .before .before .before .before .before)) (c .before .before .if1 .left) (i .0 .1) (called-at (c .before .before .before .before .before .before .before .before .before .before .before .before .before .before .before)) _ back))
 
 loop-less-3 : tie.Need-loop-less-3 Inv-loop μ-loop
 loop-less-3 c = omega (arith, c .before .before .before .before .before .before .before .before .before .before .before .before .before .before .before .before .before .before .before .before .before .before .loop-test .taken)
@@ -251,7 +250,7 @@ loop-again-3 c =
     let k = n .kept .1 .1 .1 .1 .1 .1 .0 ∙ d .does .kept .1 .1 .1 .0 in
     let q = d .does .kept .1 .1 .1 .1 .0 in
     let z = toZ-ofZ (frame-fits (c .before)) in
-    ((((k ∙ i .0 .0 .0 .0, i .0 .0 .0 .1, q ∙ i .0 .0 .0 .2), rw z (within-lent _ _ _ _ _ _ _ _ (left-within _ _ _ _ _ (i .0 .0 .1) _) k refl q)), (λ h. i .0 .1 (omega (arith, h, c .if3 .left, some-left (c .before .before .before .before) .0)))), rw z (turn-again _ _ _ _ _ _ _ _ _ (l .loop .inv .1) (c .before .before .before .before .before .before .before .before .before .before .before .before .before .before .before .before .before .before .before .before .before .before .loop-test .taken) _ _ _ (did (d)) _ (c .before .before .before .before .before .before .before .before .before .before .before .before .done3 .given .1) _ _ (leaving-did (c .before .before .before .before .before .before .before .before)) (c .before .before .before .before .if2 .left) (c .if3 .left)))
+    ((((k ∙ i .0 .0 .0 .0, i .0 .0 .0 .1, q ∙ i .0 .0 .0 .2, i .0 .0 .0 .3), rw z (within-lent _ _ _ _ _ _ _ _ (left-within _ _ _ _ _ (i .0 .0 .1) _) k refl q)), (λ h. i .0 .1 (omega (arith, h, c .if3 .left, some-left (c .before .before .before .before) .0)))), rw z (turn-again _ _ _ _ _ _ _ _ _ (l .loop .inv .1) (c .before .before .before .before .before .before .before .before .before .before .before .before .before .before .before .before .before .before .before .before .before .before .loop-test .taken) _ _ _ (did (d)) _ (c .before .before .before .before .before .before .before .before .before .before .before .before .done3 .given .1) _ _ (leaving-did (c .before .before .before .before .before .before .before .before)) (c .before .before .before .before .if2 .left) (c .if3 .left)))
 
 same-length-16 : tie.Need-same-length-16 Inv-loop μ-loop
 same-length-16 c = c .before .before .loop .inv .0 .0 .0 .0
