@@ -27,7 +27,7 @@ pub struct Structs {
 }
 
 fn numbered_file(n: usize) -> FileRecord
-    requires { ⌜ n ≤ 86 ⌝ }
+    requires { ⌜ n ≤ 87 ⌝ }
     ensures { λ r. ⌜ r ≡ numberedFile n ⌝ }
 {
     FileRecord {

@@ -17,8 +17,15 @@ same-length c = search needs
 
 returns : tie.Need-returns
 returns c =
-    let s = c@@Start in
+    let s = c .before .before .before .before .before .before .before .before .before in
     let fits : SFits w64 (s .args .number) = search needs in
-    load-replied _ _ _ _ _ _ (c .reply-answer .ensures) (rw (toZ-ofZ fits) at (c@load .ensures))
+    load-replied _ _ _ _ _ _ (c .reply-answer .ensures) (rw (toZ-ofZ fits) at (c .before .before .before .load .ensures))
 
-@SPEC host-load-spec
+pub host-load-spec : {M : Type 1} → statement M
+host-load-spec =
+    tie.close
+    (tie.spec
+    load-requires
+    reply-answer-requires
+    same-length
+    returns)
