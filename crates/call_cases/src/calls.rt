@@ -96,7 +96,7 @@ fn change(
     match letter {
         b'b' => cases::set_byte(file, place, (cell % 256) as u8),
         b'l' => number_cells(entities, cell),
-        b'e' => cases::set_cell(entities, place, cell),
+        b'e' => vectors::put_cell(entities, place, cell),
         _ => return fields::with_field(context, place, numbers.second),
     }
     context

@@ -204,12 +204,6 @@ pub fn set_byte(file: &mut [u8], at: usize, b: u8) {
     }
 }
 
-pub fn set_cell(cells: &mut [u32], at: usize, value: u32) {
-    if at < cells.len() {
-        cells[at] = value;
-    }
-}
-
 // A state of zeros, as a refused load gives it.
 pub fn zero_state() -> ExecutionContext {
     let mut cells = [0u32; 1];

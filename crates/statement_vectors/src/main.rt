@@ -101,25 +101,11 @@ fn same_cells(cells: &[u32], want: &[u32]) -> bool {
     true
 }
 
-fn clear_cells(cells: &mut [u32]) {
-    let mut i: usize = 0;
-    while i < cells.len() {
-        cells[i] = 0;
-        i += 1;
-    }
-}
-
 fn clear_bytes(file: &mut [u8]) {
     let mut i: usize = 0;
     while i < file.len() {
         file[i] = 0;
         i += 1;
-    }
-}
-
-fn put_cell(cells: &mut [u32], i: usize, value: u32) {
-    if i < cells.len() {
-        cells[i] = value;
     }
 }
 
@@ -189,10 +175,10 @@ fn run_given(
         kind,
         n,
     );
-    clear_cells(cells);
-    clear_cells(want);
-    clear_cells(&mut entities[..lent]);
-    clear_cells(&mut want_entities[..lent]);
+    vectors::clear_cells(cells);
+    vectors::clear_cells(want);
+    vectors::clear_cells(&mut entities[..lent]);
+    vectors::clear_cells(&mut want_entities[..lent]);
     step
 }
 
@@ -215,16 +201,16 @@ fn run_line(
         }
         b'b' => put_word(file, x, y),
         b'c' => {
-            put_cell(cells, x as usize, y);
-            put_cell(want, x as usize, y);
+            vectors::put_cell(cells, x as usize, y);
+            vectors::put_cell(want, x as usize, y);
         }
-        b'w' => put_cell(want, x as usize, y),
+        b'w' => vectors::put_cell(want, x as usize, y),
         b'n' => return Step::Entities(x as usize, y as usize),
         b'e' => {
-            put_cell(entities, x as usize, y);
-            put_cell(want_entities, x as usize, y);
+            vectors::put_cell(entities, x as usize, y);
+            vectors::put_cell(want_entities, x as usize, y);
         }
-        b'x' => put_cell(want_entities, x as usize, y),
+        b'x' => vectors::put_cell(want_entities, x as usize, y),
         _ => return run_given(file, given, cells, want, entities, want_entities, x, y),
     }
     Step::Given

@@ -51,15 +51,18 @@ fn enter(
     after
 }
 
-fn clear_cells(cells: &mut [u32]) {
-    let mut i = 0;
-    while i < cells.len() {
-        cells[i] = 0;
-        i += 1;
+// As many entity cells as the word at `at` says: where another number was lent before, new ones. The result is how many.
+fn lend(text: &[u8], at: usize, before: usize, entities: &mut [u32]) -> usize
+    ensures { λ r. ⌜ r ≤ length (now (entities .exit)) ⌝ }
+{
+    let n = cases::count(text, at, entities.len());
+    if n != before {
+        vectors::clear_cells(entities);
     }
+    n
 }
 
-// The line `new LENGTH HEX E L`: the file is loaded. Where another number of entity cells was lent before, these are new ones.
+// The line `new LENGTH HEX E L`: the file is loaded.
 fn load_file(
     text: &[u8],
     at: usize,
@@ -73,11 +76,8 @@ fn load_file(
 {
     let size = cases::next_word(text, at);
     let number = cases::next_word(text, cases::next_word(text, size));
-    let lent = cases::count(text, cases::next_word(text, number), entities.len());
+    let lent = lend(text, cases::next_word(text, number), before, entities);
     let n = cases::file(text, size, file);
-    if lent != before {
-        clear_cells(entities);
-    }
     let given = cases::signed(text, number);
     let loaded = load::load(&file[..n], given, cells, store, &entities[..lent]);
     let context = loaded.context;

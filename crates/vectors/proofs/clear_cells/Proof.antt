@@ -2,8 +2,8 @@ use borrow.Author.Needs.{needs}
 use Prim.Native.Nat.{_≤_, _-_}
 use mathlib.Core.Path.{_≡_}
 use lib.ListN.{length}
-use Rattle.statement_vectors.proofs.clear_cells.Statement.{statement}
-use Rattle.statement_vectors.proofs.clear_cells.Tie as tie
+use Rattle.vectors.proofs.clear_cells.Statement.{statement}
+use Rattle.vectors.proofs.clear_cells.Tie as tie
 
 pub clear-cells-spec : {M : Type 1} → statement M
 clear-cells-spec =
