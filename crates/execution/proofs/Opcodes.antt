@@ -1,12 +1,13 @@
 -- Laws of the opcodes' shapes: the arms of a match on an opcode are rows of the definition's table. Assumes nothing.
-use Prim.Native.Nat.{ℕ, _+_, _/_, _%_, _^_, _<_}
+use Prim.Native.Nat.{ℕ, _+_, _/_, _%_, _^_, _<_, _≤_}
 use mathlib.Core.Path.{_≡_, refl, sym, _∙_, ap}
 use mathlib.Core.Logic.{_⊎_, inl, inr}
 use mathlib.Core.List.{List}
 use mathlib.Core.Option.{Option·getD}
 use mathlib.Core.Bool.{Bool, true, false, true≢false, not, _&&_, _||_, Bool·beq}
-use lib.Dec.{eqb, leb}
-use borrow.Author.Tests.{eq-eqb, ne-eqb}
+use lib.Dec.{eqb, leb, ltb}
+use native.Mathlib.Omega.{arith}
+use borrow.Author.Tests.{eq-eqb, ne-eqb, le-leb, lt-leb, lt-ltb}
 use native.Mathlib.Nat.{zero-add}
 use Rattle.definition.specs.Statements.{Shape, floats, values, vectors, vectorsToFloat, strings, negates, negatesV, negatesS, stores, storesV, loads, addresses, storesP, branches, jumps, call, return, host, opcodes, shapeOf}
 use Rattle.definition.specs.StatementLaws.{every, every-at}
@@ -129,9 +130,15 @@ host-is s e = go (transfers s)
     go (inr (inl h)) = h
     go (inr (inr (c, h))) = absurd (true≢false (sym e ∙ h))
 
--- the test, over the rows: an opcode that isn't listed, is no Call and doesn't make a float of two, goes to the host
-abbrev pub listedOrHost : List ℕ → ℕ → Shape → Bool
-listedOrHost ks op s = isFloats s || (isCallNumber op || (among ks op || isHost s))
+-- the test, over the rows from `low` up to below `high`: an opcode that isn't listed, is no Call and doesn't make a float of two, goes to the host
+abbrev pub listedOrHost : ℕ → ℕ → List ℕ → ℕ → Shape → Bool
+listedOrHost low high ks op s = not (leb low op && ltb op high) || (isFloats s || (isCallNumber op || (among ks op || isHost s)))
 
-pub rest : (ks : List ℕ) (op : ℕ) → op < 66 → isFloats (shapeOf op) ≡ false → isCallNumber op ≡ false → every (listedOrHost ks) 0 opcodes ≡ true → Missed op (Unit {0}) ks → shapeAs Host op ≡ shapeOf op
-rest ks op h other apart t m = host-is (shapeOf op) (rw (other, apart, missed op (Unit {0}) ks m .1) at (row (listedOrHost ks) op h t))
+pub rest : (low high : ℕ) (ks : List ℕ) (op : ℕ) → op < 66 → low ≤ op → op < high → isFloats (shapeOf op) ≡ false → isCallNumber op ≡ false
+    → every (listedOrHost low high ks) 0 opcodes ≡ true → Missed op (Unit {0}) ks → shapeAs Host op ≡ shapeOf op
+rest low high ks op h from to other apart t m =
+    host-is (shapeOf op) (rw (le-leb low op from, lt-ltb op high to, other, apart, missed op (Unit {0}) ks m .1) at (row (listedOrHost low high ks) op h t))
+
+-- no Call stands before the Stores
+pub no-call-before : (op : ℕ) → op < 31 → isCallNumber op ≡ false
+no-call-before op h = rw (lt-leb 51 op (omega arith))

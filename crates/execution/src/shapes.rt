@@ -71,14 +71,11 @@ pub fn is_host(op: u16) -> bool
     op == ops::STATE
 }
 
-// The shape of any other opcode. One number to an arm and a `return` in each: the prover reads consecutive numbers in one arm as ranges.
-pub fn shape_of(op: u16) -> Shape
-    requires { ⌜ (op < 66) × (isFloats (shapeOf op) ≡ false) ⌝ }
+// The shape of an opcode before the Stores. One number to an arm and a `return` in each: the prover reads consecutive numbers in one arm as ranges.
+fn shape_before_stores(op: u16) -> Shape
+    requires { ⌜ (op < 31) × (isFloats (shapeOf op) ≡ false) ⌝ }
     ensures { λ r. ⌜ shapeAs r op ≡ shapeOf op ⌝ }
 {
-    if (ops::CALL_0 <= op) & (op <= ops::CALL_8) {
-        return Shape::Call;
-    }
     match op {
         ops::DONE => return Shape::Return,
         ops::MUL_V => return Shape::Cells(CellOp::VectorsToFloat),
@@ -101,6 +98,22 @@ pub fn shape_of(op: u16) -> Shape
         ops::LOAD_FLD => return Shape::Fields(FieldOp::Loads(FIELD)),
         ops::LOAD_FNC => return Shape::Fields(FieldOp::Loads(FUNCTION)),
         ops::ADDRESS => return Shape::Fields(FieldOp::Address),
+        _ => return Shape::Host,
+    }
+}
+
+// The shape of any opcode that doesn't make a float of two floats.
+pub fn shape_of(op: u16) -> Shape
+    requires { ⌜ (op < 66) × (isFloats (shapeOf op) ≡ false) ⌝ }
+    ensures { λ r. ⌜ shapeAs r op ≡ shapeOf op ⌝ }
+{
+    if (ops::CALL_0 <= op) & (op <= ops::CALL_8) {
+        return Shape::Call;
+    }
+    if op < ops::STORE_F {
+        return shape_before_stores(op);
+    }
+    match op {
         ops::STORE_F => return Shape::Cells(CellOp::Stores(FLOAT)),
         ops::STORE_V => return Shape::Cells(CellOp::StoreV),
         ops::STORE_S => return Shape::Cells(CellOp::Stores(STRING)),
