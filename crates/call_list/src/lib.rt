@@ -1,5 +1,5 @@
 // A list of calls in numbers, performed on the operations one after the other: what a host did can be kept and done again, and demand 3's claim over a
-// list of calls is a claim about this function.
+// list of calls is a claim about this function. (Of lists that lend no other entity cells: that is between two such lists.)
 ghost use mathlib.Core.Path.{_≡_};
 ghost use mathlib.Core.Bool.{true, _||_};
 ghost use Prim.Native.Nat.{_+_, _*_, _<_, _≤_};
