@@ -139,32 +139,7 @@ returns c = left-end _ _ _ _ _ _ _ _ (c .before .loop .inv .1) (c .loop-test .le
 pub perform-all-spec : {M : Type 1} → statement M
 perform-all-spec =
     tie.close
-    (tie.spec Inv-loop μ-loop
-    loop-holds
-    mul-at
-    mul-place-of
-    shared-slice-copy-out-place-of
-    (λ c κs. search needs)
-    add-perform-call
-    mul-perform-call
-    shared-slice-copy-out-perform-call
-    add-perform-call-2
-    mul-perform-call-2
-    shared-slice-copy-out-perform-call-2
-    perform-call-requires
-    mul-answers
-    slice-write-answers
-    add-answers
-    mul-answers-2
-    slice-write-answers-2
-    add-answers-2
-    mul-answers-3
-    slice-write-answers-3
-    add-i
-    loop-less
-    loop-again
-    same-length
-    same-length-2
-    same-length-3
-    same-length-4
-    returns)
+    (tie.spec Inv-loop μ-loop loop-holds mul-at mul-place-of shared-slice-copy-out-place-of (λ c κs. search needs) add-perform-call mul-perform-call
+    shared-slice-copy-out-perform-call add-perform-call-2 mul-perform-call-2 shared-slice-copy-out-perform-call-2 perform-call-requires mul-answers
+    slice-write-answers add-answers mul-answers-2 slice-write-answers-2 add-answers-2 mul-answers-3 slice-write-answers-3 add-i loop-less loop-again
+    same-length same-length-2 same-length-3 same-length-4 returns)

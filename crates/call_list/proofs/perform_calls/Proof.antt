@@ -24,14 +24,5 @@ returns-4 c = let p = c .before .before .before .before .before .before .before 
 pub perform-calls-spec : {M : Type 1} → statement M
 perform-calls-spec =
     tie.close
-    (tie.spec
-    returns
-    returns-2
-    (λ c κs. search needs)
-    returns-3
-    perform-all-requires
-    (λ c. search needs)
-    (λ c. search needs)
-    (λ c. search needs)
-    (λ c. search needs)
-    returns-4)
+    (tie.spec returns returns-2 (λ c κs. search needs) returns-3 perform-all-requires (λ c. search needs) (λ c. search needs) (λ c. search needs)
+    (λ c. search needs) returns-4)

@@ -38,17 +38,6 @@ returns-5 c =
 pub check-address-spec : {M : Type 1} → statement M
 check-address-spec =
     tie.close
-    (tie.spec
-    (λ c κs. search needs)
-    returns
-    (λ c. let h = inside c in search needs)
-    (λ c. let h = inside (c .before) in search needs)
-    (λ c κs. search needs)
-    (λ c. let h = inside (c .before .before) in search needs)
-    (λ c. let h = inside (c .before .before .before) in search needs)
-    (λ c κs. search needs)
-    returns-2
-    returns-3
-    (λ c κs. search needs)
-    returns-4
-    returns-5)
+    (tie.spec (λ c κs. search needs) returns (λ c. let h = inside c in search needs) (λ c. let h = inside (c .before) in search needs)
+    (λ c κs. search needs) (λ c. let h = inside (c .before .before) in search needs) (λ c. let h = inside (c .before .before .before) in search needs)
+    (λ c κs. search needs) returns-2 returns-3 (λ c κs. search needs) returns-4 returns-5)

@@ -45,14 +45,9 @@ returns-4 c =
 pub check-loaded-spec : {M : Type 1} → statement M
 check-loaded-spec =
     tie.close
-    (tie.spec
-    returns
-    (λ c κs. search needs)
-    returns-2
+    (tie.spec returns (λ c κs. search needs) returns-2
     (λ c. let h = inside (c .before) in omega (arith, offset-below (c .before .before .before .before .before .before .before .args .entity) (c .before .before .before .before .before .before .before .args .table .size) (omega arith) (omega arith)))
     (λ c. let h = inside (c .before) in omega (arith, offset-below (c .before .before .before .before .before .before .before .args .entity) (c .before .before .before .before .before .before .before .args .table .size) (omega arith) (omega arith)))
     (λ c κs. search needs)
     (λ c. let h = inside (c .before .before) in omega (arith, offset-below (c .before .before .before .before .before .before .before .before .args .entity) (c .before .before .before .before .before .before .before .before .args .table .size) (omega arith) (omega arith)))
-    shared-slice-read-if3
-    returns-3
-    returns-4)
+    shared-slice-read-if3 returns-3 returns-4)

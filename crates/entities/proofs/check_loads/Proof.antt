@@ -19,14 +19,6 @@ returns-2 c =
 pub check-loads-spec : {M : Type 1} → statement M
 check-loads-spec =
     tie.close
-    (tie.spec
-    (λ c κs. search needs)
-    returns
-    (λ c. let h = inside c in search needs)
-    (λ c. let h = inside (c .before) in search needs)
-    (λ c κs. search needs)
-    (λ c. let h = inside (c .before .before) in search needs)
-    (λ c. let h = inside (c .before .before .before) in search needs)
-    (λ c κs. search needs)
-    (λ c κs. search needs)
-    returns-2)
+    (tie.spec (λ c κs. search needs) returns (λ c. let h = inside c in search needs) (λ c. let h = inside (c .before) in search needs)
+    (λ c κs. search needs) (λ c. let h = inside (c .before .before) in search needs) (λ c. let h = inside (c .before .before .before) in search needs)
+    (λ c κs. search needs) (λ c κs. search needs) returns-2)

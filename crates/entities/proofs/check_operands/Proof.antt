@@ -12,8 +12,4 @@ returns-2 c = passed (c .before .before .check-read .ensures) (c .before .if1 .l
 pub check-operands-spec : {M : Type 1} → statement M
 check-operands-spec =
     tie.close
-    (tie.spec
-    (λ c κs. search needs)
-    returns
-    (λ c κs. search needs)
-    returns-2)
+    (tie.spec (λ c κs. search needs) returns (λ c κs. search needs) returns-2)

@@ -14,10 +14,4 @@ returns-2 c = λ cells. let s = c .before .before .before .before .args in point
 pub check-pointed-spec : {M : Type 1} → statement M
 check-pointed-spec =
     tie.close
-    (tie.spec
-    (λ c κs. search needs)
-    (λ c. search needs)
-    (λ c. search needs)
-    (λ c κs. search needs)
-    returns
-    returns-2)
+    (tie.spec (λ c κs. search needs) (λ c. search needs) (λ c. search needs) (λ c κs. search needs) returns returns-2)

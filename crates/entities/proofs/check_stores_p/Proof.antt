@@ -34,15 +34,5 @@ returns-4 c = λ entities. passed (rw (c .before .before .before .before .before
 pub check-stores-p-spec : {M : Type 1} → statement M
 check-stores-p-spec =
     tie.close
-    (tie.spec
-    (λ c κs. search needs)
-    (λ c κs. search needs)
-    returns
-    mul-check-pointed
-    shared-slice-read-check-pointed
-    (λ c κs. search needs)
-    returns-2
-    mul-if3
-    shared-slice-read-if3
-    returns-3
-    returns-4)
+    (tie.spec (λ c κs. search needs) (λ c κs. search needs) returns mul-check-pointed shared-slice-read-check-pointed (λ c κs. search needs) returns-2
+    mul-if3 shared-slice-read-if3 returns-3 returns-4)

@@ -30,24 +30,6 @@ returns-2 c = rw (ne-eqb _ _ (c .if1 .left))
 pub move-value-spec : {M : Type 1} → statement M
 move-value-spec =
     tie.close
-    (tie.spec
-    (λ c. search needs)
-    (λ c. search needs)
-    (λ c. search needs)
-    (λ c. search needs)
-    (λ c. search needs)
-    (λ c. search needs)
-    shared-slice-read-to-2
-    (λ c. search needs)
-    (λ c. search needs)
-    slice-write-to-2
-    (λ c. search needs)
-    (λ c. search needs)
-    shared-slice-read-to-3
-    (λ c. search needs)
-    (λ c. search needs)
-    slice-write-to-3
-    (λ c. search needs)
-    returns
-    (λ c. search needs)
-    returns-2)
+    (tie.spec (λ c. search needs) (λ c. search needs) (λ c. search needs) (λ c. search needs) (λ c. search needs) (λ c. search needs)
+    shared-slice-read-to-2 (λ c. search needs) (λ c. search needs) slice-write-to-2 (λ c. search needs) (λ c. search needs) shared-slice-read-to-3
+    (λ c. search needs) (λ c. search needs) slice-write-to-3 (λ c. search needs) returns (λ c. search needs) returns-2)

@@ -39,19 +39,7 @@ returns-2 c =
 pub op-address-spec : {M : Type 1} → statement M
 op-address-spec =
     tie.close
-    (tie.spec
-    (λ c κs. search needs)
-    (λ c. search needs)
-    returns
-    (λ c. let h = far c in search needs)
-    (λ c. let h = far (c .before) in search needs)
-    (λ c κs. search needs)
-    (λ c. let h = far (c .before .before) in search needs)
-    (λ c. let h = far (c .before .before .before) in search needs)
-    (λ c κs. search needs)
-    pointer-to-requires
-    cast-cells
-    (λ c. let h = far (c .before .before .before .before .before) in search needs)
-    (λ c. let h = far (c .before .before .before .before .before) in search needs)
-    (λ c. search needs)
-    returns-2)
+    (tie.spec (λ c κs. search needs) (λ c. search needs) returns (λ c. let h = far c in search needs) (λ c. let h = far (c .before) in search needs)
+    (λ c κs. search needs) (λ c. let h = far (c .before .before) in search needs) (λ c. let h = far (c .before .before .before) in search needs)
+    (λ c κs. search needs) pointer-to-requires cast-cells (λ c. let h = far (c .before .before .before .before .before) in search needs)
+    (λ c. let h = far (c .before .before .before .before .before) in search needs) (λ c. search needs) returns-2)

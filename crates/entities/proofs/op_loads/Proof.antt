@@ -48,18 +48,7 @@ returns-2 c =
 pub op-loads-spec : {M : Type 1} → statement M
 op-loads-spec =
     tie.close
-    (tie.spec
-    (λ c κs. search needs)
-    (λ c. search needs)
-    returns
-    (λ c. let h = far c in search needs)
-    (λ c. let h = far (c .before) in search needs)
-    (λ c κs. search needs)
-    mul-place
-    (λ c. let h = far (c .before .before .before) in search needs)
-    (λ c. let h = far (c .before .before .before .before) in search needs)
-    (λ c κs. search needs)
-    add-place
-    move-value-requires
-    (λ c. search needs)
+    (tie.spec (λ c κs. search needs) (λ c. search needs) returns (λ c. let h = far c in search needs) (λ c. let h = far (c .before) in search needs)
+    (λ c κs. search needs) mul-place (λ c. let h = far (c .before .before .before) in search needs)
+    (λ c. let h = far (c .before .before .before .before) in search needs) (λ c κs. search needs) add-place move-value-requires (λ c. search needs)
     returns-2)

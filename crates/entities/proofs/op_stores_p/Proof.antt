@@ -34,12 +34,5 @@ returns-2 c =
 pub op-stores-p-spec : {M : Type 1} → statement M
 op-stores-p-spec =
     tie.close
-    (tie.spec
-    (λ c κs. search needs)
-    returns
-    (λ c. let h = far (c .before) in search needs)
-    (λ c. let h = far (c .before .before) in search needs)
-    (λ c κs. search needs)
-    move-value-requires
-    (λ c. search needs)
-    returns-2)
+    (tie.spec (λ c κs. search needs) returns (λ c. let h = far (c .before) in search needs) (λ c. let h = far (c .before .before) in search needs)
+    (λ c κs. search needs) move-value-requires (λ c. search needs) returns-2)

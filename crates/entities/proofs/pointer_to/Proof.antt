@@ -12,8 +12,4 @@ offset c = offset-below _ _ (omega arith) (omega arith)
 pub pointer-to-spec : {M : Type 1} → statement M
 pointer-to-spec =
     tie.close
-    (tie.spec
-    (λ c. omega (arith, offset c))
-    (λ c. omega (arith, offset c))
-    (λ c. omega (arith, offset c))
-    (λ c. search needs))
+    (tie.spec (λ c. omega (arith, offset c)) (λ c. omega (arith, offset c)) (λ c. omega (arith, offset c)) (λ c. search needs))

@@ -35,17 +35,5 @@ returns-5 c = λ g p cells.
 pub calls-host-spec : {M : Type 1} → statement M
 calls-host-spec =
     tie.close
-    (tie.spec
-    returns
-    (λ c κs. search needs)
-    (λ c. search needs)
-    (λ c. search needs)
-    returns-2
-    get-def-requires
-    (λ c κs. search needs)
-    returns-3
-    (λ c κs. search needs)
-    returns-4
-    builtin-of-requires
-    (λ c κs. search needs)
-    returns-5)
+    (tie.spec returns (λ c κs. search needs) (λ c. search needs) (λ c. search needs) returns-2 get-def-requires (λ c κs. search needs) returns-3
+    (λ c κs. search needs) returns-4 builtin-of-requires (λ c κs. search needs) returns-5)

@@ -37,13 +37,5 @@ returns-2 c = is-fetched _ _ _ _ _ _ _ _ _ (sym (c .before .before .before .befo
 pub does-spec : {M : Type 1} → statement M
 does-spec =
     tie.close
-    (tie.spec
-    (λ c κs. search needs)
-    (λ c κs. search needs)
-    (λ c. search needs)
-    returns
-    (λ c. search needs)
-    execute-requires
-    (λ c. search needs)
-    (λ c. search needs)
-    returns-2)
+    (tie.spec (λ c κs. search needs) (λ c κs. search needs) (λ c. search needs) returns (λ c. search needs) execute-requires (λ c. search needs)
+    (λ c. search needs) returns-2)

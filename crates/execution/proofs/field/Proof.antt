@@ -32,21 +32,6 @@ returns-3 c =
 pub field-spec : {M : Type 1} → statement M
 field-spec =
     tie.close
-    (tie.spec
-    (λ c. search needs)
-    op-loads-requires
-    (λ c κs. search needs)
-    (λ c. search needs)
-    (λ c. search needs)
-    returns
-    (λ c. search needs)
-    op-address-requires
-    (λ c κs. search needs)
-    (λ c. search needs)
-    returns-2
-    (λ c. search needs)
-    op-stores-p-requires
-    (λ c κs. search needs)
-    (λ c. search needs)
-    (λ c. search needs)
-    returns-3)
+    (tie.spec (λ c. search needs) op-loads-requires (λ c κs. search needs) (λ c. search needs) (λ c. search needs) returns (λ c. search needs)
+    op-address-requires (λ c κs. search needs) (λ c. search needs) returns-2 (λ c. search needs) op-stores-p-requires (λ c κs. search needs)
+    (λ c. search needs) (λ c. search needs) returns-3)

@@ -34,16 +34,5 @@ shared-slice-read-calls-host c = let h = cell-reach _ _ _ (sym (c .before .befor
 pub hands-over-spec : {M : Type 1} → statement M
 hands-over-spec =
     tie.close
-    (tie.spec
-    (λ c κs. search needs)
-    (λ c κs. search needs)
-    returns
-    (λ c κs. search needs)
-    (λ c κs. search needs)
-    (λ c κs. search needs)
-    returns-2
-    (λ c κs. search needs)
-    mul-calls-host
-    shared-slice-read-calls-host
-    (λ c κs. search needs)
-    returns-3)
+    (tie.spec (λ c κs. search needs) (λ c κs. search needs) returns (λ c κs. search needs) (λ c κs. search needs) (λ c κs. search needs) returns-2
+    (λ c κs. search needs) mul-calls-host shared-slice-read-calls-host (λ c κs. search needs) returns-3)

@@ -26,8 +26,4 @@ returns c =
 pub host-abandon-spec : {M : Type 1} → statement M
 host-abandon-spec =
     tie.close
-    (tie.spec
-    abandon-requires
-    reply-answer-requires
-    same-length
-    returns)
+    (tie.spec abandon-requires reply-answer-requires same-length returns)

@@ -11,7 +11,4 @@ returns c = call-carries _ _ _ _ _ _ 3 (pos 0) (pos 0) _ (c .reply-answer .ensur
 pub host-carry-on-spec : {M : Type 1} → statement M
 host-carry-on-spec =
     tie.close
-    (tie.spec
-    (λ c κs. search needs)
-    (λ c κs. search needs)
-    returns)
+    (tie.spec (λ c κs. search needs) (λ c κs. search needs) returns)

@@ -24,8 +24,4 @@ returns c =
 pub host-load-spec : {M : Type 1} → statement M
 host-load-spec =
     tie.close
-    (tie.spec
-    load-requires
-    reply-answer-requires
-    same-length
-    returns)
+    (tie.spec load-requires reply-answer-requires same-length returns)

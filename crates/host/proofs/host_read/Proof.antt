@@ -23,7 +23,4 @@ returns c =
 pub host-read-spec : {M : Type 1} → statement M
 host-read-spec =
     tie.close
-    (tie.spec
-    read-requires
-    reply-read-requires
-    returns)
+    (tie.spec read-requires reply-read-requires returns)

@@ -29,10 +29,4 @@ returns c =
 pub host-run-spec : {M : Type 1} → statement M
 host-run-spec =
     tie.close
-    (tie.spec
-    run-requires
-    reply-run-requires
-    same-length
-    same-length-2
-    (λ c. search needs)
-    returns)
+    (tie.spec run-requires reply-run-requires same-length same-length-2 (λ c. search needs) returns)

@@ -23,10 +23,4 @@ returns c = call-steps _ _ _ _ _ _ 1 (pos 0) (pos 0) _ (c .reply-statement .ensu
 pub host-statement-spec : {M : Type 1} → statement M
 host-statement-spec =
     tie.close
-    (tie.spec
-    step-once-requires
-    reply-statement-requires
-    same-length
-    same-length-2
-    (λ c. search needs)
-    returns)
+    (tie.spec step-once-requires reply-statement-requires same-length same-length-2 (λ c. search needs) returns)

@@ -18,8 +18,4 @@ returns c =
 pub host-write-spec : {M : Type 1} → statement M
 host-write-spec =
     tie.close
-    (tie.spec
-    (λ c κs. search needs)
-    (λ c κs. search needs)
-    (λ c. search needs)
-    returns)
+    (tie.spec (λ c κs. search needs) (λ c κs. search needs) (λ c. search needs) returns)

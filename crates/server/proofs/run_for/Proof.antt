@@ -267,63 +267,10 @@ returns-6 c = ap (λ (w : Ran). ranOf w (c .before .before .loop .cells) (c .bef
 pub run-for-spec : {M : Type 1} → statement M
 run-for-spec =
     tie.close
-    (tie.spec Inv-loop μ-loop
-    (λ c κs. search needs)
-    loop-holds
-    add-completed
-    does-requires
-    (λ c. search needs)
-    (λ c. search needs)
-    (λ c κs. search needs)
-    after-requires
-    enter-cells-requires
-    (λ c κs. search needs)
-    same-length
-    same-length-2
-    same-length-3
-    returns
-    mul-frame
-    element-set-from-frame
-    add-now
-    add-now-2
-    (λ c. search needs)
-    return-cells-requires
-    (λ c κs. search needs)
-    same-length-4
-    same-length-5
-    same-length-6
-    returns-2
-    sub-at
-    mul-top
-    element-copy-out-top
-    mul-none
-    element-set-from-none
-    sub-now
-    (λ c κs. search needs)
-    same-length-7
-    same-length-8
-    same-length-9
-    returns-3
-    (λ c. search needs)
-    (λ c κs. search needs)
-    same-length-10
-    same-length-11
-    same-length-12
-    returns-4
-    (λ c. search needs)
-    (λ c κs. search needs)
-    same-length-13
-    same-length-14
-    same-length-15
-    returns-5
-    loop-less
-    loop-again
-    loop-less-2
-    loop-again-2
-    loop-less-3
-    loop-again-3
-    (λ c κs. search needs)
-    same-length-16
-    same-length-17
-    same-length-18
-    returns-6)
+    (tie.spec Inv-loop μ-loop (λ c κs. search needs) loop-holds add-completed does-requires (λ c. search needs) (λ c. search needs)
+    (λ c κs. search needs) after-requires enter-cells-requires (λ c κs. search needs) same-length same-length-2 same-length-3 returns mul-frame
+    element-set-from-frame add-now add-now-2 (λ c. search needs) return-cells-requires (λ c κs. search needs) same-length-4 same-length-5
+    same-length-6 returns-2 sub-at mul-top element-copy-out-top mul-none element-set-from-none sub-now (λ c κs. search needs) same-length-7
+    same-length-8 same-length-9 returns-3 (λ c. search needs) (λ c κs. search needs) same-length-10 same-length-11 same-length-12 returns-4
+    (λ c. search needs) (λ c κs. search needs) same-length-13 same-length-14 same-length-15 returns-5 loop-less loop-again loop-less-2 loop-again-2
+    loop-less-3 loop-again-3 (λ c κs. search needs) same-length-16 same-length-17 same-length-18 returns-6)

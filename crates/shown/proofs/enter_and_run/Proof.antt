@@ -15,16 +15,5 @@ returns-2 c = entry-accepted _ _ _ (c .before .before .before .before .before .b
 pub enter-and-run-spec : {M : Type 1} → statement M
 enter-and-run-spec =
     tie.close
-    (tie.spec
-    (λ c κs. search needs)
-    (λ c. search needs)
-    (λ c. search needs)
-    (λ c. search needs)
-    (λ c. search needs)
-    returns
-    enum-told
-    (λ c κs. search needs)
-    (λ c. search needs)
-    (λ c. search needs)
-    (λ c. search needs)
-    returns-2)
+    (tie.spec (λ c κs. search needs) (λ c. search needs) (λ c. search needs) (λ c. search needs) (λ c. search needs) returns enum-told
+    (λ c κs. search needs) (λ c. search needs) (λ c. search needs) (λ c. search needs) returns-2)

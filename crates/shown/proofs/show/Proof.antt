@@ -24,23 +24,6 @@ returns-3 c =
 pub show-spec : {M : Type 1} → statement M
 show-spec =
     tie.close
-    (tie.spec
-    (λ c κs. search needs)
-    (λ c. search needs)
-    returns
-    (λ c κs. search needs)
-    (λ c. search needs)
-    (λ c κs. search needs)
-    (λ c. search needs)
-    (λ c. search needs)
-    (λ c. search needs)
-    (λ c. search needs)
-    returns-2
-    enum-told
-    (λ c κs. search needs)
-    state-line-requires
-    (λ c. search needs)
-    (λ c. search needs)
-    (λ c. search needs)
-    (λ c. search needs)
-    returns-3)
+    (tie.spec (λ c κs. search needs) (λ c. search needs) returns (λ c κs. search needs) (λ c. search needs) (λ c κs. search needs) (λ c. search needs)
+    (λ c. search needs) (λ c. search needs) (λ c. search needs) returns-2 enum-told (λ c κs. search needs) state-line-requires (λ c. search needs)
+    (λ c. search needs) (λ c. search needs) (λ c. search needs) returns-3)

@@ -25,14 +25,5 @@ returns-4 c = field-vector _ _ _ _ (c .before .before .before .before .before .i
 pub check-field-spec : {M : Type 1} → statement M
 check-field-spec =
     tie.close
-    (tie.spec
-    (λ c κs. search needs)
-    returns
-    (λ c κs. search needs)
-    returns-2
-    add-check-field-cell
-    (λ c κs. search needs)
-    returns-3
-    add-check-field-cell-2
-    (λ c κs. search needs)
-    returns-4)
+    (tie.spec (λ c κs. search needs) returns (λ c κs. search needs) returns-2 add-check-field-cell (λ c κs. search needs) returns-3
+    add-check-field-cell-2 (λ c κs. search needs) returns-4)

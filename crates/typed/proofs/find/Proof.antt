@@ -65,26 +65,15 @@ loop-again c =
 pub find-spec : {M : Type 1} → statement M
 find-spec =
     tie.close
-    (tie.spec
-    Inv-loop
-    μ-loop
+    (tie.spec Inv-loop μ-loop
     (λ c. let s = c .before .before .args in none-so-high (s .void-binds) (s .defs .now) (s .cell) (λ k. c .before .shared-slice-known .given k .fits) (c .if1 .taken))
-    (λ c. search needs)
-    (λ c κs. omega (arith, record-ends 8 (length (c .before .before .before .args .defs .now)) 0 (omega arith) (omega arith)))
+    (λ c. search needs) (λ c κs. omega (arith, record-ends 8 (length (c .before .before .before .args .defs .now)) 0 (omega arith) (omega arith)))
     (λ c κs. omega (arith, record-ends 8 (length (c .before .before .before .before .before .args .defs .now)) 0 (omega arith) (omega arith)))
     (λ c. let s = c .before .before .before .before .before .before .before .args in found-at (s .void-binds) (s .defs .now) (s .cell) 0 (omega arith) 2 0 _ _ refl refl (c .before .before .before .u16-at .ensures) (c .before .u16-at2 .ensures) (c .before .before .if3 .taken) (c .if4 .taken) ∙ from-the-first (s .void-binds) (s .defs .now) (s .cell))
-    loop-holds
-    (λ c. omega (arith, ends c))
-    (λ c. omega (arith, ends c))
-    (λ c κs. omega (arith, ends c))
-    (λ c κs. omega (arith, ends (c .before .before)))
-    (λ c. omega (arith, ends (c .before .before)))
-    (λ c κs. omega (arith, ends (c .before .before)))
-    (λ c. omega (arith, ends (c .before .before .before .before)))
-    (λ c κs. omega (arith, ends (c .before .before .before .before)))
-    (λ c. omega (arith, ends (c .before .before .before .before)))
-    (λ c. omega arith)
-    loop-again
+    loop-holds (λ c. omega (arith, ends c)) (λ c. omega (arith, ends c)) (λ c κs. omega (arith, ends c))
+    (λ c κs. omega (arith, ends (c .before .before))) (λ c. omega (arith, ends (c .before .before))) (λ c κs. omega (arith, ends (c .before .before)))
+    (λ c. omega (arith, ends (c .before .before .before .before))) (λ c κs. omega (arith, ends (c .before .before .before .before)))
+    (λ c. omega (arith, ends (c .before .before .before .before))) (λ c. omega arith) loop-again
     (λ c. let s = c .before .before .before .before .before .args in none-left (s .void-binds) (s .defs .now) (s .cell) _ (c .if5 .taken) ∙ c .before .loop .inv .2)
     (λ c. let s = c .before .before .before .before .before .before .before .before .before .args in found-at (s .void-binds) (s .defs .now) (s .cell) _ (omega arith) _ _ _ _ refl refl (c .before .before .before .u16-at3 .ensures) (c .before .u16-at4 .ensures) (c .before .before .if6 .taken) (c .if7 .taken) ∙ c .before .before .before .before .before .loop .inv .2)
     (λ c. let s = c .before .before .before .before .before .before .before .before .before .before .before .args in found-at (s .void-binds) (s .defs .now) (s .cell) _ (omega arith) _ _ _ _ (omega arith) (omega arith) (c .before .before .before .u16-at5 .ensures) (c .before .u16-at6 .ensures) (c .before .before .if8 .taken) (c .if9 .taken)

@@ -54,20 +54,6 @@ returns-4 c = abandon-done _ _ _ _ _ _ _ (sound-here (c .before .before .before 
 pub abandon-spec : {M : Type 1} → statement M
 abandon-spec =
     tie.close
-    (tie.spec
-    (λ c κs. search needs)
-    (λ c κs. search needs)
-    (λ c. search needs)
-    returns
-    add-place-of
-    (λ c κs. search needs)
-    (λ c κs. search needs)
-    (λ c. search needs)
-    returns-2
-    leavings-refusal-requires
-    (λ c κs. search needs)
-    (λ c. search needs)
-    returns-3
-    unwound-requires
-    (λ c. search needs)
+    (tie.spec (λ c κs. search needs) (λ c κs. search needs) (λ c. search needs) returns add-place-of (λ c κs. search needs) (λ c κs. search needs)
+    (λ c. search needs) returns-2 leavings-refusal-requires (λ c κs. search needs) (λ c. search needs) returns-3 unwound-requires (λ c. search needs)
     returns-4)

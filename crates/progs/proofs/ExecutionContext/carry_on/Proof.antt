@@ -50,13 +50,5 @@ returns-3 c =
 pub carry-on-spec : {M : Type 1} → statement M
 carry-on-spec =
     tie.close
-    (tie.spec
-    (λ c κs. search needs)
-    (λ c κs. search needs)
-    returns
-    carry-on-refusal-requires
-    (λ c κs. search needs)
-    returns-2
-    (λ c κs. search needs)
-    after-requires
-    returns-3)
+    (tie.spec (λ c κs. search needs) (λ c κs. search needs) returns carry-on-refusal-requires (λ c κs. search needs) returns-2 (λ c κs. search needs)
+    after-requires returns-3)

@@ -41,12 +41,4 @@ returns-3 c =
 pub carry-on-refusal-spec : {M : Type 1} → statement M
 carry-on-refusal-spec =
     tie.close
-    (tie.spec
-    (λ c κs. search needs)
-    (λ c κs. search needs)
-    (λ c. search needs)
-    returns
-    (λ c. search needs)
-    hands-over-requires
-    returns-2
-    returns-3)
+    (tie.spec (λ c κs. search needs) (λ c κs. search needs) (λ c. search needs) returns (λ c. search needs) hands-over-requires returns-2 returns-3)

@@ -42,13 +42,4 @@ returns-6 c =
 pub check-state-spec : {M : Type 1} → statement M
 check-state-spec =
     tie.close
-    (tie.spec
-    (λ c κs. search needs)
-    returns
-    returns-2
-    entities-fit-requires
-    returns-3
-    returns-4
-    returns-5
-    locals-add-up-requires
-    returns-6)
+    (tie.spec (λ c κs. search needs) returns returns-2 entities-fit-requires returns-3 returns-4 returns-5 locals-add-up-requires returns-6)

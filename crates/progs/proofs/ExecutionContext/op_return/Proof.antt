@@ -25,13 +25,5 @@ returns-2 c = λ entities. accepted-return _ _ _ _ _ _ _ (did (c .before .before
 pub op-return-spec : {M : Type 1} → statement M
 op-return-spec =
     tie.close
-    (tie.spec
-    (λ c κs. search needs)
-    (λ c κs. search needs)
-    (λ c κs. search needs)
-    (λ c κs. search needs)
-    (λ c. search needs)
-    returns
-    pop-frame-requires
-    (λ c. search needs)
-    returns-2)
+    (tie.spec (λ c κs. search needs) (λ c κs. search needs) (λ c κs. search needs) (λ c κs. search needs) (λ c. search needs) returns
+    pop-frame-requires (λ c. search needs) returns-2)

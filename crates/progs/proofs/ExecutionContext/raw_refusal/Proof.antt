@@ -35,10 +35,4 @@ returns-3 c = raw-0 _ _ _ _ _ (c .before .before .before .before .before .before
 pub raw-refusal-spec : {M : Type 1} → statement M
 raw-refusal-spec =
     tie.close
-    (tie.spec
-    (λ c κs. search needs)
-    returns
-    (λ c κs. search needs)
-    (λ c κs. search needs)
-    returns-2
-    returns-3)
+    (tie.spec (λ c κs. search needs) returns (λ c κs. search needs) (λ c κs. search needs) returns-2 returns-3)

@@ -44,10 +44,4 @@ returns-2 c = read-value _ _ _ _ _ (c .before .before .before .before .before .b
 pub read-spec : {M : Type 1} → statement M
 read-spec =
     tie.close
-    (tie.spec
-    (λ c κs. search needs)
-    returns
-    (λ c κs. search needs)
-    mul-t10
-    shared-slice-read-t12
-    returns-2)
+    (tie.spec (λ c κs. search needs) returns (λ c κs. search needs) mul-t10 shared-slice-read-t12 returns-2)

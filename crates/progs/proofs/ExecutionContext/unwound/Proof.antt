@@ -69,13 +69,4 @@ returns c = λ entities. times-end _ _ _ _ _ entities (c .if1 .left) ∙ c .befo
 pub unwound-spec : {M : Type 1} → statement M
 unwound-spec =
     tie.close
-    (tie.spec
-    Inv-loop
-    μ-loop
-    loop-holds
-    locals-requires
-    leave-function-requires
-    loop-less
-    loop-again
-    (λ c. search needs)
-    returns)
+    (tie.spec Inv-loop μ-loop loop-holds locals-requires leave-function-requires loop-less loop-again (λ c. search needs) returns)

@@ -44,13 +44,5 @@ returns-2 c = write-done _ _ _ _ _ (c .before .before .before .before .before .b
 pub write-spec : {M : Type 1} → statement M
 write-spec =
     tie.close
-    (tie.spec
-    (λ c κs. search needs)
-    (λ c κs. search needs)
-    (λ c. search needs)
-    returns
-    (λ c κs. search needs)
-    mul-cells
-    slice-write-cells
-    (λ c. search needs)
-    returns-2)
+    (tie.spec (λ c κs. search needs) (λ c κs. search needs) (λ c. search needs) returns (λ c κs. search needs) mul-cells slice-write-cells
+    (λ c. search needs) returns-2)

@@ -54,15 +54,5 @@ returns-2 c =
 pub load-spec : {M : Type 1} → statement M
 load-spec =
     tie.close
-    (tie.spec
-    (λ c. search needs)
-    (λ c κs. search needs)
-    (λ c κs. search needs)
-    (λ c κs. search needs)
-    returns
-    file-of-requires
-    part-requires
-    fill-requires
-    (λ c κs. search needs)
-    (λ c. search needs)
-    returns-2)
+    (tie.spec (λ c. search needs) (λ c κs. search needs) (λ c κs. search needs) (λ c κs. search needs) returns file-of-requires part-requires
+    fill-requires (λ c κs. search needs) (λ c. search needs) returns-2)
