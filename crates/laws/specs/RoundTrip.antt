@@ -1,5 +1,6 @@
 -- THE ROUND TRIP of a field, document 02's R-3: a pointer made by Address, and stored through at once, writes the field that a load of the same entity and
--- field reads. So a pointer names what its entity and field name.
+-- field reads. So a pointer names what its entity and field name. Also where an Address completes, and that the pointer which it made is never a reason to
+-- refuse the store.
 use Prim.Native.Nat.{ℕ, zero, suc, _+_, _*_, _/_, _%_, _≤_, _<_}
 use mathlib.Core.Path.{_≡_, refl, sym, _∙_, ap, subst}
 use mathlib.Core.Logic.{_≢_}
@@ -17,7 +18,7 @@ use Rattle.definition.specs.Checks.{Conditions, _otherwise_, judge}
 use Rattle.definition.specs.File.{greatestPointer, contentsOf, negative}
 use Rattle.definition.specs.Cells.{string, vector, entity, field, pointer, cellOf, Typing, typingOf, fieldsOf, mustBeNatural, access, readAccess, fieldAccess}
 use Rattle.definition.specs.Statements.{Entities, Does, orRefused, provided, unused, valueMoved, storedNatural, pointsAtField, storesPEffect, loadsEffect, addressesEffect, Effect, effectDoes, putDoes, fetchConditions, Tables, tablesOf, executeAs, execute, doesAt}
-use Rattle.definition.specs.Statements.{Shape, loads, addresses, storesP, shapeOf}
+use Rattle.definition.specs.Statements.{Shape, loads, addresses, storesP, opcodes, shapeOf}
 use Rattle.definition.specs.Machine.{Program, Config, entitiesOf, advanced, completed, stepAs, step}
 use Rattle.definition.specs.Load.{programAt, programOf}
 use Rattle.definition.specs.CheckLaws.{All, judge-passed, judge-all, and-both, all-front, all-back, all-both}
@@ -303,6 +304,14 @@ module _ (t : ℕ) (g h : Typing) (e : Entities) (o : Operands) (cells : List �
       let z = passed storing in
       (reload-accepted apart m z destination, reload-value apart m z destination)
 
+  -- and where the value, the field and the destination pass, all three are accepted
+  pub all-accepted : Apart → All (addressesEffect g h e a b c cells .conditions) → u ≡ 0 → All (readAccess g (mustBeNatural t) t s pointed)
+      → All (fieldAccess h t (getD cells b 0)) → not (eqb t string && negative (getD pointed s 0)) ≡ true → All (access g t d)
+      → All (storesPEffect t g h e s c u pointed .conditions) × All (reloaded .conditions)
+  all-accepted apart pointing none value-passes field-passes natural destination =
+      let storing = store-accepted (apart .cells-enough) pointing none value-passes field-passes natural in
+      (storing, round-trip apart pointing storing destination .0)
+
 -- ---- the same of three statements that a machine completes one after the other
 
 -- what a step shows, where the statement is provided that conditions hold
@@ -344,6 +353,46 @@ module _ (file : List ℕ) (c c′ : Config) (st : Statement) (is : at file (c .
       let parts = provided-steps (programOf file) (x .conditions) _ c c′ e in
       let f = parts .1 in
       (parts .0, cc)
+
+-- ---- an Address that a machine completes
+
+module _ (file : List ℕ) (c : Config) (thirty : at file (c .state .pc) .opcode ≡ 30) where
+  abbrev st : Statement
+  st = at file (c .state .pc)
+
+  abbrev tables : Tables
+  tables = tablesOf (contentsOf file)
+
+  abbrev made : Effect
+  made = addressesEffect (tables .globals) (tables .fields) (entitiesOf c) (cellOf (st .arg1)) (cellOf (st .arg2)) (cellOf (st .arg3)) (c .cells)
+
+  is-address : shapeOf (st .opcode) ≡ addresses
+  unfolding shapeOf opcodes
+  is-address = rw thirty
+
+  -- what its operands must be
+  abbrev pub AddressPasses : Type 0
+  AddressPasses = Addressable (tables .globals) (tables .fields) (entitiesOf c) (cellOf (st .arg1)) (cellOf (st .arg2)) (cellOf (st .arg3)) (c .cells)
+
+  -- the configuration after it: the pointer is in its third operand's cell, and the position is the next
+  abbrev pub afterAddress : Config
+  afterAddress =
+      let number = getD (c .cells) (cellOf (st .arg1)) 0 in
+      let named = getD (c .cells) (cellOf (st .arg2)) 0 in
+      advanced c (c .state .pc +ℤ pos 1) (set (c .cells) (cellOf (st .arg3)) ((number * tables .fields .count + named) * 4)) (c .entities)
+
+  -- it completes where they are so
+  pub address-completes : All (programOf file .fetching (c .state .pc)) → AddressPasses → step (programOf file) c ≡ completed afterAddress
+  unfolding step stepAs programAt doesAt execute addressesEffect
+  address-completes fetched passes =
+      rw (judge-all (fetchConditions (contentsOf file .statements) (c .state .pc)) fetched, is-address, judge-all (made .conditions) (addressable-all _ _ _ _ _ _ _ passes))
+
+  -- and only there
+  pub address-only : (c′ : Config) → step (programOf file) c ≡ completed c′ → AddressPasses × (c′ ≡ afterAddress)
+  unfolding addressesEffect
+  address-only c′ completes =
+      let done = effect-step file c c′ st refl completes made (executed-step file c c′ st refl completes addresses is-address) in
+      (addressable _ _ _ _ _ _ _ (done .0), done .1)
 
 -- what a load was accepted for: its destination
 load-destination : (t : ℕ) (g h : Typing) (e : Entities) (a b d : ℕ) (cells : List ℕ) → All (loadsEffect t g h e a b d cells .conditions) → All (access g t d)
