@@ -11,7 +11,7 @@ use native.Mathlib.Nat.{add-zero, mul-div-cancel, mul-mod-left, mul-add-mod-self
 use lib.IntN.{pos, _+ℤ_}
 use lib.ListN.{length, getD, set, length-set}
 use lib.Seq.{getD-set-same, getD-set-other}
-use lib.Dec.{eqb, ltb, leb}
+use lib.Dec.{eqb, ltb}
 use borrow.Author.Tests.{ltb-true, leb-true, lt-ltb, le-leb, lt-leb, eq-eqb}
 use Rattle.definition.specs.declared.Statement.{Statement}
 use Rattle.definition.specs.Checks.{Conditions, _otherwise_, judge}
