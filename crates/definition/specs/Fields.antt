@@ -1,7 +1,7 @@
 -- ENTITY FIELDS, document 02's R-3: worked cases, as rows of one table that is computed from the definition. Each row starts from the bytes of a file with
--- 36 cells and 105 cells per entity, and a load with two entities, and goes on by the operations that a host calls. Of each of the three forms of
--- statement, Load, Address and StoreP, every refusal is met alone, and every two neighbours in the order of checks in one statement, which is refused with
--- the earlier number.
+-- 36 cells and 105 cells per entity, and a load with two entities, and goes on by the operations that a host calls. (One group has 107 cells per entity and
+-- three entities.) Of each of the three forms of statement, Load, Address and StoreP, every refusal is met alone, and every two neighbours in the order of
+-- checks in one statement, which is refused with the earlier number.
 use Prim.Native.Nat.{ℕ, _+_}
 use mathlib.Core.List.{List, [], _∷_, _++_}
 use lib.IntN.{ℤ, pos, negsuc}
@@ -117,6 +117,9 @@ loadRows =
     ∷ row "a Load writes no field" (after [] [] (load24 25) (inEntity 1 10) [] (fields 4 114)) (accepted (1114 ∷ 1115 ∷ 1116 ∷ 1117 ∷ []))
     ∷ row "a NaN's bits" (loadAfter [] [] (load24 24) (115 holds 0xff800001 ∷ [])) (accepted (0xff800001 ∷ []))
     ∷ row "a negative function" (loadAfter [] [] (load24 29) (115 holds 0xffffffff ∷ [])) (accepted (0xffffffff ∷ []))
+    ∷ row "negative components" (after [] [] (load24 25) (inEntity 1 10) (115 holds 0x80000000 ∷ 116 holds 0xbf800000 ∷ 117 holds 0xffffffff ∷ []) (cells 4 30))
+    (accepted (0x80000000 ∷ 0xbf800000 ∷ 0xffffffff ∷ 33 ∷ []))
+    ∷ row "a destination of 1 to 27" (after (define string 1 ∷ []) [] (op 26 28 29 1) (inEntity 1 10) [] (cells 2 1)) (accepted (1115 ∷ 2 ∷ []))
     ∷ []
 
 -- each refusal alone
@@ -133,11 +136,15 @@ loadRefusals =
     ∷ row "15: the destination" (loadAfter [] [] (op 26 28 29 38) []) (refused 15)
     ∷ row "16: a destination's third cell" (loadAfter (define string 32 ∷ []) [] (load24 25) []) (refused 16)
     ∷ row "15: a destination's third cell" (loadAfter [] [] (op 25 28 29 34) []) (refused 15)
+    ∷ row "16: a destination of 1 to 27" (loadAfter (define float 1 ∷ []) [] (op 26 28 29 1) []) (refused 16)
+    ∷ row "16: a vector's destination of 1 to 27, unlike StoreV's" (loadAfter (define string 25 ∷ []) [] (op 25 28 29 25) []) (refused 16)
+    ∷ row "16: its third cell" (loadAfter (define string 27 ∷ []) [] (op 25 28 29 25) []) (refused 16)
     ∷ row "30: an entity not below the count" (after [] [] (load24 26) (inEntity 2 10) [] state) (refused 30)
     ∷ row "30: the greatest entity" (after [] [] (load24 26) (inEntity 0x7fffffff 10) [] state) (refused 30)
     ∷ row "16: by field definition" (loadAfter [] (define float 10 ∷ []) (load24 26) []) (refused 16)
     ∷ row "31: a field cell not below the cells per entity" (after [] [] (load24 26) (inEntity 1 105) [] state) (refused 31)
     ∷ row "31: the next entity's field" (after [] [] (load24 26) (inEntity 0 105) [] state) (refused 31)
+    ∷ row "31, not 16: field 65,536 + 10 is not field 10" (after [] (define float 10 ∷ []) (load24 26) (inEntity 1 0x1000a) [] state) (refused 31)
     ∷ row "31: a vector's third cell" (after [] [] (load24 25) (inEntity 0 103) [] state) (refused 31)
     ∷ row "31: a vector's second cell" (after [] [] (load24 25) (inEntity 0 104) [] state) (refused 31)
     ∷ row "16: a vector's second cell" (loadAfter [] (define string 11 ∷ []) (load24 25) []) (refused 16)
@@ -263,6 +270,8 @@ storeRows =
     ∷ row "a vector at the last cells of the last entity" (after [] [] (storeP 38) (through 828) [] (fields 5 206)) (accepted (1206 ∷ 30 ∷ 31 ∷ 32 ∷ 1210 ∷ []))
     ∷ row "a NaN's bits" (storing 0xff800001 [] [] (storeP 37)) (accepted (1114 ∷ 0xff800001 ∷ 1116 ∷ []))
     ∷ row "a negative function" (storing 0xffffffff [] [] (storeP 42)) (accepted (1114 ∷ 0xffffffff ∷ 1116 ∷ []))
+    ∷ row "negative components" (after [] [] (storeP 38) (30 holds 0x80000000 ∷ 31 holds 0xbf800000 ∷ 32 holds 0xffffffff ∷ through 460) [] (fields 5 114))
+    (accepted (1114 ∷ 0x80000000 ∷ 0xbf800000 ∷ 0xffffffff ∷ 1118 ∷ []))
     ∷ row "through a cell typed 7" (storeAfter (define pointer 33 ∷ []) [] (storeP 37)) (accepted (1114 ∷ 30 ∷ 1116 ∷ []))
     ∷ []
 
@@ -323,6 +332,10 @@ definitions =
     ∷ row "the first definition is taken, of another type" (loadAfter [] (define float 10 ∷ define string 10 ∷ []) (load24 26) []) (refused 16)
     ∷ row "a void one is passed over: StoreP" (storeAfter [] (define void 10 ∷ define string 10 ∷ []) (storeP 39)) (accepted (1114 ∷ 30 ∷ 1116 ∷ []))
     ∷ row "the first definition is taken: StoreP" (storeAfter [] (define float 10 ∷ define string 10 ∷ []) (storeP 39)) (refused 16)
+    ∷ row "a vector's binds its own cell alone" (loadAfter [] (define vector 9 ∷ []) (load24 26) []) (accepted (1115 ∷ []))
+    ∷ row "a vector's binds its own cell alone: StoreP" (storeAfter [] (define vector 9 ∷ []) (storeP 39)) (accepted (1114 ∷ 30 ∷ 1116 ∷ []))
+    ∷ row "a vector's binds its own cell" (loadAfter [] (define vector 10 ∷ []) (load24 26) []) (refused 16)
+    ∷ row "a vector's binds its own cell: StoreP" (storeAfter [] (define vector 10 ∷ []) (storeP 39)) (refused 16)
     ∷ row "the same field of every entity" (after [] (define float 10 ∷ []) (load24 26) (inEntity 0 10) [] state) (refused 16)
     ∷ row "float and vector pass for each other: LoadF" (loadAfter [] (define vector 10 ∷ []) (load24 24) []) (accepted (1115 ∷ []))
     ∷ row "float and vector pass for each other: LoadV" (loadAfter [] (define float 10 ∷ define vector 11 ∷ define float 12 ∷ []) (load24 25) []) (accepted (1115 ∷ []))
@@ -332,6 +345,49 @@ definitions =
     ∷ row "a field" (loadAfter [] (define field 10 ∷ []) (load24 28) []) (accepted (1115 ∷ []))
     ∷ row "field definitions bind no cells" (loadAfter [] (define float 28 ∷ define float 29 ∷ define float 30 ∷ []) (load24 26) []) (accepted (1115 ∷ []))
     ∷ row "global definitions bind no fields" (loadAfter (define float 10 ∷ []) [] (load24 26) []) (accepted (1115 ∷ []))
+    ∷ []
+
+-- ---- 107 cells per entity, three entities
+
+-- statement 1, in function 1, with these cells
+abbrev larger : Statement → List Cell → Contents
+larger st given =
+    let k = contents [] [] (st ∷ []) (plain ∷ []) given in
+    record {
+      statements = k .statements;
+      globaldefs = k .globaldefs;
+      fielddefs = k .fielddefs;
+      functions = k .functions;
+      strings = k .strings;
+      globals = k .globals;
+      entityfields = 107;
+    }
+
+-- with so many lent entity cells
+abbrev lending : ℕ → Statement → List Cell → Scenario → Seen
+lending lent st given rest = loading (larger st given) (pos 3) 36 2048 (numbers lent 1000) rest
+
+-- after statement 1
+abbrev afterLarger : Statement → List Cell → Scenario → Seen
+afterLarger st given rest = lending 321 st given (enter 1 (complete rest))
+
+abbrev largerRows : List Row
+largerRows =
+    row "lent entity cells as many as the entities have, 3 * 107" (lending 321 address [] number) (accepted (3 ∷ []))
+    ∷ row "13: one too few" (lending 320 address [] number) (refused 13)
+    ∷ row "Address: (2 * 107 + 10) * 4" (afterLarger address (inEntity 2 10) (cells 1 30)) (accepted (896 ∷ []))
+    ∷ row "Address: field 106" (afterLarger address (inEntity 2 106) (cells 1 30)) (accepted (1280 ∷ []))
+    ∷ row "Address, 31: field 107" (afterLarger address (inEntity 2 107) state) (refused 31)
+    ∷ row "Address, 30: entity 3" (afterLarger address (inEntity 3 10) state) (refused 30)
+    ∷ row "Load" (afterLarger (load24 24) (inEntity 2 10) (cells 1 30)) (accepted (1224 ∷ []))
+    ∷ row "Load: field 106" (afterLarger (load24 24) (inEntity 2 106) (cells 1 30)) (accepted (1320 ∷ []))
+    ∷ row "Load, 31: field 107" (afterLarger (load24 24) (inEntity 2 107) state) (refused 31)
+    ∷ row "Load, 31: field 107 of an entity before the last" (afterLarger (load24 24) (inEntity 0 107) state) (refused 31)
+    ∷ row "StoreP" (afterLarger (storeP 37) (through 896) (fields 3 223)) (accepted (1223 ∷ 30 ∷ 1225 ∷ []))
+    ∷ row "StoreP: field 106" (afterLarger (storeP 37) (through 1280) (fields 2 319)) (accepted (1319 ∷ 30 ∷ []))
+    ∷ row "StoreP, 32: past the last entity" (afterLarger (storeP 37) (through 1284) state) (refused 32)
+    ∷ row "StoreP: a vector at the last cells of entity 1" (afterLarger (storeP 38) (through 844) (fields 5 210)) (accepted (1210 ∷ 30 ∷ 31 ∷ 32 ∷ 1214 ∷ []))
+    ∷ row "StoreP, 31: a vector's third field cell" (afterLarger (storeP 38) (through 848) state) (refused 31)
     ∷ []
 
 -- ---- over several statements and calls
@@ -382,6 +438,7 @@ together =
     ∷ row "an entry touches none" (writtenBelow (complete (fields 3 114))) (accepted (1114 ∷ 1115 ∷ 1116 ∷ []))
     ∷ row "27: a Load" (from (contents [] [] (load24 24 ∷ []) (plain ∷ []) (inEntity 1 10)) [] (enter 1 (carry state))) (refused 27)
     ∷ row "27: an Address" (from (contents [] [] (address ∷ []) (plain ∷ []) (inEntity 1 10)) [] (enter 1 (carry state))) (refused 27)
+    ∷ row "27: a StoreP that would complete" (from (contents [] [] (storeP 37 ∷ []) (plain ∷ []) (through 460)) [] (enter 1 (carry state))) (refused 27)
     ∷ row "27: a StoreP that would be refused" (from (contents [] [] (storeP 37 ∷ []) (plain ∷ []) (through 1)) [] (enter 1 (carry state))) (refused 27)
     ∷ row "opcode 60 still goes to the host" (from (contents [] [] (op 60 0 0 0 ∷ []) (plain ∷ []) []) [] (enter 1 (runBy (pos 0) (pos 9) (carry (state and fields 2 0)))))
     (accepted (60 ∷ 0 ∷ 2 ∷ 1 ∷ 1 ∷ 0 ∷ 1000 ∷ 1001 ∷ []))
@@ -416,6 +473,10 @@ stores-hold = tt
 pub definitions-hold : T (all definitions)
 unfolding computing
 definitions-hold = tt
+
+pub larger-hold : T (all largerRows)
+unfolding computing
+larger-hold = tt
 
 pub together-hold : T (all together)
 unfolding computing

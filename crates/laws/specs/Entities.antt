@@ -26,14 +26,14 @@ use Rattle.definition.specs.Statements.{Entities, Does, next, puts, calls, retu
 use Rattle.definition.specs.Statements.{Shape, floats, values, vectors, vectorsToFloat, strings, negates, negatesV, negatesS, stores, storesV, loads, addresses, storesP, branches, jumps, call, return, host, opcodes, shapeOf}
 use Rattle.definition.specs.Machine.{Program, Config, entitiesOf, withEntities, advanced, entryConditions, entered, enter, left, returnConditions, returned, Stepped, completed, refusedStep, handedStep, asStep, stepAs, step, Ran, goOn, runAs, runFor}
 use Rattle.definition.specs.Load.{loaded, load, programAt, programOf}
-use Rattle.definition.specs.Operations.{sound, natural, hostEnter, stepIf, statement, runConditions, runAfter, run, carryOn, leftTimes, abandon, rawWrite}
+use Rattle.definition.specs.Operations.{sound, natural, hostEnter, stepIf, statement, runConditions, runAfter, run, isHandedOver, carryOnConditions, carryOn, leftTimes, abandon, rawWrite}
 use Rattle.definition.specs.Answers.{kept, statementOutcome, loadOutcome}
 use Rattle.definition.specs.Calls.{Call, enters, steps, runs, carries, abandons, reads, writes, lends, after, smallSteps}
 use Rattle.definition.specs.Log.{Log, Kind, entry, leaving, other, statementKind}
 use Rattle.definition.specs.Trace.{StepProperty, StateProperty, logAfterSteps, Always}
 use Rattle.definition.specs.Returns.{DepthsMatch, StepCorrect, Demand3}
 use Rattle.definition.specs.ReturnsProof.{demand3}
-use Rattle.definition.specs.CheckLaws.{All, judge-passed, judge-all, all-front, all-back, and-left, and-right, WhenAccepted, guarded}
+use Rattle.definition.specs.CheckLaws.{All, judge-passed, judge-all, all-front, all-back, and-left, and-right, WhenAccepted, guarded, accepted-all}
 use Rattle.definition.specs.StatementLaws.{every, every-at, lastOf, fields-below, pointer-cell, Keeps, keeps-all, HasKind, beforeIn, statement-has-kind}
 use Rattle.definition.specs.Invariant.{roomIn, Inductive, always}
 
@@ -546,6 +546,31 @@ pub sixty-handed-over : (file : List ℕ) (p : ℤ) (e : Entities) (cells : List
     → programOf file .does p e cells ≡ handsOver (Opcode 60)
 unfolding programAt doesAt execute shapeOf opcodes
 sixty-handed-over file p e cells h is = rw (judge-all (fetchConditions (contentsOf file .statements) p) h, is) (ap (λ (n : ℕ). handsOver (Opcode n)) is)
+
+false-not-true : false ≡ true → ⊥
+false-not-true e = let z : _≡_ {A = ℕ} 0 1 = cc in omega arith
+
+-- "27: that statement, with the cells as they now are, would not be handed over": only one that is passes, so neither one that writes cells nor one that
+-- writes entity cells
+pub is-handed-over : (x : Does) → isHandedOver x ≡ true → (h : Handover) × (x ≡ handsOver h)
+is-handed-over (next p cells) e = absurd (false-not-true e)
+is-handed-over (puts p entities) e = absurd (false-not-true e)
+is-handed-over (calls f) e = absurd (false-not-true e)
+is-handed-over (returns a) e = absurd (false-not-true e)
+is-handed-over (refuses n) e = absurd (false-not-true e)
+is-handed-over (handsOver h) e = (h, refl)
+
+-- what is carried on over is a statement that goes to the host: opcode 60, or a Call of a builtin that is none of R-1's four
+pub carried-over : (file : List ℕ) (c c′ : Config) → carryOn (programOf file) c ≡ accepted c′
+    → (h : Handover) × (programOf file .does (c .state .pc) (entitiesOf c) (c .cells) ≡ handsOver h)
+    × GoesToHost (tablesOf (contentsOf file)) (at file (c .state .pc)) (c .cells) h
+unfolding carryOn carryOnConditions
+carried-over file c c′ e =
+    let P = programOf file in
+    let fetching = (sound P c otherwise 13) ∷ P .fetching (c .state .pc) in
+    let does = P .does (c .state .pc) (entitiesOf c) (c .cells) in
+    let handed = is-handed-over does (all-back fetching ((isHandedOver does otherwise 27) ∷ []) (accepted-all _ _ c′ e .0) .0) in
+    (handed .0, handed .1, handed-over file (c .state .pc) (entitiesOf c) (c .cells) (handed .0) (handed .1))
 
 -- a statement that completes leaves every lent entity cell as it was, or writes the one field that its pointer names
 pub step-writes : (file : List ℕ) (c c′ : Config) → step (programOf file) c ≡ completed c′

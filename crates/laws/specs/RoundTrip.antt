@@ -1,28 +1,71 @@
 -- THE ROUND TRIP of a field, document 02's R-3: a pointer made by Address, and stored through at once, writes the field that a load of the same entity and
--- field reads. So a pointer names what its entity and field name.
+-- field reads. So a pointer names what its entity and field name. Also where an Address completes, and that the pointer which it made is never a reason to
+-- refuse the store.
 use Prim.Native.Nat.{ℕ, zero, suc, _+_, _*_, _/_, _%_, _≤_, _<_}
 use mathlib.Core.Path.{_≡_, refl, sym, _∙_, ap, subst}
 use mathlib.Core.Logic.{_≢_}
 use mathlib.Core.List.{List, [], _∷_, _++_}
 use mathlib.Core.Bool.{Bool, true, false, not, _&&_, _||_, cond}
 use native.Mathlib.Omega.{arith}
-use native.Mathlib.Nat.{add-zero, mul-div-cancel, mul-add-mod-self-right, mod-eq-of-lt}
+use native.Mathlib.Nat.{add-zero, mul-div-cancel, mul-mod-left, mul-add-mod-self-right, mod-eq-of-lt, div-lt-iff-lt-mul}
 use lib.IntN.{pos, _+ℤ_}
-use lib.ListN.{length, getD, length-set}
+use lib.ListN.{length, getD, set, length-set}
 use lib.Seq.{getD-set-same, getD-set-other}
 use lib.Dec.{eqb, ltb}
-use borrow.Author.Tests.{ltb-true, lt-ltb}
+use borrow.Author.Tests.{ltb-true, leb-true, lt-ltb, le-leb, lt-leb, eq-eqb}
 use Rattle.definition.specs.declared.Statement.{Statement}
 use Rattle.definition.specs.Checks.{Conditions, _otherwise_, judge}
-use Rattle.definition.specs.File.{contentsOf, negative}
+use Rattle.definition.specs.File.{greatestPointer, contentsOf, negative}
 use Rattle.definition.specs.Cells.{string, vector, entity, field, pointer, cellOf, Typing, typingOf, fieldsOf, mustBeNatural, access, readAccess, fieldAccess}
 use Rattle.definition.specs.Statements.{Entities, Does, orRefused, provided, unused, valueMoved, storedNatural, pointsAtField, storesPEffect, loadsEffect, addressesEffect, Effect, effectDoes, putDoes, fetchConditions, Tables, tablesOf, executeAs, execute, doesAt}
-use Rattle.definition.specs.Statements.{Shape, loads, addresses, storesP, shapeOf}
+use Rattle.definition.specs.Statements.{Shape, loads, addresses, storesP, opcodes, shapeOf}
 use Rattle.definition.specs.Machine.{Program, Config, entitiesOf, advanced, completed, stepAs, step}
 use Rattle.definition.specs.Load.{programAt, programOf}
-use Rattle.definition.specs.CheckLaws.{All, judge-passed, all-front, all-back, all-both}
+use Rattle.definition.specs.CheckLaws.{All, judge-passed, judge-all, and-both, all-front, all-back, all-both}
 use Rattle.definition.specs.StatementLaws.{fields-below, access-last, entity-cell}
 use Rattle.laws.specs.Entities.{widthOf, Written, moved-written, width-inside, at}
+
+-- ---- Address alone
+
+-- its three operands' accesses hold, the entity is there, the field is one of its cells, and the pointer to be made is not over 2,147,483,647
+pub record Addressable (g h : Typing) (e : Entities) (a b c : ℕ) (cells : List ℕ) : Type 0 where
+  pub reads-entity : All (readAccess g (mustBeNatural entity) entity a cells)
+  pub reads-field : All (readAccess g (mustBeNatural field) field b cells)
+  pub writes-pointer : All (access g pointer c)
+  pub there : getD cells a 0 < e .count
+  pub inside : getD cells b 0 < h .count
+  pub in-range : (getD cells a 0 * h .count + getD cells b 0) * 4 ≤ greatestPointer
+
+module _ (g h : Typing) (e : Entities) (a b c : ℕ) (cells : List ℕ) where
+  abbrev entity-read : Conditions
+  entity-read = readAccess g (mustBeNatural entity) entity a cells
+
+  abbrev field-read : Conditions
+  field-read = readAccess g (mustBeNatural field) field b cells
+
+  abbrev reads : Conditions
+  reads = entity-read ++ field-read
+
+  addressable : All (addressesEffect g h e a b c cells .conditions) → Addressable g h e a b c cells
+  unfolding addressesEffect
+  addressable q =
+      let operands = all-front (reads ++ access g pointer c) _ q in
+      let limits = all-back (reads ++ access g pointer c) _ q in
+      record {
+        reads-entity = all-front entity-read field-read (all-front reads (access g pointer c) operands);
+        reads-field = all-back entity-read field-read (all-front reads (access g pointer c) operands);
+        writes-pointer = all-back reads (access g pointer c) operands;
+        there = ltb-true _ _ (limits .0);
+        inside = ltb-true _ _ (limits .1 .0);
+        in-range = leb-true _ _ (limits .1 .1 .0);
+      }
+
+  addressable-all : Addressable g h e a b c cells → All (addressesEffect g h e a b c cells .conditions)
+  unfolding addressesEffect
+  addressable-all m =
+      all-both (reads ++ access g pointer c) _
+      (all-both reads (access g pointer c) (all-both entity-read field-read (m .reads-entity) (m .reads-field)) (m .writes-pointer))
+      (lt-ltb _ _ (m .there), (lt-ltb _ _ (m .inside), (le-leb _ _ (m .in-range), tt)))
 
 -- ---- the round trip: Address, then StoreP through the pointer that it made, then a Load of the same entity and field
 
@@ -96,28 +139,55 @@ module _ (t : ℕ) (g h : Typing) (e : Entities) (o : Operands) (cells : List �
   place = number * h .count + named
 
   -- what the Address was accepted for
-  record Made : Type 0 where
-    reads-entity : All (readAccess g (mustBeNatural entity) entity a cells)
-    reads-field : All (readAccess g (mustBeNatural field) field b cells)
-    writes-pointer : All (access g pointer c)
-    there : number < e .count
-    inside : named < h .count
+  abbrev Made : Type 0
+  Made = Addressable g h e a b c cells
 
-  made : All (addressesEffect g h e a b c cells .conditions) → Made
-  unfolding addressesEffect
-  made q =
-      let re = readAccess g (mustBeNatural entity) entity a cells in
-      let rf = readAccess g (mustBeNatural field) field b cells in
-      let ap = access g pointer c in
-      let operands = all-front (re ++ rf ++ ap) _ q in
-      let limits = all-back (re ++ rf ++ ap) _ q in
-      record {
-        reads-entity = all-front re rf (all-front (re ++ rf) ap operands);
-        reads-field = all-back re rf (all-front (re ++ rf) ap operands);
-        writes-pointer = all-back (re ++ rf) ap operands;
-        there = ltb-true _ _ (limits .0);
-        inside = ltb-true _ _ (limits .1 .0);
-      }
+  -- the pointer that was made, in lent cells that are as many as 13 asks
+  module _ (enough : g .count ≤ length cells) (m : Made) where
+    the-pointer : getD pointed c 0 ≡ place * 4
+    unfolding addressesEffect
+    the-pointer = getD-set-same cells c _ 0 (omega (arith, access-last g pointer c (m .writes-pointer), enough))
+
+    its-place : getD pointed c 0 / 4 ≡ place
+    its-place = ap (λ (p : ℕ). p / 4) the-pointer ∙ mul-div-cancel place (omega arith)
+
+    its-field : getD pointed c 0 / 4 % h .count ≡ named
+    its-field = ap (λ (p : ℕ). p % h .count) its-place ∙ mul-add-mod-self-right number (h .count) named ∙ mod-eq-of-lt (m .inside)
+
+    -- it is not negative, a multiple of 4 and not past the last entity
+    points : pointsAtField h e (getD pointed c 0) ≡ true
+    points =
+        let positive : not (negative (getD pointed c 0)) ≡ true = rw (the-pointer, lt-leb 2147483648 (place * 4) (omega (arith, m .in-range))) in
+        let fourth : getD pointed c 0 % 4 ≡ 0 = ap (λ (p : ℕ). p % 4) the-pointer ∙ mul-mod-left place 4 in
+        let owner : place / h .count < e .count =
+        (div-lt-iff-lt-mul {k = h .count} {x = place} {y = e .count} (omega (arith, m .inside)) .1 (entity-cell (e .count) (h .count) number named (m .there) (m .inside)))
+        in
+        and-both (not (negative (getD pointed c 0)) && eqb (getD pointed c 0 % 4) 0) _ (and-both _ _ positive (eq-eqb _ 0 fourth))
+        (rw its-place (lt-ltb (place / h .count) (e .count) owner))
+
+    -- a store through it is refused for nothing but its third operand, its value and the field's type and cells: never 32, 16 or 15 for the pointer
+    store-passes : u ≡ 0 → All (readAccess g (mustBeNatural t) t s pointed) → All (fieldAccess h t named)
+        → not (eqb t string && negative (getD pointed s 0)) ≡ true → All (storesPEffect t g h e s c u pointed .conditions)
+    unfolding storesPEffect
+    store-passes none value-passes field-passes natural =
+        let p = getD pointed c 0 in
+        let value = readAccess g (mustBeNatural t) t s pointed in
+        let read = unused u ++ value in
+        let there : Conditions = (pointsAtField h e p otherwise 32) ∷ [] in
+        let fa = fieldAccess h t (p / 4 % h .count) in
+        all-both (read ++ access g pointer c ++ there ++ fa) _
+        (all-both (read ++ access g pointer c ++ there) fa
+        (all-both (read ++ access g pointer c) there
+        (all-both read (access g pointer c) (all-both (unused u) value (eq-eqb u 0 none, tt) value-passes) (m .writes-pointer))
+        (points, tt))
+        (subst (λ (f : ℕ). All (fieldAccess h t f)) (sym its-field) field-passes))
+        (natural, tt)
+
+  -- demand 1's acceptance, of a store through the pointer that an accepted Address made
+  pub store-accepted : g .count ≤ length cells → All (addressesEffect g h e a b c cells .conditions) → u ≡ 0
+      → All (readAccess g (mustBeNatural t) t s pointed) → All (fieldAccess h t (getD cells b 0)) → not (eqb t string && negative (getD pointed s 0)) ≡ true
+      → All (storesPEffect t g h e s c u pointed .conditions)
+  store-accepted enough pointing = store-passes enough (addressable g h e a b c cells pointing)
 
   -- what the store was accepted for
   record Passed : Type 0 where
@@ -158,24 +228,14 @@ module _ (t : ℕ) (g h : Typing) (e : Entities) (o : Operands) (cells : List �
     unfolding addressesEffect
     same-field = getD-set-other cells c b _ 0 (apart .from-field)
 
-    the-pointer : getD pointed c 0 ≡ place * 4
-    unfolding addressesEffect
-    the-pointer = getD-set-same cells c _ 0 (omega (arith, access-last g pointer c (m .writes-pointer), apart .cells-enough))
-
-    its-place : getD pointed c 0 / 4 ≡ place
-    its-place = ap (λ (p : ℕ). p / 4) the-pointer ∙ mul-div-cancel place (omega arith)
-
-    its-field : getD pointed c 0 / 4 % h .count ≡ named
-    its-field = ap (λ (p : ℕ). p % h .count) its-place ∙ mul-add-mod-self-right number (h .count) named ∙ mod-eq-of-lt (m .inside)
-
     field-passes : All (fieldAccess h t named)
-    field-passes = subst (λ (f : ℕ). All (fieldAccess h t f)) its-field (z .field-of)
+    field-passes = subst (λ (f : ℕ). All (fieldAccess h t f)) (its-field (apart .cells-enough) m) (z .field-of)
 
     -- what the store wrote: the value, at the place of the field
     store-wrote : Written (e .cells) (stored .cells) pointed s place (widthOf t)
     unfolding storesPEffect
     store-wrote =
-        subst (λ (i : ℕ). Written (e .cells) (valueMoved t pointed s (e .cells) (getD pointed c 0 / 4)) pointed s i (widthOf t)) its-place
+        subst (λ (i : ℕ). Written (e .cells) (valueMoved t pointed s (e .cells) (getD pointed c 0 / 4)) pointed s i (widthOf t)) (its-place (apart .cells-enough) m)
         (moved-written t pointed s (e .cells) (getD pointed c 0 / 4))
 
     at-most : (i : ℕ) → i < widthOf t → place + i < length (e .cells)
@@ -240,9 +300,17 @@ module _ (t : ℕ) (g h : Typing) (e : Entities) (o : Operands) (cells : List �
   pub round-trip : Apart → All (addressesEffect g h e a b c cells .conditions) → All (storesPEffect t g h e s c u pointed .conditions) → All (access g t d)
       → All (reloaded .conditions) × ((i : ℕ) → i < widthOf t → getD (reloaded .cells) (d + i) 0 ≡ getD pointed (s + i) 0)
   round-trip apart pointing storing destination =
-      let m = made pointing in
+      let m = addressable g h e a b c cells pointing in
       let z = passed storing in
       (reload-accepted apart m z destination, reload-value apart m z destination)
+
+  -- and where the value, the field and the destination pass, all three are accepted
+  pub all-accepted : Apart → All (addressesEffect g h e a b c cells .conditions) → u ≡ 0 → All (readAccess g (mustBeNatural t) t s pointed)
+      → All (fieldAccess h t (getD cells b 0)) → not (eqb t string && negative (getD pointed s 0)) ≡ true → All (access g t d)
+      → All (storesPEffect t g h e s c u pointed .conditions) × All (reloaded .conditions)
+  all-accepted apart pointing none value-passes field-passes natural destination =
+      let storing = store-accepted (apart .cells-enough) pointing none value-passes field-passes natural in
+      (storing, round-trip apart pointing storing destination .0)
 
 -- ---- the same of three statements that a machine completes one after the other
 
@@ -285,6 +353,46 @@ module _ (file : List ℕ) (c c′ : Config) (st : Statement) (is : at file (c .
       let parts = provided-steps (programOf file) (x .conditions) _ c c′ e in
       let f = parts .1 in
       (parts .0, cc)
+
+-- ---- an Address that a machine completes
+
+module _ (file : List ℕ) (c : Config) (thirty : at file (c .state .pc) .opcode ≡ 30) where
+  abbrev st : Statement
+  st = at file (c .state .pc)
+
+  abbrev tables : Tables
+  tables = tablesOf (contentsOf file)
+
+  abbrev made : Effect
+  made = addressesEffect (tables .globals) (tables .fields) (entitiesOf c) (cellOf (st .arg1)) (cellOf (st .arg2)) (cellOf (st .arg3)) (c .cells)
+
+  is-address : shapeOf (st .opcode) ≡ addresses
+  unfolding shapeOf opcodes
+  is-address = rw thirty
+
+  -- what its operands must be
+  abbrev pub AddressPasses : Type 0
+  AddressPasses = Addressable (tables .globals) (tables .fields) (entitiesOf c) (cellOf (st .arg1)) (cellOf (st .arg2)) (cellOf (st .arg3)) (c .cells)
+
+  -- the configuration after it: the pointer is in its third operand's cell, and the position is the next
+  abbrev pub afterAddress : Config
+  afterAddress =
+      let number = getD (c .cells) (cellOf (st .arg1)) 0 in
+      let named = getD (c .cells) (cellOf (st .arg2)) 0 in
+      advanced c (c .state .pc +ℤ pos 1) (set (c .cells) (cellOf (st .arg3)) ((number * tables .fields .count + named) * 4)) (c .entities)
+
+  -- it completes where they are so
+  pub address-completes : All (programOf file .fetching (c .state .pc)) → AddressPasses → step (programOf file) c ≡ completed afterAddress
+  unfolding step stepAs programAt doesAt execute addressesEffect
+  address-completes fetched passes =
+      rw (judge-all (fetchConditions (contentsOf file .statements) (c .state .pc)) fetched, is-address, judge-all (made .conditions) (addressable-all _ _ _ _ _ _ _ passes))
+
+  -- and only there
+  pub address-only : (c′ : Config) → step (programOf file) c ≡ completed c′ → AddressPasses × (c′ ≡ afterAddress)
+  unfolding addressesEffect
+  address-only c′ completes =
+      let done = effect-step file c c′ st refl completes made (executed-step file c c′ st refl completes addresses is-address) in
+      (addressable _ _ _ _ _ _ _ (done .0), done .1)
 
 -- what a load was accepted for: its destination
 load-destination : (t : ℕ) (g h : Typing) (e : Entities) (a b d : ℕ) (cells : List ℕ) → All (loadsEffect t g h e a b d cells .conditions) → All (access g t d)
