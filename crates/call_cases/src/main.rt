@@ -140,13 +140,13 @@ fn perform_all(
     perform_lists(text, file, cells, store, entities);
 }
 
-// A file has at most one byte more than a load accepts, and at most one cell more. No case lends more entity cells.
+// A file has at most one byte more than a load accepts, and at most one cell more. No case of the model lends more entity cells, those of single statements included.
 fn main() {
     let mut text = [0u8; 524288];
     let mut file = [0u8; LONGEST_FILE + 1];
     let mut cells = [0u32; MOST_CELLS + 1];
     let mut store = [0u32; 2100];
-    let mut entities = [0u32; 63105];
+    let mut entities = [0u32; 65540];
     let n = io::read_full(STDIN_FILENO, &mut text);
     perform_all(&text[..n], &mut file, &mut cells, &mut store, &mut entities);
 }
