@@ -1,7 +1,7 @@
-/* pr_loop PROGRAM FUNCTION: runs a function of a QuakeC program file to its end, in the manner of pr_exec.c: one switch over the
-   opcodes, an array of cells, a stack of frames, saved locals. It checks nothing: no types, no addresses, no depths, no limit. So it
-   is no machine to use, but a lower bound for one. Of the opcodes those are here that need no world. Prints the number of statements
-   and cells 1 to 3. */
+/* pr_loop PROGRAM FUNCTION [ENTITIES]: runs a function of a QuakeC program file to its end, in the manner of pr_exec.c: one switch over
+   the opcodes, an array of cells, a stack of frames, saved locals, and entities of zeros (none if not said). It checks nothing: no types,
+   no addresses, no entities, no depths, no limit. So it is no machine to use, but a lower bound for one. Of the opcodes those are here
+   that need no host. Prints the number of statements and cells 1 to 3. */
 
 #include <math.h>
 #include <stdint.h>
@@ -30,6 +30,8 @@ typedef struct { const statement *s; const function *f; } frame;
 static const statement *statements;
 static const function *functions;
 static cell *globals;
+static cell *entities;
+static int per_entity;
 
 static frame stack[DEPTH];
 static int depth;
@@ -37,7 +39,7 @@ static cell saved_locals[SAVED];
 static int saved;
 static const function *current;
 
-/* the builtins that need no world */
+/* the builtins that need no host */
 static float rounded(int builtin, float x)
 {
     switch (builtin) {
@@ -53,6 +55,17 @@ static float rounded(int builtin, float x)
         fprintf(stderr, "pr_loop: builtin %d\n", builtin);
         exit(1);
     }
+}
+
+static cell *field(const cell *entity, const cell *place)
+{
+    return &entities[entity->i * per_entity + place->i];
+}
+
+/* where a pointer, which counts bytes, points to */
+static cell *target_of(const cell *pointer)
+{
+    return (cell *)((char *)entities + pointer->i);
 }
 
 static const statement *enter(const function *f, const statement *recorded)
@@ -134,6 +147,11 @@ static long run(int number)
         case NOT_F: c->f = a->f == 0; break;
         case NOT_V: c->f = a[0].f == 0 && a[1].f == 0 && a[2].f == 0; break;
         case NOT_S: case NOT_ENT: case NOT_FNC: c->f = a->i == 0; break;
+        case LOAD_F: case LOAD_S: case LOAD_ENT: case LOAD_FLD: case LOAD_FNC: *c = *field(a, b); break;
+        case LOAD_V: memcpy(c, field(a, b), 3 * sizeof *c); break;
+        case ADDRESS: c->i = (int32_t)((char *)field(a, b) - (char *)entities); break;
+        case STOREP_F: case STOREP_S: case STOREP_ENT: case STOREP_FLD: case STOREP_FNC: *target_of(b) = *a; break;
+        case STOREP_V: memcpy(target_of(b), a, 3 * sizeof *a); break;
         case STORE_F: case STORE_S: case STORE_ENT: case STORE_FLD: case STORE_FNC: b->i = a->i; break;
         case STORE_V:
             b[0] = a[0];
@@ -171,7 +189,7 @@ static long run(int number)
                 return count;
             continue;
         default:
-            fprintf(stderr, "pr_loop: opcode %d needs a world\n", s->op);
+            fprintf(stderr, "pr_loop: opcode %d needs a host\n", s->op);
             exit(1);
         }
         s++;
@@ -187,9 +205,9 @@ static void *lump(const char *file, int32_t offset, int32_t count, size_t size)
 
 int main(int count, char **words)
 {
-    FILE *in = count == 3 ? fopen(words[1], "rb") : NULL;
+    FILE *in = count == 3 || count == 4 ? fopen(words[1], "rb") : NULL;
     if (!in) {
-        fprintf(stderr, "pr_loop PROGRAM FUNCTION\n");
+        fprintf(stderr, "pr_loop PROGRAM FUNCTION [ENTITIES]\n");
         return 2;
     }
     static char file[1 << 20];
@@ -200,6 +218,8 @@ int main(int count, char **words)
     statements = lump(file, header[2], header[3], sizeof(statement));
     functions = lump(file, header[8], header[9], sizeof(function));
     globals = lump(file, header[12], header[13], sizeof(cell));
+    per_entity = header[14];
+    entities = calloc((count == 4 ? atoi(words[3]) : 0) * per_entity + 1, sizeof(cell));
     printf("%ld", run(atoi(words[2])));
     for (int i = 0; i < 3; i++)
         printf(",%08x", (unsigned)globals[RETURNED + i].i);

@@ -11,21 +11,26 @@ import model  # noqa: E402
 ONE, COUNT, LIMIT, GOES_ON, SUM, PRODUCT, CALLED = 40, 41, 42, 43, 44, 45, 46
 VELOCITY, POSITION, STEP = 51, 54, 57
 HALF = 47
+# four cells with the numbers of entities, a field's place, and pointers
+ENTITY, FIELD, POINTER = 51, 55, 56
+# how many entities the programs over fields are given
+ENTITIES = 5
 
 
 def cell(value):
     return model.nearest(model.Fraction(value))
 
 
-def loop(body, turns, functions=(), more=(), definitions=(), cells=None):
+def loop(body, turns, functions=(), more=(), definitions=(), cells=None, before=(), after=()):
     """The body so many times, counted and compared, in function 1; the result is SUM and the two cells after it."""
     size = len(body) + 2
-    statements = [("Done",)] + list(body) + [
+    statements = [("Done",), *before, *body,
         ("AddF", COUNT, ONE, COUNT),
         ("Lt", COUNT, LIMIT, GOES_ON),
         ("If", GOES_ON, -size),
+        *after,
         ("Return", SUM),
-    ] + list(more)
+        *more]
     values = {ONE: cell(1), COUNT: 0, LIMIT: cell(turns), PRODUCT: cell(3), CALLED: 2, **(cells or {})}
     return bytes(model.Assembly(
         statements=statements,
@@ -72,6 +77,33 @@ def floors(turns):
     return loop(body, turns, functions=[model.function(first=-37, arguments=-1)], cells={HALF: cell(model.Fraction(1, 2))})
 
 
+def over_entities(body, turns, before=(), after=()):
+    """A loop over a field of four entities, 1 to 4."""
+    entities = {ENTITY + i: i + 1 for i in range(4)}
+    return loop(body, turns, cells={FIELD: 49, **entities}, before=before, after=after)
+
+
+def field_reads(turns):
+    """Four reads and a sum; before the loop each entity's field is set."""
+    before = [statement for i in range(4) for statement in (("Address", ENTITY + i, FIELD, POINTER), ("StorePF", ONE, POINTER))]
+    body = [("LoadF", ENTITY + i, FIELD, 47 + i) for i in range(4)] + [("AddF", SUM, 48, SUM)]
+    return over_entities(body, turns, before=before)
+
+
+def field_writes(turns):
+    """A pointer is made and written through, for each of four entities; after the loop one is read."""
+    body = [statement for i in range(4) for statement in (("Address", ENTITY + i, FIELD, POINTER), ("StorePF", COUNT, POINTER))]
+    return over_entities(body, turns, after=[("LoadF", ENTITY + 3, FIELD, SUM)])
+
+
+def field_sums(turns):
+    """A read, a sum and a write, for each of two entities, as in `e.frags = e.frags + 1`."""
+    body = []
+    for i in range(2):
+        body += [("LoadF", ENTITY + i, FIELD, 47), ("AddF", 47, ONE, 47), ("Address", ENTITY + i, FIELD, POINTER), ("StorePF", 47, POINTER)]
+    return over_entities(body, turns, after=[("LoadF", ENTITY + 1, FIELD, SUM)])
+
+
 def rule_file(turns):
     """tests/rules/ball.dat, as fteqcc compiled it, with the constant 9 of `left = 9` changed: 220 definitions, most of them
     before those of the cells that it uses."""
@@ -96,6 +128,24 @@ PROGRAMS = [
     ("a rule file of fteqcc, 220 definitions", rule_file, 50, 1000),
 ]
 
+# the same over entities, which the show program has none of
+ENTITY_PROGRAMS = [
+    ("field reads", field_reads, 1000, 12000),
+    ("field writes: Address and StorePF", field_writes, 700, 9000),
+    ("fields read, added to and written", field_sums, 700, 9000),
+]
+
+
+def answer(file, entities):
+    """What the show program would print with so many entities of zeros, by the model."""
+    entity_cells = [0] * (entities * model.read_header(file)[3])
+    machine = model.Machine(file, [0] * model.MOST_CELLS, [0] * model.MOST_SAVED, entity_cells)
+    machine.load(entities)
+    machine.enter(1)
+    answered, state = machine.run(0, model.MOST_STATEMENTS), machine.state
+    numbers = (answered.detail, answered.count, state.position, state.function, state.depth, state.saved)
+    return ",".join([answered.word, *map(str, numbers), *(f"{number:08x}" for number in machine.cells[1:4])])
+
 
 
 def function_of(*statements):
@@ -112,12 +162,21 @@ def calling_a_builtin():
     return function_of(("Call0", 28), ("Return", 1))
 
 
+def players():
+    """tests/rules/players.dat, as fteqcc compiled it: 134 field definitions, that of frags the 62nd."""
+    with open(os.path.join(ROOT, "tests", "rules", "players.dat"), "rb") as file:
+        return file.read()
+
+
 # name, what rust/host/examples/bench.rs is told to do, file, what it must print for a number of times
 OPERATIONS = [
     ("a call of a function that returns at once", "call", returning, lambda times: times),
     ("a call of a function that calls one builtin", "call", calling_a_builtin, lambda times: 2 * times),
     ("a raw read", "read", returning, lambda times: 2 * times),
     ("a raw write", "write", returning, lambda times: times - 1),
+    ("a field read by its definition", "field", players, lambda times: times),
+    ("a field written by its definition", "set_field", players, lambda times: times - 1),
+    ("a field read by its name, among 134", "named_field", players, lambda times: times),
 ]
 
 # how many times, to count instructions and to take the time

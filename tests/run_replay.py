@@ -5,8 +5,8 @@
     python3 tests/run_replay.py --write     writes the list of rust/host/tests/replay, with what the model prints for it
     python3 tests/run_replay.py --check     says whether the committed one is that
 
-REPLAY is the built program, as rust/host/target/debug/examples/replay. Lists of calls.txt that change a state's numbers
-can't be replayed, and are left out.
+REPLAY is the built program, as rust/host/target/debug/examples/replay. Lists of calls.txt that change a state's numbers, or
+entity cells between calls, can't be replayed, and are left out.
 """
 import os
 import struct
@@ -29,6 +29,8 @@ RANDOM_LISTS = 300
 EDGES = [-2**64, -2**63, -2**31 - 1, -1, 0, 30, 31, 63, 64, 2048, 100000, 2**31 - 1, 2**31, 2**32, 2**32 + 1, 2**63 - 1, 2**64]
 # what calls.txt calls otherwise
 NAMES = {"get": "read", "put": "write", "byte": "poke"}
+# what only calls.txt has; its `lend` is of entity cells alone
+LEFT_OUT = ("field", "lend", "eput")
 
 
 def digest(data):
@@ -84,9 +86,9 @@ class Lent:
             return None
         if name != "load" and not self.loaded:
             return line + " => no state"
-        machine = model.Machine(bytearray(self.program[:self.length]), self.cells, self.saved)
+        machine = model.Machine(bytearray(self.program[:self.length]), self.cells, self.saved, self.entity_cells)
         if name == "load":
-            answer = self.load(machine)
+            answer = self.load(machine, *given)
         else:
             machine.state = self.state
             if name == "write":
@@ -95,8 +97,8 @@ class Lent:
             self.state = machine.state
         return "%s => %s | %s" % (line, answer, self.shown())
 
-    def load(self, machine):
-        answer = machine.load()
+    def load(self, machine, entities):
+        answer = machine.load(entities)
         if answer.word == "refused":
             return "refused %d" % answer.detail
         self.loaded, self.state = True, machine.state
@@ -131,30 +133,31 @@ def expected(program, lines):
 
 
 def lists():
-    """The program and the calls of each list of calls.txt."""
-    program, calls = None, []
+    """The program and the calls of each list of calls.txt; no calls where one of them can't be replayed."""
+    program, calls, left_out = None, [], False
     for line in lines_of("calls.txt"):
         name, *words = line.split(" ")
         if name == "new":
             if program is not None:
-                yield program, calls
-            program = bytes_of(words[2], words[3])
-            calls = ["lend %s %s 3" % (words[0], words[1])]
+                yield program, [] if left_out else calls
+            program, left_out = bytes_of(words[3], words[4]), False
+            calls = ["lend %s %s %s" % (words[0], words[1], words[2])]
             continue
-        call = [NAMES.get(name, name)] + words[:words.index("=")]
-        calls.append("load 0" if name == "load" else " ".join(call))
-    yield program, calls
+        left_out = left_out or name in LEFT_OUT
+        calls.append(" ".join([NAMES.get(name, name)] + words[:words.index("=")]))
+    yield program, [] if left_out else calls
 
 
 def fixed_list():
     """A program and calls that reach each kind of answer, and each change of what is lent."""
     f = model.function
     program = model.Assembly(
-        statements=[("Done",), ("AddF", 28, 29, 30), ("Call0", 40), ("LoadF", 28, 28, 31), ("Call0", 41), ("Return", 30),
-                    ("AddF", 28, 33, 30), ("Goto", 0)],
-        functions=[f(), f(1, 30, 2), f(-7, arguments=-1), f(5, 44, 1), f(6), f(7)],
+        statements=[("Done",), ("AddF", 28, 29, 30), ("Call0", 40), ("State", 28, 28, 31), ("Call0", 41), ("Return", 30),
+                    ("AddF", 28, 33, 30), ("Goto", 0), ("LoadF", 50, 51, 52), ("Address", 50, 51, 53), ("StorePF", 28, 53),
+                    ("Return", 52)],
+        functions=[f(), f(1, 30, 2), f(-7, arguments=-1), f(5, 44, 1), f(6), f(7), f(8)],
         definitions=[(model.STRING, 33)],
-        cells={28: 0x3FC00000, 29: 0x40100000, 40: 2, 41: 3},
+        cells={28: 0x3FC00000, 29: 0x40100000, 40: 2, 41: 3, 50: 1, 51: 104},
     )
     data = program.bytes()
     calls = """
@@ -204,7 +207,7 @@ def fixed_list():
         abandon 1
         abandon 0
         enter 2
-        enter 6
+        enter 7
         enter -9223372036854775808
         statement
         statement
@@ -272,6 +275,41 @@ def fixed_list():
         load 0
         file %d
         statement
+        lend 64 2048 211
+        load 2
+        enter 6
+        run 0 9
+        enter 6
+        statement
+        lend 64 2048 209
+        statement
+        lend 64 2048 210
+        write 50 1
+        write 51 105
+        statement
+        write 51 104
+        run 0 1
+        read 53
+        write 53 840
+        statement
+        write 53 418
+        run 0 1
+        write 53 836
+        run 0 1
+        load 3
+        load -1
+        load 601
+        load 1
+        enter 6
+        statement
+        lend 64 2048 63000
+        load 600
+        enter 6
+        run 0 3
+        abandon 0
+        load 0
+        enter 6
+        statement
     """ % (len(data) - 1, len(data) + 40, len(data), len(data), len(data), len(data))
     return data, [line.strip() for line in calls.strip().splitlines()]
 
@@ -295,7 +333,7 @@ def random_call(chance, length):
         return "write %d %d" % (28 + chance.below(40), chance.draw())
     if kind < 94:
         return "poke %d %d" % (60 + chance.below(max(1, length - 60)), chance.below(256))
-    return chance.pick(["load 0", "lend 64 2048 2", "lend 66 2050 0", "lend 63 2048 1", "lend 64 2047 0", "file %d" % length,
+    return chance.pick(["load 0", "load 2", "load -1", "lend 64 2048 2", "lend 64 2048 315", "lend 66 2050 210", "lend 66 2050 0", "lend 63 2048 1", "lend 64 2047 0", "file %d" % length,
                         "file %d" % max(0, length - 1), "file %d" % (length + 1), "poke 4 0", "poke 4 39",
                         "poke %d %d" % (chance.below(60), chance.below(256))])
 
@@ -303,7 +341,7 @@ def random_call(chance, length):
 def edged(chance, call):
     """A call, now and then with a number at an edge."""
     name, *numbers = call.split()
-    if numbers and name in ("enter", "run", "abandon", "read", "write") and chance.below(12) == 0:
+    if numbers and name in ("enter", "run", "abandon", "read", "write", "load") and chance.below(12) == 0:
         numbers[chance.below(len(numbers))] = str(chance.pick(EDGES))
     return " ".join([name, *numbers])
 
@@ -325,9 +363,11 @@ def random_lists():
     """Programs of the model's case makers, each with calls made by chance from a fixed seed."""
     for seed in range(1, RANDOM_LISTS + 1):
         chance = Xorshift(seed * 2654435761 % 2**32)
-        program = damaged(chance, random_program(chance, hosts=True).bytes())
-        lend = "lend %d %d 1" % (64 + chance.below(8), 2048 + chance.below(4))
-        yield program, [lend, "load 0"] + [edged(chance, random_call(chance, len(program))) for _ in range(60)]
+        entities = chance.below(4)
+        program = damaged(chance, random_program(chance, hosts=True, entities=entities > 0).bytes())
+        lend = "lend %d %d %d" % (64 + chance.below(8), 2048 + chance.below(4), 105 * entities + chance.below(2))
+        load = "load %d" % entities
+        yield program, [lend, load] + [edged(chance, random_call(chance, len(program))) for _ in range(60)]
 
 
 def committed():
@@ -361,7 +401,7 @@ def run(replay, program, calls):
 def compare(replay):
     counted, left_out, differ = 0, 0, 0
     for program, calls in [fixed_list()] + list(lists()) + list(random_lists()):
-        if any(call.startswith("field ") for call in calls):
+        if not calls:
             left_out += 1
             continue
         got, wanted = run(replay, program, calls), expected(program, calls)

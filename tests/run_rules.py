@@ -2,8 +2,10 @@
 """Runs the rule files of tests/rules, compiled by fteqcc, on the built show program and on the model (tests/model), and compares
 both with what was worked out by hand. After `rt check show`:
 
-    python3 tests/run_rules.py              runs and compares; also whether tests/rules/expected.txt is what the model gives
-    python3 tests/run_rules.py --write      writes tests/rules/expected.txt, from the model; needs no show program
+    python3 tests/run_rules.py              runs and compares; also whether expected.txt and players.txt of tests/rules are what the model gives
+    python3 tests/run_rules.py --write      writes them, from the model; needs no show program
+
+The match of players.dat, whose players are entities, is played on the model and in plain Python (tests/players_match.py), which takes 20 seconds.
 
 Counts by hand are from the statements that fteqcc makes of the sources, as pairs of how often and how many.
 """
@@ -14,7 +16,9 @@ import sys
 
 ROOT = os.path.dirname(os.path.dirname(os.path.abspath(__file__)))
 sys.path.insert(0, os.path.join(ROOT, "tests", "model"))
+sys.path.insert(0, os.path.join(ROOT, "tests"))
 import model  # noqa: E402
+import players_match  # noqa: E402
 
 RULES = os.path.join(ROOT, "tests", "rules")
 SHOW = os.path.join(ROOT, "target", "bin", "show")
@@ -27,7 +31,9 @@ LINES = {
     "cup.dat": "ended,0,284,0,0,0,0,40a00000,40000000,40e00000",
     # the position stays at the statement that is handed over or refused; saved are goal's four local cells
     "toss.dat": "builtin,7,3,4,1,1,0,00000000,00000000,00000000",
-    "captain.dat": "opcode,24,2,3,1,1,0,00000000,00000000,00000000",
+    "captain.dat": "refused,30,2,3,1,1,0,00000000,00000000,00000000",
+    # the Address of self.classname finds no entity
+    "players.dat": "refused,30,2,3,1,1,0,00000000,00000000,00000000",
     "referee.dat": "refused,16,2,3,1,1,4,00000000,00000000,00000000",
     "shout.dat": "builtin,23,1,2,1,1,0,00000000,00000000,00000000",
     "shout_optimised.dat": "refused,16,0,1,1,1,0,00000000,00000000,00000000",
@@ -76,7 +82,10 @@ BY_HAND = [
     # one more is refused at the 31st Call: 30 that entered, and the four statements before it
     ("cup.dat", "orders", (32,), "refused:22", 30 * 5 + 4, {}),
     ("toss.dat", "toss", (), "builtin:7", 3, {"tosses": 1, "kick_off": 1}),
-    ("captain.dat", "captain_plays", (), "opcode:24", 2, {"armbands": 1}),
+    # AddF and StoreF; the LoadF finds no entity
+    ("captain.dat", "captain_plays", (), "refused:30", 2, {"armbands": 1}),
+    # AddF and StoreF; the Address finds no entity
+    ("players.dat", "ClientConnect", (), "refused:30", 2, {"player_count": 1}),
     # AddF and StoreF, then the IfNot is refused
     ("referee.dat", "goal", (Text(19),), "refused:16", 2, {"goals": 1, "named": 0}),
     # AddF, StoreF, NotS, IfNot, Return; with a name AddF, StoreF and Done in place of Return
@@ -156,24 +165,31 @@ def rows():
     return lines, differ
 
 
-def main():
+def written():
+    """What tests/rules has from the model, by file; and in how many rows the model differs from what was worked out by hand."""
     lines, differ = rows()
-    expected = os.path.join(RULES, "expected.txt")
+    return {"expected.txt": lines, "players.txt": players_match.play()}, differ
+
+
+def main():
+    files, differ = written()
     if "--write" in sys.argv:
-        with open(expected, "w", encoding="ascii") as file:
-            file.writelines(lines)
+        for name, lines in files.items():
+            with open(os.path.join(RULES, name), "w", encoding="ascii") as file:
+                file.writelines(lines)
         sys.exit(differ != 0)
-    with open(expected, encoding="ascii") as file:
-        if file.readlines() != lines:
-            differ += 1
-            print("tests/rules/expected.txt isn't what the model gives: python3 tests/run_rules.py --write")
+    for name, lines in files.items():
+        with open(os.path.join(RULES, name), encoding="ascii") as file:
+            if file.readlines() != lines:
+                differ += 1
+                print(f"tests/rules/{name} isn't what the model gives: python3 tests/run_rules.py --write")
     for name, line in LINES.items():
         shown = subprocess.run([SHOW], input=content(name), capture_output=True, check=True).stdout.decode()
         for who, got in ("show", shown), ("the model", model.show(content(name)) + "\n"):
             if got != line + "\n":
                 differ += 1
                 print(f"{name}: {who} says {got!r}, by hand it is {line!r}")
-    print(f"{len(LINES)} rule files, {len(lines)} functions, {differ} differ")
+    print(f"{len(LINES)} rule files, {len(files['expected.txt'])} functions, {len(files['players.txt'])} lines of a match, {differ} differ")
     sys.exit(differ != 0)
 
 

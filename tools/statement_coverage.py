@@ -12,16 +12,20 @@ from fractions import Fraction
 import statement_vectors
 
 INFINITY = 0x7F800000
-HOST = {*range(24, 31), *range(37, 43), 60}
+HOST = {60}
 INSIDE = (36, 37, 38, 43)
 STORES, STORE_V, STRING_PAIRS, GOTO = range(31, 37), 32, (12, 17), 61
-# what the operands are: f float, v vector, s string, e entity, d field, c function, 0 unused and 0, - not looked at
+# R-3's: loads of a field, Address, stores through a pointer
+LOADS, ADDRESS, STORES_P = range(24, 30), 30, range(37, 43)
+FIELD_OPCODES = (*LOADS, ADDRESS, *STORES_P)
+# what the operands are: f float, v vector, s string, e entity, d field, c function, p pointer, 0 unused and 0, - not looked at
 KINDS = {1: 'fff', 2: 'vvf', 3: 'fvv', 4: 'vfv', 5: 'fff', 6: 'fff', 7: 'vvv', 8: 'fff', 9: 'vvv',
          10: 'fff', 11: 'vvf', 12: 'ssf', 13: 'eef', 14: 'ccf', 15: 'fff', 16: 'vvf', 17: 'ssf', 18: 'eef', 19: 'ccf',
          20: 'fff', 21: 'fff', 22: 'fff', 23: 'fff', 31: 'ff0', 32: 'vv0', 33: 'ss0', 34: 'ee0', 35: 'dd0', 36: 'cc0',
          44: 'f0f', 45: 'v0f', 46: 's0f', 47: 'e0f', 48: 'c0f', 49: 'f--', 50: 'f--', 62: 'fff', 63: 'fff', 64: 'fff',
-         65: 'fff', **{op: 'c--' for op in range(51, 60)}}
-TYPES = dict(s=1, f=2, v=2, e=4, d=5, c=6)
+         65: 'fff', **{op: 'c--' for op in range(51, 60)}, **{op: 'ed' + kind for op, kind in zip(range(24, 31), 'fvsedcp')},
+         **{op: kind + 'p0' for op, kind in zip(STORES_P, 'fvsedc')}}
+TYPES = dict(s=1, f=2, v=2, e=4, d=5, c=6, p=7)
 ARITHMETIC = {1: 'mul', 3: 'mul', 4: 'mul', 5: 'div', 6: 'add', 7: 'add', 8: 'sub', 9: 'sub'}
 BITS = (64, 65)
 VECTORS = (3, 4, 7, 9)
@@ -81,7 +85,7 @@ class Case:
 
     def floats_read(self):
         """The floats that a statement which is no Store computes with."""
-        if not self.accepted or self.vector.opcode in STORES:
+        if not self.accepted or self.vector.opcode in (*STORES, *FIELD_OPCODES):
             return []
         return [self.cell(at) for index in (0, 1) if index != self.written for at in self.floats_of(index)]
 
@@ -153,9 +157,35 @@ class Case:
 
     def faults(self):
         found = [number for number in map(self.fault, range(3)) if number]
-        # a Call, whose operand may be fine, is refused for its function too
-        assert self.kinds in ('---', 'c--') or (self.vector.number in found if self.vector.word == 'refused' else not found)
+        # a Call, whose operand may be fine, is refused for its function too, and R-3's for what their operands name
+        if self.kinds not in ('---', 'c--'):
+            refused = self.vector.word == 'refused'
+            assert not found if not refused else self.vector.number in found or not found and self.vector.opcode in FIELD_OPCODES
         return found
+
+    # ---- R-3
+
+    def refused_after_operands(self, *numbers):
+        """Refused for the entity, the field cell, the pointer or what is moved."""
+        return self.vector.opcode in FIELD_OPCODES and self.vector.refused(*numbers) and not self.faults()
+
+    def named_field(self):
+        """The field cell that a load or a store through a pointer names first."""
+        if self.vector.opcode in LOADS:
+            return self.cell(self.vector.b)
+        return self.cell(self.vector.b) // 4 % self.vector.file.per_entity
+
+    def field_types(self):
+        """The types of the field definitions for that cell, in file order."""
+        offset, count = struct.unpack_from('<2i', self.vector.file.bytes, 24)
+        changed, field = self.bytes(), self.named_field()
+        found = [struct.unpack_from('<2H', changed, offset + 8 * i) for i in range(count)]
+        return [kind % 32768 for kind, at in found if at == field]
+
+    def vector_leaves(self):
+        """A vector's first field cell is there, and another not."""
+        last = self.vector.file.per_entity - 1
+        return self.vector.opcode in (25, 38) and last - 1 <= self.named_field() <= last
 
 
 def cases():
@@ -219,6 +249,17 @@ ROWS = [
     ('a Call: 19, 20, 5, a builtin', lambda c: c.vector.refused(19, 20, 5) or c.vector.word == 'builtin'),
     ('a Call of rint, floor, ceil or fabs, done inside', lambda c: inside(c) and c.accepted),
     ('such a Call, refused 16 for cell 4 or cell 1', lambda c: inside(c) and c.vector.refused(16) and not c.faults()),
+    ('a field is loaded', lambda c: c.accepted and c.vector.opcode in LOADS),
+    ('a pointer is made', lambda c: c.accepted and c.vector.opcode == ADDRESS),
+    ('a field is written through a pointer', lambda c: c.accepted and c.vector.opcode in STORES_P),
+    ('refused 30: an entity not below the number', lambda c: c.refused_after_operands(30)),
+    ('refused 32: a pointer', lambda c: c.refused_after_operands(32)),
+    ('refused 16 by field definition', lambda c: c.refused_after_operands(16)),
+    ('refused 31: a field cell not below the cells per entity', lambda c: c.refused_after_operands(31)),
+    ('of these a vector that would leave its entity', lambda c: c.refused_after_operands(31) and c.vector_leaves()),
+    ('refused 17: a negative string, entity or field moved', lambda c: c.refused_after_operands(17)),
+    ('a void field definition before another', lambda c: c.vector.opcode in (*LOADS, *STORES_P) and 0 in c.field_types()[:-1]),
+    ('600 entities', lambda c: c.vector.entities == 600),
 ]
 
 

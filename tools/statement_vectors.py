@@ -8,9 +8,14 @@ A line is a letter and two numbers of eight hexadecimal digits:
     f LENGTH 0   a file of that many bytes, all zeros
     b PLACE WORD four bytes of the file from that place on, the lowest first
     c CELL VALUE the cell holds the value
+    n E L        there are E entities and L lent entity cells, all zeros; without this line there are none of either
+    e INDEX VALUE the lent entity cell holds the value
     w CELL VALUE the cell is to hold the value after the statement; every other cell what it held before
+    x INDEX VALUE the lent entity cell is to hold the value after the statement; every other one what it held before
     r KIND N     the statement at position 0 is fetched and executed, and its answer held against KIND and N; then all
-                 cells are zeros again
+                 cells are zeros again, and there are no entities and no lent entity cells
+
+They come in this order; `b` also follows `r`, where bytes are to be as they were.
 
 The kinds are those of `Executed`: 0 the run goes on at N, as a signed number of 16 bits, 1 a Call of function N, 2 a
 Return of the cells from N on, 3 refused with N, 4 the builtin N is handed over, 5 the opcode N is handed over.
@@ -38,6 +43,7 @@ class File:
         # loading gives the cells of the file, and entering a function moves some: here all of them are zeros
         offset, count = struct.unpack_from('<2i', self.bytes, 48)
         assert count == self.count and not any(self.bytes[offset:offset + 4 * count])
+        self.per_entity, = struct.unpack_from('<i', self.bytes, 56)
 
 
 class Vector:
@@ -49,8 +55,11 @@ class Vector:
         self.opcode, self.a, self.b, self.c = (int(next(given)) for _ in range(4))
         self.pokes = pairs(given)
         self.cells = dict(pairs(given))
+        self.entities, self.lent = int(next(given)), int(next(given))
+        self.entity_cells = dict(pairs(given))
         self.number, self.position, self.function, self.depth, self.saved = (int(next(expected)) for _ in range(5))
         self.changed = pairs(expected)
+        self.entity_changes = pairs(expected)
 
     def refused(self, *numbers):
         return self.word == 'refused' and self.number in numbers
@@ -125,8 +134,14 @@ def write_vector(v):
     write_words(changed, poked + [v.file.statements, v.file.statements + 4])
     for cell, value in v.cells.items():
         line('c', cell, value)
+    if v.entities or v.lent:
+        line('n', v.entities, v.lent)
+    for index, value in v.entity_cells.items():
+        line('e', index, value)
     for cell, value in v.written():
         line('w', cell, value)
+    for index, value in v.entity_changes:
+        line('x', index, value)
     line('r', *v.answer())
     write_words(v.file.bytes, poked)
 

@@ -2,11 +2,14 @@
 
 import struct
 from dataclasses import replace
+from functools import lru_cache
 
 from common import (
-    CHANCE_FLOATS, HALF, LEAST, MINUS_INFINITY, MINUS_ZERO, NEGATIVE_NAN, SIGNALLING_NAN, THREE, TWO,
-    Xorshift, flt, hex_of, numbers, random_program,
+    ANY_CALL, CHANCE_FLOATS, CURRENT, DEPTH, ENTITIES, FRAMES, HALF, LEAST, MINUS_INFINITY, MINUS_ZERO,
+    NEGATIVE_NAN, POSITION, SAVED, SIGNALLING_NAN, STATE_LENGTH, STATE_LUMPS, STATE_PER_ENTITY, THREE,
+    TWO, Xorshift, flt, hex_of, numbers, random_program,
 )
+from entity_calls import entity_calls
 from model import (
     CELLS, FIELD_DEFS, FLOAT, FUNCTION, FUNCTIONS, GLOBAL_DEFS, HOST_OPCODES, ONE, RECORD_SIZES,
     STATEMENTS, STRING, STRINGS, VECTOR, VOID, Answer, Assembly, Frame, Machine, function,
@@ -15,11 +18,8 @@ from model import (
 FNV_BASIS = 0xCBF29CE484222325
 FNV_PRIME = 0x100000001B3
 
-# `field N V` sets one number of the state
-STATE_LENGTH, STATE_LUMPS, STATE_ENTITY_CELLS = 0, 1, 13
-POSITION, CURRENT, DEPTH, SAVED, FRAMES = 14, 15, 16, 17, 18
 
-
+@lru_cache(maxsize=16)  # a refused call leaves what the one before it left
 def fnv(data):
     digest = FNV_BASIS
     for byte in data:
@@ -31,17 +31,18 @@ def digest_of(machine):
     text = "".join(f"{frame.position},{frame.function};" for frame in machine.state.frames)
     cells = b"".join(struct.pack("<I", cell) for cell in machine.cells)
     saved = b"".join(struct.pack("<I", cell) for cell in machine.saved_store)
-    return fnv(text.encode() + cells + saved)
+    entities = b"".join(struct.pack("<I", cell) for cell in machine.entity_cells)
+    return fnv(text.encode() + cells + saved + entities)
 
 
 def set_field(state, field, value):
     if field == STATE_LENGTH:
         return replace(state, length=value)
-    if field < STATE_ENTITY_CELLS:
+    if field < STATE_PER_ENTITY:
         lumps = list(state.lumps)
         lumps[field - STATE_LUMPS] = value
         return replace(state, lumps=tuple(lumps))
-    names = {13: "entity_cells", 14: "position", 15: "function", 16: "depth", 17: "saved"}
+    names = {13: "cells_per_entity", 14: "position", 15: "function", 16: "depth", 17: "saved", 80: "entities"}
     if field in names:
         return replace(state, **{names[field]: value})
     index, which = divmod(field - FRAMES, 2)
@@ -62,15 +63,16 @@ class Calls:
         self.cases = 0
         self.machine = None
 
-    def new(self, text, file, cells=64, saved=2048):
-        """Lent bytes, cells and saved store; the state is all zeros until a load."""
+    def new(self, text, file, cells=64, saved=2048, lent=0):
+        """Lent bytes, cells, saved store and entity cells; the state is all zeros until a load."""
         if isinstance(file, Assembly):
             file = file.bytes()
         cell_fill = [0xDEAD0000 + i for i in range(cells)]
         saved_fill = [0xBEEF0000 + i for i in range(saved)]
-        self.machine = Machine(bytearray(file), cell_fill, saved_fill)
+        entity_fill = [0xCAFE0000 + i for i in range(lent)]
+        self.machine = Machine(bytearray(file), cell_fill, saved_fill, entity_fill)
         self.cases += 1
-        self.lines += [f"# {text}", f"new {cells} {saved} {hex_of(file)}"]
+        self.lines += [f"# {text}", f"new {cells} {saved} {lent} {hex_of(file)}"]
 
     def do(self, call, expect=None):
         """One call; `expect` is the word or the refusal that was worked out by hand."""
@@ -88,6 +90,8 @@ class Calls:
             "put": machine.write,
             "byte": self._byte,
             "field": self._field,
+            "lend": self._lend,
+            "eput": self._eput,
         }[word](*given)
         if isinstance(expect, str):
             assert answer.word == expect, (call, answer, expect)
@@ -124,16 +128,18 @@ class Calls:
         self.machine.file[offset] = value
         return Answer("accepted")
 
+    def _lend(self, count, first):
+        self.machine.entity_cells = [(first + i) % 2**32 for i in range(count)]
+        return Answer("accepted")
+
+    def _eput(self, index, value):
+        self.machine.entity_cells[index] = value
+        return Answer("accepted")
+
     def _field(self, field, value):
         self.machine.state = set_field(self.machine.state, field, value)
         return Answer("accepted")
 
-
-# calls that each operation takes or refuses otherwise, all refused 13 where the state isn't coherent
-ANY_CALL = (
-    *("enter 1", "enter -1", "statement", "run 0 10", "run 0 0", "run -1 1", "carry"),
-    *("abandon 0", "abandon -1", "get 1", "get -1", "put 1 7", "put 64 7"),
-)
 
 # functions of the house
 OUTER, INNER, BUILTIN, ENDLESS, RECURSIVE, NEGATIVE_LOCALS, LARGE, NINE_ARGUMENTS = range(1, 9)
@@ -167,7 +173,7 @@ def house(**parts):
             ("Return", 40),
             ("MulF", 44, 28, 45),  # function 2
             ("Call0", 37),
-            ("LoadF", -1, 64, 5),
+            ("State", -1, 64, 5),
             ("Return", 44),
             ("Goto", 0),  # function 4
             ("AddF", 50, 28, 50),  # function 5
@@ -193,23 +199,23 @@ def local_place(number, field):
 
 def life_calls(c):
     c.new("a whole life: load, entry, run, hand-overs of both kinds, carrying on, the end", HOUSE, 70, 2050)
-    c.ok("load", "get 28", "enter 1")
+    c.ok("load 0", "get 28", "enter 1")
     answer = c.do("run 0 100", "builtin")
     assert answer == Answer("builtin", BUILTIN_7, 3)
     c.ok("put 1 1077936128", "carry")
-    assert c.do("run 0 100") == Answer("opcode", 24, 0)
+    assert c.do("run 0 100") == Answer("opcode", 60, 0)
     c.ok("carry")
     assert c.do("run 0 100") == Answer("ended", 0, 2)
-    c.ok("get 1", "get 2", "get 3", "get 40", "get 44", "load", "enter 1")
+    c.ok("get 1", "get 2", "get 3", "get 40", "get 44", "load 0", "enter 1")
     c.new("the same by single statements", HOUSE)
-    c.ok("load", "enter 1", "statement", "statement", "statement")
+    c.ok("load 0", "enter 1", "statement", "statement", "statement")
     c.word("builtin", "statement", "statement")
     c.ok("carry")
     c.word("opcode", "statement")
     c.ok("carry", "statement", "statement")
     c.no(25, "statement")
     c.new("runs to a depth above 0, and back", HOUSE)
-    c.ok("load", "enter 1", "enter 5")
+    c.ok("load 0", "enter 1", "enter 5")
     c.word("spent", "run 0 1", "run 1 1", "run 1 2")
     c.no(29, "run 5 9")
     c.ok("abandon 3")
@@ -227,11 +233,11 @@ def load_calls(c):
     for cells, saved in ((63, 2048), (0, 2048), (64, 2047), (64, 0), (0, 0)):
         text = f"load with {cells} lent cells and {saved} saved: 12, and the state of zeros is refused 13"
         c.new(text, HOUSE, cells, saved)
-        c.no(12, "load")
+        c.no(12, "load 0")
         c.no(13, *ANY_CALL)
     c.new("lent cells beyond the count stay as they are", HOUSE, 80, 2100)
     c.no(13, *ANY_CALL)
-    c.ok("load", "get 63", "put 63 5", "enter 2", "abandon 0")
+    c.ok("load 0", "get 63", "put 63 5", "enter 2", "abandon 0")
     c.no(15, "get 64", "put 64 1", "get 79", "put 79 1", "get 80")
     c.new("a load refused for each reason leaves cells and saved store", HOUSE)
     for offset, value, number in (
@@ -249,31 +255,31 @@ def load_calls(c):
     ):
         old = struct.unpack_from("<i", c.machine.file, offset)[0]
         c.number(offset, value)
-        c.no(number, "load")
+        c.no(number, "load 0")
         c.no(13, "enter 1", "get 1")
         c.number(offset, old)
-    c.ok("load", "enter 1", "enter 2")
+    c.ok("load 0", "enter 1", "enter 2")
     c.word("builtin", "run 0 9")
-    c.ok("load", "get 40")
+    c.ok("load 0", "get 40")
     c.new("32,768 cells are the most", house(cell_count=32768), 32768)
-    c.ok("load", "get 32767", "put 32767 9")
+    c.ok("load 0", "get 32767", "put 32767 9")
     c.no(15, "get 32768", "put 32768 9")
     c.new("32,769 cells are one too many", house(cell_count=32769), 32769)
-    c.no(10, "load")
+    c.no(10, "load 0")
     record_state(c)
     c.no(13, "get 1", "enter 1", "abandon 0")
     c.new("1,048,576 bytes are the most", HOUSE.bytes() + bytes(1_048_576 - len(HOUSE.bytes())))
-    c.ok("load", "enter 1", "statement")
+    c.ok("load 0", "enter 1", "statement")
     c.new("1,048,577 bytes are one too many", HOUSE.bytes() + bytes(1_048_577 - len(HOUSE.bytes())))
-    c.no(1, "load")
+    c.no(1, "load 0")
     record_state(c)
     c.no(13, "get 1", "enter 1", "abandon 0")
     c.new("59 bytes", HOUSE.bytes()[:59])
-    c.no(1, "load")
+    c.no(1, "load 0")
     c.ok("field 0 59")
     c.no(13, *ANY_CALL)
     c.new("no bytes", b"")
-    c.no(1, "load")
+    c.no(1, "load 0")
     c.no(13, *ANY_CALL)
 
 
@@ -288,7 +294,7 @@ def record_state(c):
 def state_calls(c):
     """Check 13: each of its clauses alone, and states made up that pass."""
     c.new("13: what the state records of the file, one number after another", HOUSE)
-    c.ok("load", "enter 1", "enter 2")
+    c.ok("load 0", "enter 1", "enter 2")
     recorded = [len(HOUSE.bytes()), *HOUSE.lumps, 105]
     for field, value in enumerate(recorded):
         c.ok(f"field {field} {value + 1}")
@@ -299,7 +305,7 @@ def state_calls(c):
         c.ok(f"field {field} {value}")
     c.ok("get 1")
     c.new("13: the header's numbers changed, one after another", HOUSE)
-    c.ok("load", "enter 1", "enter 2")
+    c.ok("load 0", "enter 1", "enter 2")
     for index, value in enumerate(recorded[1:]):
         c.ok(f"byte {8 + 4 * index} {(value + 1) % 256}")
         c.no(13, "statement", "get 1")
@@ -309,9 +315,9 @@ def state_calls(c):
         c.ok(f"byte {11 + 4 * index} 0")
     c.ok("get 1")
     c.new("version and check number aren't looked at again", HOUSE)
-    c.ok("load", "byte 0 7", "byte 4 0", "enter 1", "statement", "get 1")
+    c.ok("load 0", "byte 0 7", "byte 4 0", "enter 1", "statement", "get 1")
     c.new("the file's own cells aren't looked at again", HOUSE)
-    c.ok("load", f"byte {HOUSE.place(CELLS, 28)} 99", "get 28", "enter 1", "statement")
+    c.ok("load 0", f"byte {HOUSE.place(CELLS, 28)} 99", "get 28", "enter 1", "statement")
 
     def both(index, value):
         """A number of the header and what the state records of it."""
@@ -319,7 +325,7 @@ def state_calls(c):
         c.ok(f"field {STATE_LUMPS + index} {value}")
 
     c.new("13: lumps outside 4, though as recorded", HOUSE)
-    c.ok("load", "enter 1")
+    c.ok("load 0", "enter 1")
     for lump in range(6):
         offset, count = HOUSE.lumps[2 * lump : 2 * lump + 2]
         both(2 * lump, -1)
@@ -345,7 +351,7 @@ def state_calls(c):
     both(2 * FUNCTIONS + 1, 2)
     c.ok("get 1", "abandon 0")
     c.new("lumps that moved in file and state: what they hold now counts", HOUSE)
-    c.ok("load")
+    c.ok("load 0")
     both(2 * STATEMENTS + 1, 1)
     c.ok("enter 1")
     c.no(14, "statement", "carry")
@@ -358,7 +364,7 @@ def state_calls(c):
     c.no(15, "abandon 0")
     both(2 * GLOBAL_DEFS + 1, 0)
     c.new("13: cells and cells per entity outside 10 and 11, though as recorded", HOUSE, 64)
-    c.ok("load", "enter 13")
+    c.ok("load 0", "enter 13")
     both(2 * CELLS + 1, 35)
     c.no(13, *ANY_CALL)
     both(2 * CELLS + 1, 36)
@@ -371,11 +377,11 @@ def state_calls(c):
     both(12, 106)
     c.ok("get 1")
     c.new("13: lent cells fewer than the file's", HOUSE.bytes() + bytes(4), 64)
-    c.ok("load")
+    c.ok("load 0")
     both(2 * CELLS + 1, 65)
     c.no(13, *ANY_CALL)
     c.new("13: a saved store of 2,047", HOUSE, 64, 2047)
-    c.no(12, "load")
+    c.no(12, "load 0")
     record_state(c)
     c.no(13, *ANY_CALL)
     c.new("the same state with a saved store of 2,048 passes, without any load", HOUSE, 64, 2048)
@@ -383,7 +389,7 @@ def state_calls(c):
     c.ok("get 28", "enter 1", "put 28 1073741824", "statement", "abandon 0")
 
     c.new("13: depth over 31", HOUSE)
-    c.ok("load", f"field {DEPTH} 31", "get 1")  # 31 times function 0, which has no locals
+    c.ok("load 0", f"field {DEPTH} 31", "get 1")  # 31 times function 0, which has no locals
     c.no(22, "enter 1")
     c.ok(f"field {DEPTH} 32")
     c.no(13, *ANY_CALL)
@@ -392,14 +398,14 @@ def state_calls(c):
     c.ok(f"field {DEPTH} 31", "abandon 30", "enter 1", "abandon 0")
 
     c.new("13: the current function is absent", HOUSE)
-    c.ok("load", "enter 13")
+    c.ok("load 0", "enter 13")
     for number in (14, 15, 2147483647):
         c.ok(f"field {CURRENT} {number}")
         c.no(13, *(ANY_CALL if number == 14 else ("get 1", "abandon 0", "statement")))
     c.ok(f"field {CURRENT} 4", "get 1", "abandon 0")
     c.ok(f"field {CURRENT} 14", "get 1", "enter 13", "statement")  # at depth 0 it isn't looked at
     c.new("13: an entered function in a frame is absent; the lowest frame's isn't looked at", HOUSE)
-    c.ok("load", "enter 13", "enter 4", "enter 13")
+    c.ok("load 0", "enter 13", "enter 4", "enter 13")
     for index in (1, 2):
         old = c.machine.state.frames[index].function
         c.ok(f"field {frame_field(index, True)} 14")
@@ -410,7 +416,7 @@ def state_calls(c):
     c.ok(f"field {frame_field(30)} -5", "get 1")
     c.ok("abandon 2", "enter 13", "enter 13", "abandon 0", "enter 1", "abandon 0")
     c.new("13: negative local counts that add up", HOUSE)
-    c.ok("load", "enter 13", "enter 5")
+    c.ok("load 0", "enter 13", "enter 5")
     c.number(local_place(NOTHING, "locals"), -1)
     c.ok(f"field {SAVED} 0")
     c.no(13, *ANY_CALL)
@@ -420,7 +426,7 @@ def state_calls(c):
     c.ok(f"field {frame_field(0, True)} {NOTHING}", "get 1", "abandon 0", "get 1")
     c.no(23, f"enter {NOTHING}")
     c.new("13: a saved count that isn't the sum", HOUSE)
-    c.ok("load", f"field {SAVED} 1")
+    c.ok("load 0", f"field {SAVED} 1")
     c.no(13, *ANY_CALL)
     c.ok(f"field {SAVED} 0", "enter 1", "enter 2")
     for saved in (4, 6, 0, 2048):
@@ -431,7 +437,7 @@ def state_calls(c):
     c.no(13, "get 1", "statement")
     c.ok(f"field {SAVED} 6", "get 1")
     c.new("13: a saved count over 2,048 that is the sum", house(cell_count=2100), 2100, 2100)
-    c.ok("load")
+    c.ok("load 0")
     c.number(local_place(LARGE, "locals"), 2048)
     c.ok(f"enter {LARGE}", "get 1")
     c.number(local_place(LARGE, "locals"), 2049)
@@ -441,7 +447,7 @@ def state_calls(c):
     c.number(local_place(LARGE, "locals"), 2048)
     c.ok(f"field {SAVED} 2048", "abandon 0")
     c.new("a made-up state: frames and saved cells that no entry wrote", HOUSE)
-    c.ok("load", f"field {DEPTH} 3", f"field {SAVED} 8", f"field {CURRENT} {OUTER}", f"field {POSITION} 3")
+    c.ok("load 0", f"field {DEPTH} 3", f"field {SAVED} 8", f"field {CURRENT} {OUTER}", f"field {POSITION} 3")
     c.ok(f"field {frame_field(0)} -9223372036854775808", f"field {frame_field(0, True)} 77")
     c.ok(f"field {frame_field(1)} 9223372036854775807", f"field {frame_field(1, True)} {INNER}")
     c.ok(f"field {frame_field(2)} 7", f"field {frame_field(2, True)} {INNER}")
@@ -451,7 +457,7 @@ def state_calls(c):
     c.no(14, "statement", "carry")
     c.ok("enter 4", "abandon 0")
     c.new("positions far outside stand until a fetch", HOUSE)
-    c.ok("load", "enter 4")
+    c.ok("load 0", "enter 4")
     for position in (-1, 13, 131072, 2**31, 2**32 + 8, 8 - 2**32, 2**63 - 1, -(2**63)):
         c.ok(f"field {POSITION} {position}")
         c.no(14, "statement", "carry", "run 0 3")
@@ -461,7 +467,7 @@ def state_calls(c):
 
 def raw_calls(c):
     c.new("raw access, by address alone", HOUSE, 66)
-    c.ok("load")
+    c.ok("load 0")
     for cell in (0, 1, 28, 29, 40, 63):
         c.ok(f"get {cell}", f"put {cell} {0xFFFFFFFF - cell}", f"get {cell}")
     for cell in (-1, 64, 65, 66, 65536, 2147483647, -2147483648):
@@ -470,7 +476,7 @@ def raw_calls(c):
 
 def depth_0_calls(c):
     c.new("statements at depth 0: like any other, Return refused 25 after its operands", HOUSE)
-    c.ok("load")
+    c.ok("load 0")
     c.no(25, "statement")
     c.ok(f"byte {HOUSE.place(STATEMENTS)} 43")
     c.no(25, "statement")
@@ -489,7 +495,7 @@ def depth_0_calls(c):
 
 def run_calls(c):
     c.new("28 and 29 at their edges", HOUSE)
-    c.ok("load")
+    c.ok("load 0")
     c.no(29, "run 0 1", "run -1 1", "run 1 1")
     c.no(28, "run 0 0", "run 0 100000")
     c.ok("enter 4")
@@ -506,14 +512,14 @@ def run_calls(c):
     c.word("ended", "run 2 1")
     c.new("the statement after the limit isn't fetched: spent, though there is none", HOUSE)
     at = HOUSE.place(STATEMENTS, 8)
-    c.ok("load", f"byte {at + 2} 77", "enter 4")
+    c.ok("load 0", f"byte {at + 2} 77", "enter 4")
     c.word("spent", "run 0 1")
     c.no(14, "run 0 1")
     c.ok(f"field {POSITION} 8", f"byte {at + 2} 1", f"byte {at + 8} 66")
     c.word("spent", "run 0 1")
     c.no(7, "run 0 1")
     c.new("ended at exactly the limit, spent one short of it, refused and handed over at the limit", HOUSE)
-    c.ok("load", "put 36 13")
+    c.ok("load 0", "put 36 13")
     for limit, word in ((3, "spent"), (4, "ended"), (5, "ended")):
         c.ok("enter 1")
         c.do(f"run 0 {limit}", word)
@@ -530,7 +536,7 @@ def run_calls(c):
         assert c.do(f"run 0 {limit}", word).count == 1
         c.ok("abandon 0")
     c.new("a refused statement leaves what the ones before it did, and the count", HOUSE)
-    c.ok("load", "put 36 5", "put 38 10", "enter 1")
+    c.ok("load 0", "put 36 5", "put 38 10", "enter 1")
     assert c.do("run 0 50", 15) == Answer("refused", 15, 3)
     assert c.do("run 0 50", 15) == Answer("refused", 15, 0)
     c.ok("put 38 5")
@@ -543,7 +549,7 @@ def run_calls(c):
 
 def carry_calls(c):
     c.new("carry on: 14, 7, 27, and what is handed over", HOUSE)
-    c.ok("load")
+    c.ok("load 0")
     at = HOUSE.place(STATEMENTS)
     c.no(27, "carry")  # Done
     c.ok("enter 1")
@@ -563,7 +569,7 @@ def carry_calls(c):
     c.ok(f"byte {at + 2 * 8 + 2} 37", "carry")
     c.no(27, "carry")  # Return
     for opcode in range(66):
-        if opcode in (24, 30, 31, 36, 37, 42, 43, 59, 60, 61) or opcode % 16 == 0:
+        if opcode in (*range(24, 32), *range(36, 44), 59, 60, 61) or opcode % 16 == 0:
             c.ok(f"byte {at + 3 * 8} {opcode}", f"field {POSITION} 3")
             c.do("carry", "accepted" if opcode in HOST_OPCODES else 27)
     c.ok(f"field {POSITION} 3", f"byte {at + 3 * 8} 66")
@@ -576,7 +582,7 @@ def carry_calls(c):
         c.ok(f"field {POSITION} {position}")
         c.no(14, "carry")
     c.new("carry on looks at the cells as they now are", HOUSE)
-    c.ok("load", "enter 2", "statement")
+    c.ok("load 0", "enter 2", "statement")
     c.word("builtin", "statement")
     c.ok("put 37 13")
     c.no(27, "carry")
@@ -590,27 +596,31 @@ def carry_calls(c):
     assert c.do("statement") == Answer("builtin", 78, 0)
     c.ok("carry")
     c.word("opcode", "run 0 1")
-    c.ok(f"byte {at + 6 * 8} 6")
+    for opcode in (6, 24, 30):
+        c.ok(f"byte {at + 6 * 8} {opcode}")
+        c.no(27, "carry")
+        c.no(15, "statement")
+    c.ok(f"byte {at + 6 * 8} 38")
     c.no(27, "carry")
-    c.no(15, "statement")
+    c.no(18, "statement")
     c.ok(f"byte {at + 6 * 8} 60")
     assert c.do("run 0 1") == Answer("opcode", 60, 0)
     c.ok("carry")
     c.new("carry on at the last statement: the position stands past it", HOUSE)
-    c.ok("load", "enter 4", f"field {POSITION} 12", "put 39 9")
+    c.ok("load 0", "enter 4", f"field {POSITION} 12", "put 39 9")
     c.ok("carry")
     c.no(14, "carry", "statement")
 
 
 def abandon_calls(c):
     c.new("abandon: its edges", HOUSE)
-    c.ok("load", "abandon 0")
+    c.ok("load 0", "abandon 0")
     c.no(29, "abandon 1", "abandon -1", "abandon 31", "abandon 2147483647", "abandon -2147483648")
     c.ok("enter 1", "abandon 1")
     c.no(29, "abandon 2", "abandon -1")
     c.ok("put 40 7", "put 41 8", "put 1 9", "abandon 0", "get 40", "get 41", "get 1")
     c.new("abandon over several functions that share cells: innermost first", HOUSE)
-    c.ok("load")
+    c.ok("load 0")
     order = (OUTER, SAME_LOCALS, INNER, OUTER, SAME_LOCALS, NOTHING, RECURSIVE, 0)
     for target in (0, 1, 3, 7):
         for index, number in enumerate(order[c.machine.state.depth :]):
@@ -618,7 +628,7 @@ def abandon_calls(c):
         c.ok(f"abandon {target}")
     c.ok("abandon 0")
     c.new("abandon with a local cell that is missing: 15, and nothing is left", HOUSE)
-    c.ok("load", "enter 1", "enter 2", "enter 5", "enter 12")
+    c.ok("load 0", "enter 1", "enter 2", "enter 5", "enter 12")
     c.number(local_place(INNER, "local"), 62)
     c.no(15, "abandon 0", "abandon 1")
     c.ok("abandon 2")
@@ -636,7 +646,7 @@ def abandon_calls(c):
     c.number(local_place(NOTHING, "local"), -7)  # an empty range has no cell to miss
     c.ok("abandon 0")
     c.new("Return with a local cell that is missing", HOUSE)
-    c.ok("load", "enter 12")
+    c.ok("load 0", "enter 12")
     c.number(local_place(SAME_LOCALS, "local"), 61)
     c.no(15, "statement", "run 0 1")
     c.number(local_place(SAME_LOCALS, "local"), 60)
@@ -645,7 +655,7 @@ def abandon_calls(c):
 
 def refused_entry_calls(c):
     c.new("refused entries pile nothing up: 40 of them, then one that is taken", HOUSE)
-    c.ok("load")
+    c.ok("load 0")
     kinds = ((-1, 20), (14, 20), (6, 23), (7, 15), (8, 24), (9, 21), (10, 15), (11, 15), (3, 24))
     kinds += ((-2147483648, 20),)
     for index in range(40):
@@ -657,7 +667,7 @@ def refused_entry_calls(c):
         c.no(23 if number == LARGE else refusal, f"enter {number}")  # 2 saved and 2,047
     c.ok("enter 2", "abandon 0")
     c.new("refused Calls pile nothing up", HOUSE)
-    c.ok("load", "enter 1", "statement")
+    c.ok("load 0", "enter 1", "statement")
     refusals = ((0, 19), (14, 20), (0xFFFFFFFF, 20), (6, 23), (7, 23), (8, 24), (10, 15), (11, 15))
     for value, refusal in refusals:
         c.ok(f"put 36 {value}")
@@ -666,7 +676,7 @@ def refused_entry_calls(c):
         c.no(refusal, "run 0 5")
     c.ok("put 36 2", "statement", "abandon 0")
     c.new("entries of bytes that changed: builtins that are none, locals, arguments", HOUSE)
-    c.ok("load")
+    c.ok("load 0")
     c.number(local_place(BUILTIN_ENTERED, "first"), -5)
     c.no(21, f"enter {BUILTIN_ENTERED}")
     c.number(local_place(BUILTIN_ENTERED, "first"), -2147483648)
@@ -692,7 +702,7 @@ def refused_entry_calls(c):
 
 def nested_calls(c):
     c.new("31 nested entries, and abandonment to each depth", HOUSE)
-    c.ok("load")
+    c.ok("load 0")
     order = [OUTER, RECURSIVE, INNER, NOTHING, SAME_LOCALS]
     for target in range(31, -1, -1):
         while c.machine.state.depth < 31:
@@ -701,7 +711,7 @@ def nested_calls(c):
         c.no(22, "enter 1")
         c.ok(f"abandon {target}")
     c.new("depth 31 by Calls: entry and Call refused 22, Return still possible", HOUSE)
-    c.ok("load", "enter 5")
+    c.ok("load 0", "enter 5")
     assert c.do("run 0 99999", 22) == Answer("refused", 22, 61)
     c.no(22, "statement", "enter 13", "enter 6", "enter 9")
     c.no(20, "enter 14", "enter -1")
@@ -712,13 +722,13 @@ def nested_calls(c):
     c.ok(f"field {POSITION} 11", "statement", "statement", "statement")
     c.word("ended", "run 7 99999", "run 0 99999")
     c.new("no functions: a Call of 0 is 19 all the same", Assembly([("Call0", 28)]))
-    c.ok("load")
+    c.ok("load 0")
     c.no(19, "statement")
     c.ok("put 28 1")
     c.no(20, "statement", "enter 0")
     c.no(27, "carry")
     c.new("saved store: 2,000 and 48 are taken, 49 not", house(cell_count=2100), 2100)
-    c.ok("load")
+    c.ok("load 0")
     c.number(local_place(LARGE, "locals"), 2000)
     c.number(local_place(INNER, "locals"), 49)
     c.ok(f"enter {LARGE}")
@@ -761,14 +771,14 @@ ROUNDING = Assembly(
 
 def rounding_values(c):
     c.new("R-1: rint, floor, ceil and fabs of one cell, by runs that end after 9 statements", ROUNDING)
-    c.ok("load")
+    c.ok("load 0")
     sizes = (HALF, 0x3EFFFFFF, flt(1.5), flt(2.5), 0x4AFFFFFF, flt(8388609.0), LEAST)
     values = [value for size in sizes for value in (size, MINUS_ZERO | size)]
     for value in (SIGNALLING_NAN, *values, 0, MINUS_ZERO, MINUS_INFINITY, NEGATIVE_NAN):
         c.ok(f"put 4 {value}", "enter 1")
         assert c.do("run 0 20") == Answer("ended", 0, 9)
     c.new("R-1: each counts as one completed statement, and the run goes on", ROUNDING)
-    c.ok("load", f"put 4 {flt(-2.5)}", "enter 1", "statement", "get 1", "statement")
+    c.ok("load 0", f"put 4 {flt(-2.5)}", "enter 1", "statement", "get 1", "statement")
     assert c.do("run 0 1") == Answer("spent", 0, 1)
     assert c.machine.state.position == 4 and c.machine.cells[1] == flt(-3.0)
     assert c.do("run 0 6") == Answer("ended", 0, 6)
@@ -780,7 +790,7 @@ def rounding_values(c):
     assert c.do("run 0 99999") == Answer("spent", 0, 99_999)
     assert c.machine.state.position == 21
     c.new("R-1: Call0 to Call8 alike; the caller's locals are restored", ROUNDING)
-    c.ok("load", f"put 4 {flt(-0.25)}", f"enter {EVERY_CALL}", *["statement"] * 4)
+    c.ok("load 0", f"put 4 {flt(-0.25)}", f"enter {EVERY_CALL}", *["statement"] * 4)
     c.word("ended", "run 0 6")
     c.ok("get 1", "get 50", f"put 4 {flt(6.5)}", f"enter {EVERY_CALL}")
     assert c.do("run 0 99") == Answer("ended", 0, 10)
@@ -790,7 +800,7 @@ def rounding_values(c):
 def rounding_refusals(c):
     c.new("R-1: 16 for cell 4 and for cell 1; carrying on is 27 in either case", ROUNDING)
     argument, result, called = (ROUNDING.place(GLOBAL_DEFS, index) for index in range(3))
-    c.ok("load", f"put 4 {flt(2.5)}", "put 1 7", "enter 1")
+    c.ok("load 0", f"put 4 {flt(2.5)}", "put 1 7", "enter 1")
     for place in (argument, result):
         for type_ in (STRING, VOID, FUNCTION):
             c.ok(f"byte {place} {type_}")
@@ -805,7 +815,7 @@ def rounding_refusals(c):
     c.word("builtin", "statement")  # another builtin looks at neither cell
     c.ok("carry")
     c.new("R-1: the Call's own checks first: 16, 19, 20, 5", ROUNDING)
-    c.ok("load", "enter 1", f"byte {argument} {STRING}", f"byte {result} {STRING}", f"byte {called} {FLOAT}", "put 36 0")
+    c.ok("load 0", "enter 1", f"byte {argument} {STRING}", f"byte {result} {STRING}", f"byte {called} {FLOAT}", "put 36 0")
     c.no(16, "statement")
     c.ok(f"byte {called} {FUNCTION}")
     for value, refusal in ((0, 19), (11, 20), (0xFFFFFFFF, 20), (RINT, 16)):
@@ -819,7 +829,7 @@ def rounding_refusals(c):
     c.number(record + 24, 0)
     c.ok("statement", "statement")
     c.new("R-1: a host entry of the four is refused as before", ROUNDING)
-    c.ok("load", f"put 4 {flt(2.5)}")
+    c.ok("load 0", f"put 4 {flt(2.5)}")
     c.no(24, *[f"enter {number}" for number in (RINT, FLOOR, CEIL, FABS)])
     c.no(21, f"enter {FLOOR_ENTERED}")
     c.no(15, f"enter {FLOOR_LOCALS}")
@@ -827,7 +837,7 @@ def rounding_refusals(c):
 
 def rounding_elsewhere(c):
     c.new("R-1: bytes that changed: which builtin it is now counts", ROUNDING)
-    c.ok("load", f"put 4 {flt(-1.5)}", "enter 1")
+    c.ok("load 0", f"put 4 {flt(-1.5)}", "enter 1")
     for number, result in ((36, -2.0), (37, -2.0), (38, -1.0), (43, 1.5)):
         c.number(ROUNDING.place(FUNCTIONS, RINT), -number)
         c.ok(f"field {POSITION} 1")
@@ -840,7 +850,7 @@ def rounding_elsewhere(c):
         assert c.do("statement") == Answer("builtin", number)
         c.ok("carry")
     c.new("R-1: at depth 0, at depth 31, at the last statement", ROUNDING)
-    c.ok("load", f"put 4 {flt(-1.5)}", f"field {POSITION} 1", "statement", "get 1", f"field {POSITION} 22", "statement")
+    c.ok("load 0", f"put 4 {flt(-1.5)}", f"field {POSITION} 1", "statement", "get 1", f"field {POSITION} 22", "statement")
     c.no(14, "statement", "carry")
     c.ok(*["enter 1"] * 31)
     c.no(22, "enter 1")
@@ -854,9 +864,33 @@ def random_calls(c):
     for index in range(36):
         assembly = random_program(chance, hosts=True)
         c.new(f"calls by chance, {index}", assembly, 64 + chance.below(4))
-        c.ok("load")
+        c.ok("load 0")
         for _ in range(28):
             c.do(random_call(chance, c.machine, assembly))
+
+
+def random_entity_calls(c):
+    chance = Xorshift(362436069)
+    for index in range(10):
+        assembly = random_program(chance, hosts=True, entities=True)
+        c.new(f"R-3: calls by chance, {index}", assembly, 64, 2048, 3 * 105 + chance.below(3))
+        c.ok(f"load {2 + chance.below(2)}")
+        for _ in range(40):
+            if chance.below(6) == 0:
+                c.do(random_entity_change(chance, c.machine))
+            else:
+                c.do(random_call(chance, c.machine, assembly))
+
+
+def random_entity_change(chance, machine):
+    kind = chance.below(10)
+    if kind < 6 and machine.entity_cells:
+        return f"eput {chance.below(len(machine.entity_cells))} {chance.pick(CHANCE_FLOATS)}"
+    if kind < 8:
+        return f"put {56 + chance.below(8)} {chance.pick([0, 1, 2, 3, 104, 105, 420, 836, 1256])}"
+    if kind < 9:
+        return f"field {ENTITIES} {chance.below(5)}"
+    return f"lend {chance.pick([0, 209, 210, 314, 315, 315, 420, 430])} {chance.draw()}"
 
 
 def random_call(chance, machine, assembly):
@@ -892,7 +926,7 @@ def large_calls(c):
     many = Assembly([("Done",)] * 130_000, entered, layout=last, cells={0: 7, 28: 2, 40: 3})
     c.new("130,000 statements: a function at 100,000, another at 65,536", many)
     at = many.place(STATEMENTS, 100_000)
-    c.ok("load", "enter 1", "statement", "enter 1", f"byte {at} 51", f"byte {at + 2} 28", "statement")
+    c.ok("load 0", "enter 1", "statement", "enter 1", f"byte {at} 51", f"byte {at + 2} 28", "statement")
     c.word("ended", "run 0 9")
     c.ok(f"field {POSITION} 130000")
     c.no(14, "statement")
@@ -903,13 +937,13 @@ def large_calls(c):
     last = (STATEMENTS, STRINGS, FIELD_DEFS, CELLS, GLOBAL_DEFS, FUNCTIONS)
     many = Assembly([("Done",), ("Call0", 28)], [function()] * 29_000, layout=last, cells={28: 28_999})
     c.new("29,000 functions", many)
-    c.ok("load", "enter 28999", f"field {POSITION} 1", "statement", "statement", "abandon 0")
+    c.ok("load 0", "enter 28999", f"field {POSITION} 1", "statement", "statement", "abandon 0")
     c.no(20, "enter 29000")
     last = (STATEMENTS, STRINGS, FIELD_DEFS, CELLS, FUNCTIONS, GLOBAL_DEFS)
     statements = [("AddF", 28, 28, 29), ("NotF", 0, 0, 28)]
     many = Assembly(statements, definitions=[(VOID, 0)] * 129_000, layout=last)
     c.new("129,000 definitions: a lookup goes through them all", many)
-    c.ok("load", "statement")
+    c.ok("load 0", "statement")
     c.no(16, "statement")
 
 
@@ -928,6 +962,8 @@ def call_cases():
     rounding_values(c)
     rounding_refusals(c)
     rounding_elsewhere(c)
+    entity_calls(c)
     random_calls(c)
+    random_entity_calls(c)
     large_calls(c)
     return c

@@ -3,8 +3,18 @@
 import struct
 
 from model import (
-    FLOAT, HOST_OPCODES, INFINITY, INSIDE_BUILTINS, ONE, QUIET_NAN, SAVE_FLAG, SIGN, VECTOR, Assembly,
-    function,
+    FLOAT, HOST_OPCODES, INFINITY, INSIDE_BUILTINS, LOADED_FIELDS, ONE, QUIET_NAN, SAVE_FLAG, SIGN,
+    STORED_FIELDS, VECTOR, Assembly, function,
+)
+
+# `field N V` of calls.txt sets one number of the state
+STATE_LENGTH, STATE_LUMPS, STATE_PER_ENTITY = 0, 1, 13
+POSITION, CURRENT, DEPTH, SAVED, FRAMES, ENTITIES = 14, 15, 16, 17, 18, 80
+
+# calls that each operation takes or refuses otherwise, all refused 13 where the state isn't coherent
+ANY_CALL = (
+    *("enter 1", "enter -1", "statement", "run 0 10", "run 0 0", "run -1 1", "carry"),
+    *("abandon 0", "abandon -1", "get 1", "get -1", "put 1 7", "put 64 7"),
 )
 
 
@@ -90,7 +100,8 @@ CHANCE_FLOATS = [0, MINUS_ZERO, ONE, MINUS_ONE, TWO, HALF, flt(100.25), flt(1677
 CHANCE_FLOATS += [INFINITY, 0x3DCCCCCD, LEAST]
 
 
-def random_program(chance, hosts=False):
+def random_program(chance, hosts=False, entities=False):
+    """`hosts` adds statements and calls that are handed over, `entities` R-3's statements."""
     cells = {cell: chance.pick(CHANCE_FLOATS) for cell in range(28, 40)}
     functions = []
     count = 30 + chance.below(20)
@@ -113,18 +124,41 @@ def random_program(chance, hosts=False):
     ]
     if chance.below(4) == 0:
         definitions.append((chance.below(8), 28 + chance.below(28)))
-    statements = [random_statement(chance, hosts) for _ in range(count)]
+    fields = []
+    if entities:
+        cells |= {cell: chance.below(4) for cell in range(56, 60)}
+        cells |= {cell: chance.pick(CHANCE_FIELDS) for cell in (60, 61)}
+        cells |= {cell: 4 * chance.below(3 * 105 + 4) for cell in (62, 63)}
+        fields = [(chance.below(8), chance.pick(CHANCE_FIELDS)) for _ in range(chance.below(6))]
+    statements = [random_statement(chance, hosts, entities) for _ in range(count)]
     statements += [("Return", 28 + chance.below(30))]
-    return program(*statements, functions=functions, cells=cells, definitions=definitions)
+    return program(*statements, functions=functions, cells=cells, definitions=definitions, fields=fields)
 
 
-def random_statement(chance, hosts):
+# R-3: entity numbers at 56 to 59, field numbers at 60 and 61, pointers at 62 and 63
+CHANCE_FIELDS = [0, 1, 2, 3, 7, 50, 101, 102, 103, 104, 104, 105]
+
+
+def random_entity_statement(chance, place):
+    kind = chance.below(5)
+    if kind == 0:
+        return ("Address", 56 + chance.below(4), 60 + chance.below(2), 62 + chance.below(2))
+    if kind < 3:
+        name = chance.pick(["LoadF", "LoadF", "LoadV", *LOADED_FIELDS])
+        return (name, 56 + chance.below(4), 60 + chance.below(2), place())
+    name = chance.pick(["StorePF", "StorePF", "StorePV", *STORED_FIELDS])
+    return (name, place(), 62 + chance.below(2), 0 if chance.below(20) else 1)
+
+
+def random_statement(chance, hosts, entities=False):
     def place():
         return chance.pick((28, 48)) + chance.below(12) if chance.below(60) else chance.below(70) - 3
 
     def written():
         return chance.pick((28, 48, 48)) + chance.below(12) if chance.below(60) else chance.below(70) - 3
 
+    if entities and chance.below(3) == 0:
+        return random_entity_statement(chance, place)
     kind = chance.below(100)
     if kind < 35:
         name = chance.pick(FLOAT_ARITHMETIC + FLOAT_COMPARISONS + ["BitAnd", "BitOr"])

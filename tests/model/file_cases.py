@@ -5,9 +5,9 @@ from common import (
     random_program, triple,
 )
 from model import (
-    BUILTINS, CELLS, FIELD_DEFS, FLOAT, FUNCTION, FUNCTIONS, GLOBAL_DEFS, HOST_OPCODES, ONE,
-    OPCODES, POINTER, QUIET_NAN, RECORD_SIZES, SAVE_FLAG, STATEMENTS, STRING, STRINGS, VECTOR, VOID,
-    Assembly, function, show,
+    BUILTINS, CELLS, FIELD_DEFS, FLOAT, FUNCTION, FUNCTIONS, GLOBAL_DEFS, HOST_OPCODES, LOADED_FIELDS,
+    ONE, OPCODES, POINTER, QUIET_NAN, RECORD_SIZES, SAVE_FLAG, STATEMENTS, STORED_FIELDS, STRING,
+    STRINGS, VECTOR, VOID, Assembly, function, show,
 )
 
 
@@ -119,7 +119,7 @@ def header_files(f):
         f.add(f"{count}-cells", small_program(cell_count=count), "refused,10" if count < 36 else ENDED)
     for count in (-1, 104, 105, 2**31 - 1):
         begins = ENDED if count >= 105 else "refused,11"
-        f.add(f"{count}-entity-cells", small_program(entity_cells=count), begins)
+        f.add(f"{count}-entity-cells", small_program(cells_per_entity=count), begins)
 
 
 def record_files(f):
@@ -184,8 +184,8 @@ def record_files(f):
     f.add("field-9-before-8", defined(fields=[(SAVE_FLAG | 8, 0)]), "refused,9")
     f.add("field-8-in-an-earlier-record", defined(fields=[(8, 0), (SAVE_FLAG, 0)]), "refused,8")
     f.add("fields-before-cells", program(fields=[(8, 0)], cell_count=35), "refused,8")
-    f.add("10-before-11", program(cell_count=35, entity_cells=104), "refused,10")
-    f.add("6-before-11", program(functions=[function(name=1)], entity_cells=104), "refused,6")
+    f.add("10-before-11", program(cell_count=35, cells_per_entity=104), "refused,10")
+    f.add("6-before-11", program(functions=[function(name=1)], cells_per_entity=104), "refused,6")
 
 
 def cut(assembly):
@@ -276,6 +276,7 @@ def statement_files(f):
     for number in sorted(HOST_OPCODES):
         file = program(("NotF", 28, 0, 2), (number, -1, 64, 5))
         f.add(f"opcode-{OPCODES[number]}", file, f"opcode,{number},1,2,1,1,0,")
+    no_entity_files(f)
     for number in (1, 7, 35, 78):
         functions = [function(1), function(-number, arguments=-1)]
         file = program(("NotF", 28, 0, 2), ("Call1", 30), functions=functions, cells={30: 2})
@@ -312,6 +313,20 @@ def statement_files(f):
         statements = [("AddF", 28, 29, 30), ("Return", 30)]
         file = program(*statements, definitions=definitions, cells=SHOWN_CELLS)
         f.add(f"definition-{name}", file, begins)
+
+
+def no_entity_files(f):
+    f.note("R-3: the show program has no entities: loads and Address are refused 30, stores through pointers 32, after their operands")
+    for name in (*LOADED_FIELDS, "Address", *STORED_FIELDS):
+        operands, number = ((28, 29, 30), 30) if name not in STORED_FIELDS else ((29, 28, 0), 32)
+        f.add(f"no-entities-{name}", program((name, *operands)), f"refused,{number},0,1,1,1,0,")
+    for statement, number in (
+        (("LoadF", 28, 29, 35), 16),
+        (("StorePF", 28, 29, 1), 18),
+        (("StorePEnt", 30, 29), 17),
+    ):
+        file = program(statement, definitions=[(VOID, 35)], cells={30: 0x80000000})
+        f.add(f"no-entities-{statement[0]}-{number}", file, f"refused,{number},0,1,1,1,0,")
 
 
 def call_files(f):

@@ -205,10 +205,12 @@ HEADER_SIZE = 60
 LARGEST_FILE = 1_048_576
 FEWEST_CELLS = 36
 MOST_CELLS = 32_768
-FEWEST_ENTITY_CELLS = 105
+FEWEST_PER_ENTITY = 105
 DEEPEST = 31
 MOST_SAVED = 2_048
 MOST_STATEMENTS = 99_999
+MOST_ENTITIES = 600  # R-3: "up to 600 entities"
+GREATEST_POINTER = 2_147_483_647
 
 # "offset and count of statements, global definitions, field definitions, functions, strings, cells"
 STATEMENTS, GLOBAL_DEFS, FIELD_DEFS, FUNCTIONS, STRINGS, CELLS = range(6)
@@ -239,8 +241,8 @@ INSIDE_BUILTINS = {
     38: rounding(whole_above),
     43: float_abs,
 }
-# "24 to 30, 37 to 42 and 60 go to the host"
-HOST_OPCODES = {*range(24, 31), *range(37, 43), 60}
+# R-3: "Only opcode 60 and the other builtins still go to the host."
+HOST_OPCODES = {60}
 
 Statement = namedtuple("Statement", "opcode a b c")
 Definition = namedtuple("Definition", "type cell name")
@@ -313,13 +315,14 @@ class State:
     # what the state records of the file, for check 13
     length: int = 0
     lumps: tuple = (0,) * 12
-    entity_cells: int = 0
+    cells_per_entity: int = 0
     # "Position, function and depths start at 0. Frames start as zeros"
     position: int = 0
     function: int = 0
     depth: int = 0
     saved: int = 0
     frames: tuple = (Frame(0, 0),) * DEEPEST
+    entities: int = 0  # R-3: "their number given at load and kept in the state"
 
 
 def lumps_fit(lumps, length):
@@ -333,19 +336,26 @@ def lumps_fit(lumps, length):
     return True
 
 
-class Machine:
-    """Lent file bytes, cells and saved store, and the state."""
+def check_same_type(definition, wanted):
+    """ "Float and vector pass for each other; otherwise types must match" """
+    found = definition.type & ~SAVE_FLAG
+    check(found == wanted or {found, wanted} == {FLOAT, VECTOR}, 16)
 
-    def __init__(self, file, cells, saved_store):
+
+class Machine:
+    """Lent file bytes, cells, saved store and entity cells, and the state."""
+
+    def __init__(self, file, cells, saved_store, entity_cells=()):
         self.file, self.cells, self.saved_store = file, cells, saved_store
+        self.entity_cells = entity_cells  # entity after entity, from 0
         self.state = State()
         self._written = []  # (buffer, index, what stood there), to undo a refusal
 
     # -- the operations ------------------------------------------------------------------------
 
-    def load(self):
+    def load(self, entities=0):
         try:
-            state, program = self._checked_file()
+            state, program = self._checked_file(entities)
         except Refused as refusal:
             self.state = State()  # a refused load gives back a state of zeros
             return Answer("refused", refusal.number)
@@ -378,10 +388,10 @@ class Machine:
 
     # -- load ----------------------------------------------------------------------------------
 
-    def _checked_file(self):
+    def _checked_file(self, entities):
         file = self.file
         check(HEADER_SIZE <= len(file) <= LARGEST_FILE, 1)
-        version, check_number, lumps, entity_cells = read_header(file)
+        version, check_number, lumps, cells_per_entity = read_header(file)
         check(version == VERSION, 2)
         check(check_number == CHECK_NUMBER, 3)
         check(lumps_fit(lumps, len(file)), 4)
@@ -405,9 +415,16 @@ class Machine:
                 check(definition.type & ~SAVE_FLAG <= POINTER, 8)
         cell_count = program.count(CELLS)
         check(FEWEST_CELLS <= cell_count <= MOST_CELLS, 10)
-        check(entity_cells >= FEWEST_ENTITY_CELLS, 11)
+        check(cells_per_entity >= FEWEST_PER_ENTITY, 11)
         check(len(self.cells) >= cell_count and len(self.saved_store) >= MOST_SAVED, 12)
-        return State(length=len(file), lumps=lumps, entity_cells=entity_cells), program
+        # R-3: "More than 600 entities, or lent entity cells too few for them, are refused 13, at
+        # load after 12."  So is a negative number of them.
+        check(entities >= 0 and self._entities_fit(entities, cells_per_entity), 13)
+        state = State(len(file), lumps, cells_per_entity, entities=entities)
+        return state, program
+
+    def _entities_fit(self, entities, cells_per_entity):
+        return entities <= MOST_ENTITIES and entities * cells_per_entity <= len(self.entity_cells)
 
     # -- check 13, and undoing -----------------------------------------------------------------
 
@@ -436,16 +453,18 @@ class Machine:
         # "file length, header lumps or cells per entity not as the state records, or outside 1, 4, 10 or 11"
         if len(file) != state.length or not HEADER_SIZE <= len(file) <= LARGEST_FILE:
             return False
-        _, _, lumps, entity_cells = read_header(file)
+        _, _, lumps, cells_per_entity = read_header(file)
         if lumps != state.lumps or not lumps_fit(lumps, len(file)):
             return False
         cell_count = lumps[2 * CELLS + 1]
         if not FEWEST_CELLS <= cell_count <= MOST_CELLS:
             return False
-        if entity_cells != state.entity_cells or entity_cells < FEWEST_ENTITY_CELLS:
+        if cells_per_entity != state.cells_per_entity or cells_per_entity < FEWEST_PER_ENTITY:
             return False
         # "lent cells fewer than the file's, or saved store under 2,048; depth over 31"
         if len(self.cells) < cell_count or len(self.saved_store) < MOST_SAVED:
+            return False
+        if not self._entities_fit(state.entities, cells_per_entity):
             return False
         if state.depth > DEEPEST:
             return False
@@ -497,9 +516,7 @@ class Machine:
         for index in range(program.count(GLOBAL_DEFS)):
             definition = program.definition(GLOBAL_DEFS, index)
             if definition.cell == cell:
-                found = definition.type & ~SAVE_FLAG
-                # "Float and vector pass for each other; otherwise types must match"
-                check(found == wanted or {found, wanted} == {FLOAT, VECTOR}, 16)
+                check_same_type(definition, wanted)
                 return
 
     def _get_typed(self, cell, wanted):
@@ -513,6 +530,13 @@ class Machine:
     def _put_typed(self, cell, wanted, value):
         self._check_type(cell, wanted)
         self._put(cell, value)
+
+    def _check_destination(self, cell, wanted):
+        """The checks of a typed write."""
+        self._check_type(cell, wanted)
+        for i in range(3 if wanted == VECTOR else 1):
+            self._check_type(cell + i, FLOAT if wanted == VECTOR else wanted)
+            self._check_address(cell + i)
 
     def _get_vector(self, cell):
         """ "A vector checks its first cell as vector, then each of its three as float." """
@@ -555,10 +579,18 @@ class Machine:
         self.state = replace(self.state, position=self.state.position + by)
 
     def _call_free(self, name, a, b, c):
-        # "18: third operand of a Store (31 to 36) or second of a Not isn't 0"
+        # "18: third operand of a Store (31 to 36) or second of a Not isn't 0"; R-3: "with 18 for the
+        # third operand of 37 to 42"
         if name.startswith("Store"):
             check(c == 0, 18)
-            self._store_statement(name, a, b)
+            if name in STORED_FIELDS:
+                self._store_field(STORED_FIELDS[name], a, b)
+            else:
+                self._store_statement(name, a, b)
+        elif name in LOADED_FIELDS:
+            self._load_field(LOADED_FIELDS[name], a, b, c)
+        elif name == "Address":
+            self._address(a, b, c)
         elif name.startswith("Not"):
             check(b == 0, 18)
             self._put_typed(c, FLOAT, truth(self._is_null(name, a)))
@@ -632,6 +664,63 @@ class Machine:
                 self._put(destination + i, self._get(source + i))
             else:
                 self._put_typed(destination + i, FLOAT, self._get_typed(source + i, FLOAT))
+
+    # -- entity fields (R-3) -------------------------------------------------------------------
+
+    def _check_field_type(self, cell, wanted):
+        """As `Entity::type_check`: the first field definition with that cell, "void ones passed over"."""
+        program = self._program
+        for index in range(program.count(FIELD_DEFS)):
+            definition = program.definition(FIELD_DEFS, index)
+            if definition.type & ~SAVE_FLAG != VOID and definition.cell == cell:
+                check_same_type(definition, wanted)
+                return
+
+    def _field_places(self, entity, field, wanted):
+        """The lent entity cells of a field: "cell by cell, 16 by field definition (not for 30) and 31
+        for a field cell not below the cells per entity".  A vector has three, each a float."""
+        places = []
+        for cell in range(field, field + (3 if wanted == VECTOR else 1)):
+            self._check_field_type(cell, FLOAT if wanted == VECTOR else wanted)
+            check(cell < self.state.cells_per_entity, 31)
+            places.append(entity * self.state.cells_per_entity + cell)
+        return places
+
+    def _move(self, wanted, values, buffer, places):
+        """ "then 17 for a negative string, entity or field moved" """
+        check(wanted not in (STRING, ENTITY, FIELD) or all(value < SIGN for value in values), 17)
+        for place, value in zip(places, values):
+            self._store(buffer, place, value)
+
+    def _load_field(self, wanted, a, b, c):
+        """ "Opcodes 24 to 29 read the field in the second operand of the entity in the first" """
+        entity, field = self._get_typed(a, ENTITY), self._get_typed(b, FIELD)
+        self._check_destination(c, wanted)
+        # "After the operand checks .. comes 30 for an entity not below the count"
+        check(entity < self.state.entities, 30)
+        values = [self.entity_cells[place] for place in self._field_places(entity, field, wanted)]
+        self._move(wanted, values, self.cells, range(c, c + len(values)))
+
+    def _address(self, a, b, c):
+        """ "30 makes a pointer .. its cell typed 7" """
+        entity, field = self._get_typed(a, ENTITY), self._get_typed(b, FIELD)
+        self._check_destination(c, POINTER)
+        check(entity < self.state.entities, 30)
+        check(field < self.state.cells_per_entity, 31)
+        # "(entity times cells per entity, plus field) times 4"
+        pointer = (entity * self.state.cells_per_entity + field) * 4
+        check(pointer <= GREATEST_POINTER, 32)
+        self._put(c, pointer)
+
+    def _store_field(self, wanted, a, b):
+        """ "37 to 42 write the first operand through the pointer in the second" """
+        values = self._get_vector(a) if wanted == VECTOR else [self._get_typed(a, wanted)]
+        pointer = self._get_typed(b, POINTER)
+        # "32 for a pointer that is negative, no multiple of 4 or past the last entity"
+        check(pointer < SIGN and pointer % 4 == 0, 32)
+        entity, field = divmod(pointer // 4, self.state.cells_per_entity)
+        check(entity < self.state.entities, 32)
+        self._move(wanted, values, self.entity_cells, self._field_places(entity, field, wanted))
 
     # -- calls ---------------------------------------------------------------------------------
 
@@ -767,6 +856,17 @@ STORED_TYPES = {
     "StoreFnc": FUNCTION,
 }
 
+# R-3: what is moved by 24 to 29 and by 37 to 42; "28 and 41 .. follow `pr_exec.c`", which moves one cell
+LOADED_FIELDS = {
+    "LoadF": FLOAT,
+    "LoadV": VECTOR,
+    "LoadS": STRING,
+    "LoadEnt": ENTITY,
+    "LoadFld": FIELD,
+    "LoadFnc": FUNCTION,
+}
+STORED_FIELDS = {name.replace("Load", "StoreP"): type_ for name, type_ in LOADED_FIELDS.items()}
+
 FLOAT_STATEMENTS = {
     "MulF": float_mul,
     "Div": float_div,
@@ -849,7 +949,7 @@ class Assembly:
         strings=b"\0",
         cells=None,
         cell_count=64,
-        entity_cells=FEWEST_ENTITY_CELLS,
+        cells_per_entity=FEWEST_PER_ENTITY,
         layout=(STATEMENTS, GLOBAL_DEFS, FIELD_DEFS, FUNCTIONS, STRINGS, CELLS),
         gap=0,
     ):
@@ -864,7 +964,7 @@ class Assembly:
             [bytes([byte]) for byte in strings],
             [struct.pack("<I", value) for value in values],
         ]
-        self.version, self.check_number, self.entity_cells = VERSION, CHECK_NUMBER, entity_cells
+        self.version, self.check_number, self.cells_per_entity = VERSION, CHECK_NUMBER, cells_per_entity
         self.lumps = [0] * 12
         self.body = b""
         for lump in layout:
@@ -874,7 +974,7 @@ class Assembly:
             self.body += b"".join(records[lump])
 
     def header(self):
-        return struct.pack("<15i", self.version, self.check_number, *self.lumps, self.entity_cells)
+        return struct.pack("<15i", self.version, self.check_number, *self.lumps, self.cells_per_entity)
 
     def bytes(self):
         return bytearray(self.header() + self.body)

@@ -6,6 +6,7 @@
 It shares no code with the case makers, so it also shows that the formats can be read.
 """
 
+import functools
 import importlib
 import os
 import struct
@@ -50,23 +51,31 @@ def replay_statements(model):
             continue
         at = words.index("=")
         given, word, expected = Numbers(words[:at]), words[at + 1], words[at + 2 :]
-        machine = model.Machine(bytearray(file), [0] * cell_count, [0] * 2048)
-        assert machine.load().word == "accepted"
-        function = given.next()
+        function, *statement = [given.next() for _ in range(5)]
+        placed, set_cells = given.pairs(), given.pairs()
+        entities, entity_cells = given.next(), [0] * given.next()
+        machine = model.Machine(bytearray(file), [0] * cell_count, [0] * 2048, entity_cells)
+        assert machine.load(entities).word == "accepted"
         if function >= 0:
             assert machine.enter(function).word == "accepted"
-        statement = [given.next() for _ in range(4)]
-        for offset, byte in given.pairs():
+        for offset, byte in placed:
             machine.file[offset] = byte
         struct.pack_into("<4h", machine.file, statements, *statement)
-        for cell, value in given.pairs():
+        for cell, value in set_cells:
             machine.cells[cell] = value
-        before = list(machine.cells)
+        for index, value in given.pairs():
+            machine.entity_cells[index] = value
+        cells, entity_cells = list(machine.cells), list(machine.entity_cells)
         answer, state = machine.statement(), machine.state
-        changed = [(i, new) for i, new in enumerate(machine.cells) if new != before[i]]
         got = [answer.detail, state.position, state.function, state.depth, state.saved]
-        got += [len(changed)] + [number for pair in changed for number in pair]
+        got += changes(cells, machine.cells) + changes(entity_cells, machine.entity_cells)
         yield line, [word, *expected], [answer.word, *map(str, got)]
+
+
+def changes(before, after):
+    """How many numbers differ, then the index and the new value of each."""
+    changed = [(i, new) for i, (old, new) in enumerate(zip(before, after)) if new != old]
+    return [len(changed)] + [number for pair in changed for number in pair]
 
 
 def replay_files(model):
@@ -78,12 +87,12 @@ def replay_files(model):
 def set_number(model, machine, field, value):
     """Sets one number of the state, counted as README.md counts them."""
     state = machine.state
-    flat = [state.length, *state.lumps, state.entity_cells]
+    flat = [state.length, *state.lumps, state.cells_per_entity]
     flat += [state.position, state.function, state.depth, state.saved]
-    flat += [number for frame in state.frames for number in frame]
+    flat += [number for frame in state.frames for number in frame] + [state.entities]
     flat[field] = value
     frames = tuple(model.Frame(*flat[i : i + 2]) for i in range(18, 80, 2))
-    machine.state = model.State(flat[0], tuple(flat[1:13]), *flat[13:18], frames)
+    machine.state = model.State(flat[0], tuple(flat[1:13]), *flat[13:18], frames, flat[80])
     return model.Answer("accepted")
 
 
@@ -92,11 +101,26 @@ def set_byte(model, machine, offset, value):
     return model.Answer("accepted")
 
 
+def lend(model, machine, count, first):
+    machine.entity_cells = [(first + i) % 2**32 for i in range(count)]
+    return model.Answer("accepted")
+
+
+def set_entity_cell(model, machine, index, value):
+    machine.entity_cells[index] = value
+    return model.Answer("accepted")
+
+
 def digest(machine):
     text = "".join(f"{position},{function};" for position, function in machine.state.frames)
-    numbers = machine.cells + machine.saved_store
+    numbers = machine.cells + machine.saved_store + machine.entity_cells
+    return fnv(text.encode("ascii") + struct.pack(f"<{len(numbers)}I", *numbers))
+
+
+@functools.lru_cache(maxsize=16)  # a refused call leaves what the one before it left
+def fnv(data):
     result = FNV_BASIS
-    for byte in text.encode("ascii") + struct.pack(f"<{len(numbers)}I", *numbers):
+    for byte in data:
         result = (result ^ byte) * FNV_PRIME % 2**64
     return f"{result:016x}"
 
@@ -107,7 +131,8 @@ def replay_calls(model):
         if kind == "new":
             cells = [0xDEAD0000 + i for i in range(int(words[0]))]
             saved = [0xBEEF0000 + i for i in range(int(words[1]))]
-            machine = model.Machine(bytes_of(words[2], words[3]), cells, saved)
+            entity_cells = [0xCAFE0000 + i for i in range(int(words[2]))]
+            machine = model.Machine(bytes_of(words[3], words[4]), cells, saved, entity_cells)
             continue
         at = words.index("=")
         given = [int(word) for word in words[:at]]
@@ -116,7 +141,8 @@ def replay_calls(model):
         if kind in operations:
             answer = getattr(machine, operations[kind])(*given)
         else:
-            answer = {"field": set_number, "byte": set_byte}[kind](model, machine, *given)
+            changed = {"field": set_number, "byte": set_byte, "lend": lend, "eput": set_entity_cell}
+            answer = changed[kind](model, machine, *given)
         state = machine.state
         got = [answer.detail, answer.count, state.position, state.function, state.depth, state.saved]
         yield line, words[at + 1 :], [answer.word, *map(str, got), digest(machine)]
@@ -144,14 +170,16 @@ def read_record(machine, kind, index, lent):
 
 
 def replay_traces(model):
-    cells, saved = [0] * 64, [0] * 2048
+    cells, saved, entity_cells = [0] * 64, [0] * 2048, []
     for line in lines_of("traces.txt"):
         given, expected = line.split(" = ")
         kind, *words = given.split(" ")
         if kind == "new":
-            file = bytes_of(*words)
-            machine = model.Machine(file, cells, saved)
-            answer = machine.load()
+            file, entities, lent = bytes_of(*words[:2]), int(words[2]), int(words[3])
+            if len(entity_cells) != lent:
+                entity_cells = [0] * lent
+            machine = model.Machine(file, cells, saved, entity_cells)
+            answer = machine.load(entities)
             yield line, expected, f"{answer.word} {answer.detail}"
             continue
         number, lent = map(int, words)

@@ -7,6 +7,7 @@ from common import (
     MINUS_INFINITY, MINUS_ONE, MINUS_ZERO, NEGATIVE_NAN, ROUNDED_SIZES, SIGNALLING_NAN, THREE, TWO,
     Xorshift, flat, flt, hex_of, numbers, triple,
 )
+from entity_cases import World, entity_vectors, last_cell_vectors
 from model import (
     CELLS, ENTITY, FIELD, FLOAT, FUNCTION, FUNCTIONS, GLOBAL_DEFS, HOST_OPCODES, INFINITY, ONE,
     OPCODES, OPCODE_NUMBER, POINTER, QUIET_NAN, SAVE_FLAG, SIGN, STATEMENTS, STRING, VECTOR, VOID,
@@ -41,6 +42,13 @@ VECTOR_FUNCTIONS = [
 ]
 
 
+NO_WORLD = World(0, 0, {})
+
+
+def changes(before, after):
+    return [(i, new) for i, (old, new) in enumerate(zip(before, after)) if old != new]
+
+
 class Vectors:
     """Writes vectors: single statements on a file just loaded."""
 
@@ -60,10 +68,10 @@ class Vectors:
             f"file {self.base.place(STATEMENTS)} {self.base.lumps[2 * CELLS + 1]} {hex_of(file)}"
         )
 
-    def add(self, opcode, a=0, b=0, c=0, cells=None, enter=-1, pokes=(), refused=None):
+    def add(self, opcode, a=0, b=0, c=0, cells=None, enter=-1, pokes=(), refused=None, world=NO_WORLD):
         file, base = self.base.bytes(), self.base
-        machine = Machine(file, [0] * base.lumps[2 * CELLS + 1], [0] * 2048)
-        assert machine.load() == Answer("accepted")
+        machine = Machine(file, [0] * base.lumps[2 * CELLS + 1], [0] * 2048, [0] * world.lent)
+        assert machine.load(world.entities) == Answer("accepted")
         if enter >= 0:
             assert machine.enter(enter) == Answer("accepted")
             assert machine.state.position == 0
@@ -75,14 +83,18 @@ class Vectors:
         cells = cells or {}
         for cell, value in cells.items():
             machine.cells[cell] = value
-        before = list(machine.cells)
+        for index, value in world.given.items():
+            machine.entity_cells[index] = value
+        before, entities_before = list(machine.cells), list(machine.entity_cells)
         answer = machine.statement()
-        assert refused is None or answer == Answer("refused", refused), (opcode, a, b, c, answer)
-        changed = [(i, new) for i, (old, new) in enumerate(zip(before, machine.cells)) if old != new]
+        assert refused is None or answer == Answer("refused", refused), (opcode, a, b, c, cells, world, answer)
+        changed = changes(before, machine.cells)
+        entity_changes = changes(entities_before, machine.entity_cells)
         state = machine.state
         given = [enter, number, a, b, c, len(pokes), *flat(pokes), len(cells), *flat(cells.items())]
+        given += [world.entities, world.lent, len(world.given), *flat(world.given.items())]
         expected = [answer.detail, state.position, state.function, state.depth, state.saved]
-        expected += [len(changed), *flat(changed)]
+        expected += [len(changed), *flat(changed), len(entity_changes), *flat(entity_changes)]
         self.lines.append(f"vector {numbers(given)} = {answer.word} {numbers(expected)}")
         self.seen.append((number, answer))
         return answer
@@ -454,10 +466,11 @@ def return_vectors(v):
 
 
 def host_vectors(v):
-    v.note("handed over, operands unchecked; opcodes that are none")
+    v.note("State is handed over, operands unchecked; opcodes that are none")
     for number in sorted(HOST_OPCODES):
         v.add(OPCODES[number], 28, 29, 30)
         v.add(OPCODES[number], -1, 64, 32767)
+        v.add(OPCODES[number], 28, 29, 30, enter=PLAIN, world=World(1, 105, {0: 7}))
     for number in (66, 67, 255, 256, 32767, -1, -32768):
         v.add(number, 28, 29, 30)
 
@@ -639,4 +652,6 @@ def statement_vectors():
         definitions=[(STRING, 32768), (FLOAT, 32769), (STRING, 65535)],
     )
     large_vectors(v)
+    last_cell_vectors(v)
+    entity_vectors(v)
     return v

@@ -18,8 +18,8 @@ import model
 import replay
 from common import Xorshift, flt, triple
 from model import (
-    BUILTINS, CELLS, ENTITY, FLOAT, FUNCTIONS, HOST_OPCODES, INFINITY, OPCODES, QUIET_NAN,
-    SAVE_FLAG, SIGN, STATEMENTS, STRING, VECTOR, VOID, Answer, Assembly, Frame, Machine, State,
+    BUILTINS, CELLS, ENTITY, FIELD, FLOAT, FUNCTION, FUNCTIONS, HOST_OPCODES, INFINITY, OPCODES, POINTER,
+    QUIET_NAN, SAVE_FLAG, SIGN, STATEMENTS, STRING, VECTOR, VOID, Answer, Assembly, Frame, Machine, State,
     function, replace, show,
 )
 
@@ -32,13 +32,13 @@ def refused(number, count=0):
     return Answer("refused", number, count)
 
 
-def loaded(*statements, functions=(), cells=None, lent=None, **parts):
+def loaded(*statements, functions=(), cells=None, lent=None, entities=0, entity_cells=(), **parts):
     """A machine just loaded: the statements from 0, function 0 all zeros, the given ones from 1."""
     assembly = Assembly(statements, [function(), *functions], cells=cells, **parts)
     lent = assembly.lumps[2 * CELLS + 1] if lent is None else lent
-    machine = Machine(assembly.bytes(), [0] * lent, [0] * 2048)
+    machine = Machine(assembly.bytes(), [0] * lent, [0] * 2048, entity_cells)
     machine.assembly = assembly
-    assert machine.load() == ACCEPTED
+    assert machine.load(entities) == ACCEPTED
     return machine
 
 
@@ -51,7 +51,8 @@ def result(name, x, y):
 
 
 def everything(machine):
-    return machine.state, list(machine.cells), list(machine.saved_store), bytes(machine.file)
+    buffers = (machine.cells, machine.saved_store, machine.entity_cells)
+    return machine.state, *map(list, buffers), bytes(machine.file)
 
 
 class Situations(unittest.TestCase):
@@ -488,9 +489,9 @@ class Load(unittest.TestCase):
         self.assertEqual(BUILTINS, numbers)
 
     def test_cells(self):
-        self.assembly = Assembly(cell_count=35, entity_cells=104)
+        self.assembly = Assembly(cell_count=35, cells_per_entity=104)
         self.assertEqual(self.load(), refused(10))
-        self.assembly = Assembly(cell_count=36, entity_cells=104)
+        self.assembly = Assembly(cell_count=36, cells_per_entity=104)
         self.assertEqual(self.load(), refused(11))
         self.assembly = Assembly(cell_count=36)
         self.assertEqual(self.load(), ACCEPTED)
@@ -559,9 +560,214 @@ class Statements(unittest.TestCase):
         self.assertEqual(self.answer("EqEnt", 28, 29, 30, cells={29: SIGN}), refused(17))
 
     def test_handed_over(self):
-        self.assertEqual(HOST_OPCODES, {24, 25, 26, 27, 28, 29, 30, 37, 38, 39, 40, 41, 42, 60})
-        self.assertEqual(self.answer("LoadF", -1, -1, -1), Answer("opcode", 24))
+        self.assertEqual(HOST_OPCODES, {60})
         self.assertEqual(self.answer("State", -1, -1, -1), Answer("opcode", 60))
+        self.assertEqual(self.answer("LoadF", -1, -1, -1), refused(15))
+
+
+FIELD_KINDS = (("F", FLOAT), ("V", VECTOR), ("S", STRING), ("Ent", ENTITY), ("Fld", FIELD), ("Fnc", FUNCTION))
+
+
+class Sparse:
+    """So many lent entity cells, all zeros, without holding them."""
+
+    def __init__(self, length):
+        self.length, self.written = length, {}
+
+    def __len__(self):
+        return self.length
+
+    def __getitem__(self, index):
+        assert 0 <= index < self.length
+        return self.written.get(index, 0)
+
+    def __setitem__(self, index, value):
+        assert 0 <= index < self.length
+        self.written[index] = value
+
+
+class EntityFields(unittest.TestCase):
+    """R-3.  Entity e's field f is lent entity cell 105 e + f."""
+
+    def machine(self, *statement, cells=None, entities=3, lent=None, **parts):
+        lent = 105 * entities if lent is None else lent
+        return loaded(statement, cells=cells, entities=entities, entity_cells=[1000 + i for i in range(lent)], **parts)
+
+    def answer(self, *statement, **given):
+        machine = self.machine(*statement, **given)
+        before = everything(machine)
+        answer = machine.statement()
+        if answer != ACCEPTED:
+            self.assertEqual(everything(machine), before)
+        return answer
+
+    def test_loads(self):
+        for kind, type_ in FIELD_KINDS:
+            machine = self.machine(f"Load{kind}", 28, 29, 30, cells={28: 2, 29: 7, 33: 9}, fields=[(type_, 7)])
+            self.assertEqual(machine.statement(), ACCEPTED)
+            three = [1217, 1218, 1219, 9] if kind == "V" else [1217, 0, 0, 9]
+            self.assertEqual(machine.cells[30:34], three)
+            self.assertEqual(machine.entity_cells, [1000 + i for i in range(315)])
+            self.assertEqual(machine.state.position, 1)
+
+    def test_address(self):
+        for entity, field, pointer in ((0, 0, 0), (0, 104, 416), (1, 0, 420), (2, 104, 1256)):
+            machine = self.machine("Address", 28, 29, 30, cells={28: entity, 29: field}, definitions=[(POINTER, 30)])
+            self.assertEqual(machine.statement(), ACCEPTED)
+            self.assertEqual(machine.cells[30], pointer)
+
+    def test_stores(self):
+        for kind, type_ in FIELD_KINDS:
+            machine = self.machine(f"StoreP{kind}", 28, 31, cells={28: 5, 29: 6, 30: 7, 31: 864}, fields=[(type_, 6)])
+            self.assertEqual(machine.statement(), ACCEPTED)
+            expected = [1000 + i for i in range(315)]
+            expected[216 : 219 if kind == "V" else 217] = [5, 6, 7] if kind == "V" else [5]
+            self.assertEqual(machine.entity_cells, expected)
+            self.assertEqual(machine.cells[28:32], [5, 6, 7, 864])
+
+    def test_entity_and_field_numbers(self):
+        for entity, field, refusal in ((2, 104, 0), (3, 0, 30), (3, 105, 30), (2, 105, 31), (0, 105, 31), (2**31 - 1, 2**31 - 1, 30)):
+            for name in ("LoadF", "LoadFnc", "Address"):
+                answer = self.answer(name, 28, 29, 30, cells={28: entity, 29: field}, lent=500)
+                self.assertEqual(answer, refused(refusal) if refusal else ACCEPTED)
+        for name in ("LoadF", "LoadV", "LoadS", "LoadEnt", "LoadFld", "LoadFnc", "Address"):
+            self.assertEqual(self.answer(name, 28, 29, 30, cells={28: SIGN, 29: 2**31}), refused(17))
+            self.assertEqual(self.answer(name, 28, 29, 30, cells={28: 3, 29: SIGN}), refused(17))
+            self.assertEqual(self.answer(name, 28, 29, 30, entities=0), refused(30))
+
+    def test_pointers(self):
+        for pointer, refusal in ((1256, 0), (1260, 32), (2**31 - 4, 32), (2, 32), (1255, 32), (2**32 - 4, 32), (2**31, 32)):
+            answer = self.answer("StorePF", 28, 29, cells={29: pointer}, lent=500)
+            self.assertEqual(answer, refused(refusal) if refusal else ACCEPTED)
+        self.assertEqual(self.answer("StorePF", 28, 29, entities=0, lent=500), refused(32))
+
+    def test_a_vector_stays_within_its_entity(self):
+        for entity in (0, 1, 2):
+            for field, answer in ((102, ACCEPTED), (103, refused(31)), (104, refused(31))):
+                self.assertEqual(self.answer("LoadV", 28, 29, 30, cells={28: entity, 29: field}, lent=320), answer)
+                cells = {28: 5, 29: 6, 30: 7, 31: 4 * (105 * entity + field)}
+                self.assertEqual(self.answer("StorePV", 28, 31, cells=cells, lent=320), answer)
+
+    def test_greatest_pointer(self):
+        """Of 2**28 cells per entity: entity 1's last field is at 2**31 - 4, entity 2's first would be at 2**31."""
+        for entity, field, answer in ((1, 2**28 - 1, ACCEPTED), (2, 0, refused(32)), (2, 2**28, refused(31)), (3, 0, refused(30))):
+            cells = {28: entity, 29: field}
+            machine = loaded(
+                ("Address", 28, 29, 30), ("StorePF", 31, 30), cells=cells, entities=3, entity_cells=Sparse(3 * 2**28),
+                cells_per_entity=2**28,
+            )
+            self.assertEqual(machine.statement(), answer)
+            if answer == ACCEPTED:
+                self.assertEqual(machine.cells[30], 2**31 - 4)
+                machine.write(31, 7)
+                self.assertEqual(machine.statement(), ACCEPTED)
+                self.assertEqual(machine.entity_cells.written, {2**29 - 1: 7})
+
+    def test_field_definitions(self):
+        for fields, answer in (
+            ([], ACCEPTED),
+            ([(FLOAT, 7)], ACCEPTED),
+            ([(VECTOR, 7)], ACCEPTED),
+            ([(STRING, 7)], refused(16)),
+            ([(VOID, 7)], ACCEPTED),
+            ([(VOID, 7), (STRING, 7)], refused(16)),
+            ([(VOID, 7), (FLOAT, 7), (STRING, 7)], ACCEPTED),
+            ([(STRING, 7), (FLOAT, 7)], refused(16)),
+            ([(STRING, 6), (STRING, 8)], ACCEPTED),
+        ):
+            self.assertEqual(self.answer("LoadF", 28, 29, 30, cells={29: 7}, fields=fields), answer)
+            self.assertEqual(self.answer("StorePF", 28, 29, cells={29: 28}, fields=fields), answer)
+            self.assertEqual(self.answer("Address", 28, 29, 30, cells={29: 7}, fields=fields), ACCEPTED)
+        # 65,543 is no other cell's number; a vector has three
+        self.assertEqual(self.answer("LoadF", 28, 29, 30, cells={29: 65536 + 7}, fields=[(STRING, 7)]), refused(31))
+        self.assertEqual(self.answer("LoadF", 28, 29, 30, cells={29: 105}, fields=[(STRING, 105)]), refused(16))
+        for cell in (7, 8, 9, 10):
+            answer = ACCEPTED if cell == 10 else refused(16)
+            self.assertEqual(self.answer("LoadV", 28, 29, 30, cells={29: 7}, fields=[(STRING, cell)]), answer)
+        self.assertEqual(self.answer("LoadV", 28, 29, 30, cells={29: 104}, fields=[(STRING, 105)]), refused(16))
+        self.assertEqual(self.answer("LoadV", 28, 29, 30, cells={29: 104}, fields=[(STRING, 106)]), refused(31))
+
+    def test_negative_values_moved(self):
+        for kind, answer in (("F", ACCEPTED), ("S", refused(17)), ("Ent", refused(17)), ("Fld", refused(17)), ("Fnc", ACCEPTED)):
+            machine = self.machine(f"Load{kind}", 28, 29, 30, cells={29: 7})
+            machine.entity_cells[7] = 0xFFC12345
+            self.assertEqual(machine.statement(), answer)
+            self.assertEqual(machine.cells[30], 0xFFC12345 if answer == ACCEPTED else 0)
+            cells = {28: 0xFFC12345, 29: 28}
+            self.assertEqual(self.answer(f"StoreP{kind}", 28, 29, cells=cells), answer)
+        # an entity is refused at its own access, a string after everything else
+        definitions, fields = [(FLOAT, 30)], [(FLOAT, 7)]
+        for kind, pointer_cell, refusals in (("Ent", 30, 17), ("S", 30, 16), ("Fld", 29, 17), ("S", 29, 16)):
+            given = dict(cells={28: SIGN, 29: 28}, definitions=definitions, fields=fields)
+            self.assertEqual(self.answer(f"StoreP{kind}", 28, pointer_cell, **given), refused(refusals))
+        self.assertEqual(self.answer("StorePS", 28, 29, cells={28: SIGN, 29: 2}), refused(32))
+
+    def test_order(self):
+        definitions, fields = [(STRING, 40), (STRING, 64)], [(STRING, 7)]
+        good = {28: 3, 29: 7, 31: 2}
+        for statement, refusal in (
+            (("LoadF", 40, -1, -1), 16),
+            (("LoadF", 64, -1, -1), 16),
+            (("LoadF", 28, -1, 40), 15),
+            (("LoadF", 28, 29, 40), 16),
+            (("LoadF", 28, 29, 65), 15),
+            (("LoadV", 28, 29, 63), 16),
+            (("LoadF", 28, 29, 30), 30),
+            (("Address", 28, 29, 40), 16),
+            (("Address", 28, 29, -1), 15),
+            (("StorePF", 40, 31, 1), 18),
+            (("StorePF", -1, 40, 0), 15),
+            (("StorePF", 28, 40, 0), 16),
+            (("StorePF", 28, 31, 0), 32),
+        ):
+            answer = self.answer(*statement, cells=good, definitions=definitions, fields=fields)
+            self.assertEqual(answer, refused(refusal), statement)
+
+    def test_load(self):
+        assembly = Assembly([("Done",)])
+        for entities, lent, answer in (
+            *((0, 0, ACCEPTED), (1, 105, ACCEPTED), (1, 104, refused(13)), (2, 400, ACCEPTED), (-1, 400, refused(13))),
+            *((600, 63000, ACCEPTED), (600, 62999, refused(13)), (601, 70000, refused(13))),
+        ):
+            machine = Machine(assembly.bytes(), [5] * 64, [6] * 2048, [7] * lent)
+            self.assertEqual(machine.load(entities), answer)
+            self.assertEqual(machine.entity_cells, [7] * lent)
+            self.assertEqual(machine.state.entities, entities if answer == ACCEPTED else 0)
+        machine = Machine(assembly.bytes(), [5] * 63, [6] * 2048, [])
+        self.assertEqual(machine.load(601), refused(12))
+
+    def test_check_13(self):
+        machine = self.machine("Done", entities=2, lent=215)
+        good = machine.state
+        for entities, answer in ((0, ACCEPTED), (2, ACCEPTED), (3, refused(13)), (601, refused(13))):
+            machine.state = replace(good, entities=entities)
+            self.assertEqual(machine.read(1), answer)
+        machine.state = good
+        machine.entity_cells = [7] * 209
+        for answer in (machine.run(0, 0), machine.abandon(-1), machine.read(-1), machine.enter(-1), machine.carry_on()):
+            self.assertEqual(answer, refused(13))
+        machine.entity_cells = [7] * 210
+        self.assertEqual(machine.read(1), ACCEPTED)
+
+    def test_runs_keep_what_was_written(self):
+        statements = [("StorePF", 28, 40), ("Call0", 41), ("Return", 0), ("StorePF", 28, 42), ("StorePF", 28, 43)]
+        functions = [function(0, 40, 1), function(3, 42, 1)]
+        cells = {28: 9, 40: 4, 41: 2, 42: 8, 43: 105 * 4}
+        machine = loaded(*statements, functions=functions, cells=cells, entities=1, entity_cells=[0] * 105)
+        machine.enter(1)
+        self.assertEqual(machine.run(0, 9), refused(32, 3))
+        self.assertEqual(machine.entity_cells[:4], [0, 9, 9, 0])
+        machine.write(42, 1)
+        self.assertEqual(machine.abandon(0), ACCEPTED)
+        self.assertEqual((machine.cells[40], machine.cells[42]), (4, 8))
+        self.assertEqual(machine.entity_cells[:4], [0, 9, 9, 0])
+        self.assertEqual(machine.load(1), ACCEPTED)
+        self.assertEqual(machine.entity_cells[:4], [0, 9, 9, 0])
+
+    def test_not_handed_over(self):
+        for opcode in (*range(24, 31), *range(37, 43)):
+            machine = self.machine(opcode, 28, 29, 30 if opcode <= 30 else 0)
+            self.assertEqual(machine.carry_on(), refused(27))
 
 
 class CallMachine(unittest.TestCase):
@@ -636,7 +842,7 @@ class CallMachine(unittest.TestCase):
         self.assertEqual(machine.run(1, 1), Answer("ended", 0, 1))
 
     def test_carry_on(self):
-        machine = loaded(("LoadF",), ("Call0", 28), ("AddF",), functions=[function(-7)], cells={28: 1})
+        machine = loaded(("State",), ("Call0", 28), ("AddF",), functions=[function(-7)], cells={28: 1})
         self.assertEqual(machine.carry_on(), ACCEPTED)
         self.assertEqual(machine.carry_on(), ACCEPTED)
         self.assertEqual(machine.carry_on(), refused(27))
@@ -692,7 +898,7 @@ class Check13(unittest.TestCase):
             lumps = list(good.lumps)
             lumps[index] += 1
             self.assertEqual(answer(lumps=tuple(lumps)), refused(13))
-        self.assertEqual(answer(entity_cells=106), refused(13))
+        self.assertEqual(answer(cells_per_entity=106), refused(13))
         self.assertEqual(answer(depth=32), refused(13))
         self.assertEqual(answer(function=4), refused(13))
         self.assertEqual(answer(saved=4), refused(13))
@@ -734,14 +940,27 @@ class CaseFiles(unittest.TestCase):
         refusing = {opcode for opcode, answer in seen if answer.word == "refused"}
         self.assertEqual(set(range(66)) - HOST_OPCODES - refusing, {OPCODES.index("Goto")})
 
+    def test_every_refusal_of_a_field_statement(self):
+        """Address 15, 16, 17, 30, 31; a load 15, 16, 17, 30, 31; a store 15, 16, 18, 32, 31 only with three cells."""
+        found = {}
+        for opcode, answer in self.makers["statements.txt"].seen:
+            if answer.word == "refused":
+                found.setdefault(opcode, set()).add(answer.detail)
+        for opcode in (*range(24, 31), *range(37, 43)):
+            expected = {15, 16, 17, 30, 31} if opcode <= 30 else {15, 16, 18, 32}
+            expected |= {38: {31}, 39: {17}, 40: {17}, 41: {17}}.get(opcode, set())
+            self.assertEqual(found[opcode], expected, OPCODES[opcode])
+
     def test_every_refusal(self):
         calls = {answer.detail for _, answer in self.makers["calls.txt"].seen if answer.word == "refused"}
         shown = [line.split(",") for _, line in self.makers["files.txt"].seen]
         files = {int(fields[1]) for fields in shown if fields[0] == "refused"}
         # 26 can't be met after 13; 8 and 9 are a field definition's in the files
-        self.assertEqual(calls | files, set(range(1, 30)) - {26})
+        self.assertEqual(calls | files, set(range(1, 33)) - {26})
         # a file alone can't reach these: nothing lent is short, no state is made up, nothing changed
         self.assertEqual(set(range(1, 25)) - files, {12, 13})
+        # without entities 31 isn't reached
+        self.assertEqual({30, 31, 32} & files, {30, 32})
         self.assertEqual({fields[0] for fields in shown}, {"ended", "spent", "refused", "builtin", "opcode"})
 
 

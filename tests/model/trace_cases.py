@@ -1,10 +1,10 @@
 """Records read through the view, and programs gone through statement by statement: cases/traces.txt."""
 
 from call_cases import digest_of
-from common import ONE, TWO, Xorshift, flt, hex_of, numbers, program, random_program
+from common import ONE, TWO, Xorshift, flt, hex_of, program, random_program, triple
 from model import (
-    FLOAT, FUNCTION, FUNCTIONS, GLOBAL_DEFS, RECORD_SIZES, SAVE_FLAG, STATEMENTS, STRING, VECTOR,
-    Answer, Machine, Program, function,
+    ENTITY, FIELD, FLOAT, FUNCTION, FUNCTIONS, GLOBAL_DEFS, POINTER, RECORD_SIZES, SAVE_FLAG, STATEMENTS,
+    STRING, VECTOR, VOID, Answer, Machine, Program, function,
 )
 
 MOST_STEPS = 40
@@ -20,14 +20,19 @@ class Traces:
     def note(self, text):
         self.lines.append(f"# {text}")
 
-    def new(self, assembly, refused=0):
-        """64 lent cells and a saved store of 2,048, as the file before left them; zeros at first."""
-        cells, saved = (self.machine.cells, self.machine.saved_store) if self.machine else ([0] * 64, [0] * 2048)
+    def new(self, assembly, refused=0, entities=0, lent=0):
+        """64 lent cells, a saved store of 2,048 and entity cells, as the file before left them; zeros at
+        first, and entity cells anew where another number of them is lent."""
+        cells, saved, entity_cells = [0] * 64, [0] * 2048, []
+        if self.machine:
+            cells, saved, entity_cells = self.machine.cells, self.machine.saved_store, self.machine.entity_cells
+        if len(entity_cells) != lent:
+            entity_cells = [0] * lent
         self.file = assembly.bytes()
-        self.machine = Machine(self.file, cells, saved)
-        answer = self.machine.load()
+        self.machine = Machine(self.file, cells, saved, entity_cells)
+        answer = self.machine.load(entities)
         assert answer.detail == refused, answer
-        self._write(f"new {hex_of(self.file)}", [*answer[:2]])
+        self._write(f"new {hex_of(self.file)} {entities} {lent}", [*answer[:2]])
 
     def _write(self, line, expected):
         self.lines.append(f"{line} = {' '.join(map(str, expected))}")
@@ -178,6 +183,38 @@ def rounding():
     return program(*statements, functions=functions, cells=cells, definitions=[(FLOAT, 4), (FLOAT, 1)])
 
 
+def fielded():
+    """R-3: pointers made, all six kinds written and read back; one player after another, until there is none."""
+    kinds = ((28, "F", 0), (29, "V", 1), (32, "S", 4), (33, "Ent", 5), (34, "Fld", 6), (35, "Fnc", 7))
+    statements = []
+    for source, kind, field in kinds:
+        statements += [("Address", 40, 41 + field, 56), (f"StoreP{kind}", source, 56), (f"Load{kind}", 40, 41 + field, 57)]
+    statements += [
+        ("Call1", 53),  # 19: enters function 2
+        ("Return", 28),
+        ("LoadEnt", 40, 46, 40),  # 21: function 2 has the player as a local
+        ("Address", 40, 46, 56),
+        ("StorePEnt", 54, 56),  # the one after it is number 3
+        ("Call0", 53),
+        ("Return", 40),
+        ("StorePV", 28, 55),  # 26: function 3, at the last cells of the last player
+        ("StorePF", 28, 55, 1),  # 27: function 4
+        ("Call0", 52),  # 28: function 5 enters function 6, which writes and returns
+        ("Return", 28),
+        ("Address", 40, 41, 56),  # 30
+        ("StorePF", 31, 56),
+        ("Return", 29),
+    ]
+    functions = [function(1, 57, 3), function(21, 40, 1), function(26), function(27), function(28), function(30, 56, 1)]
+    cells = {28: flt(1.25), **triple(29, (ONE, TWO, flt(-0.5))), 32: 2, 33: 2, 34: 7, 35: 3, 52: 6, 53: 2, 54: 3, 55: 4 * 316}
+    cells |= {40: 1, **{41 + field: field for field in range(8)}}
+    fields = [(FLOAT, 0), (VECTOR, 1), (STRING, 4), (ENTITY, 5), (VOID, 6), (FIELD, 6), (FUNCTION, 7)]
+    definitions = [(POINTER, 56), (ENTITY, 40), (FIELD, 41)]
+    return program(
+        *statements, functions=functions, cells=cells, definitions=definitions, fields=fields, cells_per_entity=106
+    )
+
+
 def refusing():
     """The last statement of each function but one is refused or not there."""
     statements = [("AddF", 28, 29, 30), ("AddF", 28, -1, 30), ("StoreF", 28, 29, 1), ("Address", 1, 2, 3), ("Goto", -9)]
@@ -217,6 +254,7 @@ def trace_cases():
     t.byte(t.machine.state.lumps[2], STRING)  # cell 4
     t.enter(3)
     t.through()
+    fielded_cases(t)
     t.note("refused statements, and positions where there is none")
     t.new(refusing())
     t.records()
@@ -246,11 +284,37 @@ def trace_cases():
     return t
 
 
+def fielded_cases(t):
+    t.note("R-3: entity fields: written through pointers and read, until an entity is not below the number")
+    t.new(fielded(), entities=3, lent=318)
+    t.enter(5)
+    t.through()
+    t.enter(1)
+    t.through()
+    t.note("R-3: what was written stays, by a load too; fewer entities of the same lent cells")
+    t.new(fielded(), entities=2, lent=318)
+    for number in (3, 4, 1):
+        t.enter(number)
+        t.through()
+    t.note("R-3: lent entity cells anew, zeros: enough, one short, none; too many entities")
+    t.new(fielded(), entities=3, lent=320)
+    t.enter(3)
+    t.through()
+    t.new(fielded(), 13, entities=3, lent=317)
+    t.trace()
+    t.new(fielded(), 13, entities=-1, lent=317)
+    t.new(fielded(), entities=0, lent=0)
+    t.enter(1)
+    t.through()
+    t.new(fielded(), 13, entities=601, lent=0)
+
+
 def chance_cases(t):
     t.note("programs made by chance")
     chance = Xorshift(0x7ACE)
-    for _ in range(8):
-        t.new(random_program(chance, hosts=True))
+    for index in range(14):
+        entities = 3 if index >= 8 else 0
+        t.new(random_program(chance, hosts=True, entities=entities > 0), entities=entities, lent=105 * entities)
         for _ in range(6):
             t.function(chance.below(8) - 1)
             t.definition(chance.below(7) - 1)

@@ -57,6 +57,7 @@ pub fn with_field(context: ExecutionContext, i: usize, v: i64) -> ExecutionConte
         15 => next.current_function = natural(v),
         16 => next.depth = natural(v),
         17 => next.saved = natural(v),
+        80 => next.entity_count = natural(v),
         _ => return with_frame(context, i - 18, v),
     }
     next

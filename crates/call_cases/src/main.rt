@@ -9,7 +9,6 @@ use definition::LONGEST_FILE;
 use definition::MOST_CELLS;
 use libc::STDIN_FILENO;
 use progs::ExecutionContext;
-use progs::load;
 
 mod calls;
 mod fields;
@@ -20,47 +19,51 @@ struct List {
     file: usize,
     cells: usize,
     saved: usize,
+    entities: usize,
 }
 
-fn print_done(done: Done, cells: &[u32], store: &[u32]) {
+fn print_done(done: Done, cells: &[u32], store: &[u32], entities: &[u32]) {
     let context = done.context;
     let said = done.said;
     answers::print(said);
     print::field(done.count as u64);
-    print::state(context, cells, store);
+    print::state(context, cells, store, entities);
     print::end_line();
 }
 
-// base, base + 1, and so on.
-fn number_cells(cells: &mut [u32], base: u32)
-    requires { ⌜ base < 4294901760 ⌝ }
-{
-    let mut i = 0;
-    while i < cells.len() {
-        cells[i] = base + (i % 65536) as u32;
-        i += 1;
-    }
+// As many numbered cells as the word at `at` says. The result is how many.
+fn lend(text: &[u8], at: usize, cells: &mut [u32], base: u32) -> usize {
+    let n = cases::count(text, at, cells.len());
+    calls::number_cells(&mut cells[..n], base);
+    n
 }
 
-// The line `new CELLS SAVED LENGTH HEX`, with which a list begins. The state before its calls is all zeros, as a refused load gives it.
-fn begin(text: &[u8], at: usize, file: &mut [u8], cells: &mut [u32], store: &mut [u32]) -> List
+// The line `new CELLS SAVED ENTITIES LENGTH HEX`, with which a list begins. The state before its calls is all zeros.
+fn begin(
+    text: &[u8],
+    at: usize,
+    file: &mut [u8],
+    cells: &mut [u32],
+    store: &mut [u32],
+    entities: &mut [u32],
+) -> List
     requires { ⌜ at < length (now text) ⌝ }
 {
     let lent = cases::next_word(text, at);
     let kept = cases::next_word(text, lent);
-    let size = cases::next_word(text, kept);
-    let c = cases::count(text, lent, cells.len());
-    let s = cases::count(text, kept, store.len());
-    number_cells(&mut cells[..c], 0xdead_0000);
-    number_cells(&mut store[..s], 0xbeef_0000);
+    let fields = cases::next_word(text, kept);
+    let size = cases::next_word(text, fields);
+    let c = lend(text, lent, cells, 0xdead_0000);
+    let s = lend(text, kept, store, 0xbeef_0000);
+    let e = lend(text, fields, entities, 0xcafe_0000);
     let n = cases::file(text, size, file);
-    let none = load::load(b"", cells, store);
-    let context = none.context;
+    let context = cases::zero_state();
     List {
         context,
         file: n,
         cells: c,
         saved: s,
+        entities: e,
     }
 }
 
@@ -72,15 +75,17 @@ fn perform_line(
     file: &mut [u8],
     cells: &mut [u32],
     store: &mut [u32],
+    entities: &mut [u32],
 ) -> List
     requires { ⌜ at < length (now text) ⌝ }
 {
     if text[at] == b'n' {
-        return begin(text, at, file, cells, store);
+        return begin(text, at, file, cells, store, entities);
     }
     let n = cases::least(list.file, file.len());
     let c = cases::least(list.cells, cells.len());
     let s = cases::least(list.saved, store.len());
+    let e = cases::least(calls::lent(text, at, list.entities), entities.len());
     let context = list.context;
     let done = calls::perform(
         text,
@@ -89,29 +94,37 @@ fn perform_line(
         &mut file[..n],
         &mut cells[..c],
         &mut store[..s],
+        &mut entities[..e],
     );
     let after = done.context;
-    print_done(done, &cells[..c], &store[..s]);
+    print_done(done, &cells[..c], &store[..s], &entities[..e]);
     List {
         context: after,
         file: n,
         cells: c,
         saved: s,
+        entities: e,
     }
 }
 
-fn perform_lists(text: &[u8], file: &mut [u8], cells: &mut [u32], store: &mut [u32]) {
+fn perform_lists(
+    text: &[u8],
+    file: &mut [u8],
+    cells: &mut [u32],
+    store: &mut [u32],
+    entities: &mut [u32],
+) {
     let mut at = 0;
-    let none = load::load(b"", cells, store);
-    let context = none.context;
+    let context = cases::zero_state();
     let mut list = List {
         context,
         file: 0,
         cells: 0,
         saved: 0,
+        entities: 0,
     };
     while at < text.len() {
-        list = perform_line(text, at, list, file, cells, store);
+        list = perform_line(text, at, list, file, cells, store, entities);
         at = cases::next_line(text, at);
     }
 }
@@ -122,16 +135,18 @@ fn perform_all(
     file: &mut [u8; LONGEST_FILE + 1],
     cells: &mut [u32],
     store: &mut [u32],
+    entities: &mut [u32],
 ) {
-    perform_lists(text, file, cells, store);
+    perform_lists(text, file, cells, store, entities);
 }
 
-// A file has at most one byte more than a load accepts, and at most one cell more.
+// A file has at most one byte more than a load accepts, and at most one cell more. No case of the model lends more entity cells, those of single statements included.
 fn main() {
-    let mut text = [0u8; 262144];
+    let mut text = [0u8; 524288];
     let mut file = [0u8; LONGEST_FILE + 1];
     let mut cells = [0u32; MOST_CELLS + 1];
     let mut store = [0u32; 2100];
+    let mut entities = [0u32; 65540];
     let n = io::read_full(STDIN_FILENO, &mut text);
-    perform_all(&text[..n], &mut file, &mut cells, &mut store);
+    perform_all(&text[..n], &mut file, &mut cells, &mut store, &mut entities);
 }

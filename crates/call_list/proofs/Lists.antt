@@ -102,11 +102,11 @@ formed-start formed n = let a : n - 0 ≡ n = omega arith in rw a
 -- the call that is performed is the one whose numbers are there
 pub left-replied : (P : Program) (list : List ℤ) (n : ℕ) (c₀ c : Config) (answers₀ answers : List ℕ) (i : ℕ) → Left P (callIn list) n c₀ c answers₀ answers i → i < n
     → (kind : ℕ) → kind ≡ placeOf 7 (getD list (3 * i) (pos 0))
-    → (r : Replied) (cells saved : List ℕ) → repliedOf r cells saved ≡ afterCall P (callNumbered kind (getD list (3 * i + 1) (pos 0)) (getD list (3 * i + 2) (pos 0))) c
-    → Left P (callIn list) n c₀ (config (r .context) cells saved) answers₀ (set (set (set answers (3 * i) (r .word)) (3 * i + 1) (r .detail)) (3 * i + 2) (r .count)) (i + 1)
+    → (r : Replied) (cells saved entities : List ℕ) → repliedOf r cells saved entities ≡ afterCall P (callNumbered kind (getD list (3 * i + 1) (pos 0)) (getD list (3 * i + 2) (pos 0))) c
+    → Left P (callIn list) n c₀ (config (r .context) cells saved entities) answers₀ (set (set (set answers (3 * i) (r .word)) (3 * i + 1) (r .detail)) (3 * i + 2) (r .count)) (i + 1)
 unfolding callIn
-left-replied P list n c₀ c answers₀ answers i l h kind k r cells saved e =
-    let o : repliedOf r cells saved ≡ afterCall P (callIn list (3 * i)) c = e ∙ ap (λ (z : ℕ). afterCall P (callNumbered z (getD list (3 * i + 1) (pos 0)) (getD list (3 * i + 2) (pos 0))) c) k in
-    left-on P (callIn list) n c₀ c answers₀ answers i l h (config (r .context) cells saved) (repliedOf r cells saved .reply)
+left-replied P list n c₀ c answers₀ answers i l h kind k r cells saved entities e =
+    let o : repliedOf r cells saved entities ≡ afterCall P (callIn list (3 * i)) c = e ∙ ap (λ (z : ℕ). afterCall P (callNumbered z (getD list (3 * i + 1) (pos 0)) (getD list (3 * i + 2) (pos 0))) c) k in
+    left-on P (callIn list) n c₀ c answers₀ answers i l h (config (r .context) cells saved entities) (repliedOf r cells saved entities .reply)
     (ap (λ (z : AfterCall). z .config) o)
     (ap (λ (z : AfterCall). z .reply) o)

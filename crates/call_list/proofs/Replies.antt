@@ -38,38 +38,38 @@ known-handover x count h k e = known (λ (z : Handover). handoverReply z count) 
 pub known-run : (x : ExecutionContext) (count : ℕ) (a k : RunAnswer) → a ≡ k → answering x (runReply k count) ≡ answering x (runReply a count)
 known-run x count a k e = known (λ (z : RunAnswer). runReply z count) x a k e
 
-module _ (P : Program) (c : Config) (r : Replied) (cells saved : List ℕ) where
+module _ (P : Program) (c : Config) (r : Replied) (cells saved entities : List ℕ) where
   -- a load, an entry, a carry on, an abandonment or a write
   abbrev answeredCall : Checked Config → AfterCall
   answeredCall k = record { reply = answerReply (answerOf k); config = kept c k }
 
-  from-outcome : (a : Answered) (k : Checked Config) → r ≡ answering (a .context) (answerReply (a .answer)) → contexts.outcomeOf a cells saved ≡ outcome c k → repliedOf r cells saved ≡ answeredCall k
+  from-outcome : (a : Answered) (k : Checked Config) → r ≡ answering (a .context) (answerReply (a .answer)) → contexts.outcomeOf a cells saved entities ≡ outcome c k → repliedOf r cells saved entities ≡ answeredCall k
   from-outcome a k e o =
-      ap (λ (s : Replied). repliedOf s cells saved) e
+      ap (λ (s : Replied). repliedOf s cells saved entities) e
       ∙ ap (λ (z : answers.Outcome). record { reply = answerReply (z .answer); config = z .config }) o
 
   module _ (kind : ℕ) (a b : ℤ) where
     abbrev goal : Type 0
-    goal = repliedOf r cells saved ≡ afterCall P (callNumbered kind a b) c
+    goal = repliedOf r cells saved entities ≡ afterCall P (callNumbered kind a b) c
 
-    as-call : (k : Call) → callNumbered kind a b ≡ k → repliedOf r cells saved ≡ afterCall P k c → goal
+    as-call : (k : Call) → callNumbered kind a b ≡ k → repliedOf r cells saved entities ≡ afterCall P k c → goal
     as-call k e h = h ∙ ap (λ (z : Call). afterCall P z c) (sym e)
 
     module _ (w : Answered) (e : r ≡ answering (w .context) (answerReply (w .answer))) where
-      pub call-enters : kind ≡ 0 → contexts.outcomeOf w cells saved ≡ outcome c (hostEnter P a c) → goal
+      pub call-enters : kind ≡ 0 → contexts.outcomeOf w cells saved entities ≡ outcome c (hostEnter P a c) → goal
       unfolding reply after
       call-enters k o = as-call (enters a) (rw k) (from-outcome w (hostEnter P a c) e o)
 
-      pub call-carries : kind ≡ 3 → contexts.outcomeOf w cells saved ≡ outcome c (carryOn P c) → goal
+      pub call-carries : kind ≡ 3 → contexts.outcomeOf w cells saved entities ≡ outcome c (carryOn P c) → goal
       unfolding reply after
       call-carries k o = as-call carries (rw k) (from-outcome w (carryOn P c) e o)
 
-      pub call-abandons : kind ≡ 4 → contexts.outcomeOf w cells saved ≡ outcome c (abandon P a c) → goal
+      pub call-abandons : kind ≡ 4 → contexts.outcomeOf w cells saved entities ≡ outcome c (abandon P a c) → goal
       unfolding reply after
       call-abandons k o = as-call (abandons a) (rw k) (from-outcome w (abandon P a c) e o)
 
       module _ (n0 : kind ≡ 0 → ⊥) (n1 : kind ≡ 1 → ⊥) (n2 : kind ≡ 2 → ⊥) (n3 : kind ≡ 3 → ⊥) (n4 : kind ≡ 4 → ⊥) (n5 : kind ≡ 5 → ⊥) where
-        pub call-writes : (v : ℕ) → v ≡ placeOf 0 b → contexts.outcomeOf w cells saved ≡ outcome c (rawWrite P a v c) → goal
+        pub call-writes : (v : ℕ) → v ≡ placeOf 0 b → contexts.outcomeOf w cells saved entities ≡ outcome c (rawWrite P a v c) → goal
         unfolding reply after
         call-writes v i o =
             as-call (writes a (natural b)) (rw (ne-eqb kind 0 n0, ne-eqb kind 1 n1, ne-eqb kind 2 n2, ne-eqb kind 3 n3, ne-eqb kind 4 n4, ne-eqb kind 5 n5))
@@ -79,23 +79,23 @@ module _ (P : Program) (c : Config) (r : Replied) (cells saved : List ℕ) where
             place (pos i) = refl
             place (negsuc i) = refl
 
-    pub call-steps : (s : Stepped) → r ≡ answering (s .context) (statementReply (s .answer)) → kind ≡ 1 → steppedOf s cells saved ≡ statementOutcome c (statement P c) → goal
+    pub call-steps : (s : Stepped) → r ≡ answering (s .context) (statementReply (s .answer)) → kind ≡ 1 → steppedOf s cells saved entities ≡ statementOutcome c (statement P c) → goal
     unfolding reply after
     call-steps s e k o =
         as-call steps (rw k)
-        (ap (λ (z : Replied). repliedOf z cells saved) e ∙ ap (λ (z : StatementOutcome). record { reply = statementReply (z .answer); config = z .config }) o)
+        (ap (λ (z : Replied). repliedOf z cells saved entities) e ∙ ap (λ (z : StatementOutcome). record { reply = statementReply (z .answer); config = z .config }) o)
 
-    pub call-runs : (s : Ran) → r ≡ answering (s .context) (runReply (s .answer) (s .count)) → kind ≡ 2 → ranOf s cells saved ≡ run P a b c → goal
+    pub call-runs : (s : Ran) → r ≡ answering (s .context) (runReply (s .answer) (s .count)) → kind ≡ 2 → ranOf s cells saved entities ≡ run P a b c → goal
     unfolding reply after
     call-runs s e k o =
         as-call (runs a b) (rw k)
-        (ap (λ (z : Replied). repliedOf z cells saved) e ∙ ap (λ (z : machine.Ran). record { reply = runReply (z .answer) (z .count); config = z .config }) o)
+        (ap (λ (z : Replied). repliedOf z cells saved entities) e ∙ ap (λ (z : machine.Ran). record { reply = runReply (z .answer) (z .count); config = z .config }) o)
 
-    pub call-reads : (x : ExecutionContext) (v : ReadAnswer) → r ≡ answering x (readReply v) → kind ≡ 5 → config x cells saved ≡ c → v ≡ readAnswer (rawRead P a c) → goal
+    pub call-reads : (x : ExecutionContext) (v : ReadAnswer) → r ≡ answering x (readReply v) → kind ≡ 5 → config x cells saved entities ≡ c → v ≡ readAnswer (rawRead P a c) → goal
     unfolding reply after
     call-reads x v e k h o =
         as-call (reads a) (rw k)
-        (ap (λ (z : Replied). repliedOf z cells saved) e ∙ ap (λ (z : Config). record { reply = readReply v; config = z }) h ∙ ap (λ (z : ReadAnswer). record { reply = readReply z; config = c }) o)
+        (ap (λ (z : Replied). repliedOf z cells saved entities) e ∙ ap (λ (z : Config). record { reply = readReply v; config = z }) h ∙ ap (λ (z : ReadAnswer). record { reply = readReply z; config = c }) o)
 
 three-on : (kind : ℕ) → (kind ≡ 0 → ⊥) → (kind ≡ 1 → ⊥) → (kind ≡ 2 → ⊥) → 3 ≤ kind
 three-on kind n0 n1 n2 = omega (arith, n0, n1, n2)

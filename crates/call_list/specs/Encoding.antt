@@ -20,7 +20,7 @@ use Rattle.definition.specs.Machine.{Program, Config}
 use Rattle.definition.specs.Operations.{natural, below, hostEnter, statement, run, carryOn, abandon, rawRead, rawWrite}
 use Rattle.definition.specs.Answers.{answerOf, readAnswer, statementOutcome}
 use Rattle.definition.specs.Answers.{Word, ended, spent, completedWord, refusedWord, builtin, opcode, handoverWord, handoverNumber, outcomeWord, outcomeDetail, statementWord, statementDetail}
-use Rattle.definition.specs.Calls.{Call, enters, steps, runs, carries, abandons, reads, writes, after}
+use Rattle.definition.specs.Calls.{Call, enters, steps, runs, carries, abandons, reads, writes, lends, after}
 use Rattle.progs.specs.declared.ExecutionContext.{ExecutionContext}
 use Rattle.progs.specs.Contexts.{config}
 use Rattle.call_list.specs.declared.ListAnswer.{ListAnswer}
@@ -30,7 +30,7 @@ use Rattle.call_list.specs.declared.Listed.{Listed}
 
 -- ---- a call
 
--- 0 entry, 1 statement, 2 run, 3 carry on, 4 abandonment, 5 read, 6 write
+-- 0 entry, 1 statement, 2 run, 3 carry on, 4 abandonment, 5 read, 6 write. (Other entity cells are lent between lists: `lends` has no numbers.)
 abbrev pub callNumbered : ℕ → ℤ → ℤ → Call
 callNumbered k a b =
     cond (eqb k 0) (enters a)
@@ -106,6 +106,7 @@ reply P carries c = answerReply (answerOf (carryOn P c))
 reply P (abandons target) c = answerReply (answerOf (abandon P target c))
 reply P (reads a) c = readReply (readAnswer (rawRead P a c))
 reply P (writes a v) c = answerReply (answerOf (rawWrite P a v c))
+reply P (lends entities) c = replyOf completedWord 0 0
 
 -- ---- a list, "each later one what the call before it left"
 
@@ -141,11 +142,11 @@ pub record AfterCall : Type 0 where
 abbrev pub answering : ExecutionContext → Reply → Replied
 answering x r = record { context = x; word = r .word; detail = r .detail; count = r .count }
 
-abbrev pub repliedOf : Replied → List ℕ → List ℕ → AfterCall
-repliedOf r cells saved = record { reply = record { word = r .word; detail = r .detail; count = r .count }; config = config (r .context) cells saved }
+abbrev pub repliedOf : Replied → List ℕ → List ℕ → List ℕ → AfterCall
+repliedOf r cells saved entities = record { reply = record { word = r .word; detail = r .detail; count = r .count }; config = config (r .context) cells saved entities }
 
 abbrev pub afterCall : Program → Call → Config → AfterCall
 afterCall P k c = record { reply = reply P k c; config = after P k c }
 
-abbrev pub outcomeOf : Listed → List ℕ → List ℕ → List ℕ → Outcome
-outcomeOf r answers cells saved = record { answer = r .answer; config = config (r .context) cells saved; answers = answers }
+abbrev pub outcomeOf : Listed → List ℕ → List ℕ → List ℕ → List ℕ → Outcome
+outcomeOf r answers cells saved entities = record { answer = r .answer; config = config (r .context) cells saved entities; answers = answers }

@@ -28,10 +28,10 @@ last file Step At c l [] t = t
 last file Step At c l (k ∷ ks) t = last file Step At (after (programOf file) k c) (logAfterSteps file k c l (smallSteps (programOf file) k c)) ks (t .3)
 
 -- "for every list of calls after one accepted load": of the configuration that performing the list leaves
-pub list-returns : (file cells saved : List ℕ) (c : Config) → load file cells saved ≡ accepted c
+pub list-returns : (file : List ℕ) (n : ℤ) (cells saved entities : List ℕ) (c : Config) → load file n cells saved entities ≡ accepted c
     → (list : List ℤ) (answers : List ℕ) (o : Outcome) → wellFormed list (length answers) ≡ true → o ≡ performed (programOf file) list c answers
     → Always file (StepCorrect file) (DepthsMatch file) c [] (decoded list) × DepthsMatch file (o .config) (logAll file (decoded list) c [])
 unfolding performed Demand3
-list-returns file cells saved c e list answers o w p =
-    let always = demand3 file cells saved c e (decoded list) in
+list-returns file n cells saved entities c e list answers o w p =
+    let always = demand3 file n cells saved entities c e (decoded list) in
     (always, rw (p, w) (last file (StepCorrect file) (DepthsMatch file) c [] (decoded list) always))

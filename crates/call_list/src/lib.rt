@@ -1,5 +1,5 @@
 // A list of calls in numbers, performed on the operations one after the other: what a host did can be kept and done again, and demand 3's claim over a
-// list of calls is a claim about this function.
+// list of calls is a claim about this function. (Of lists that lend no other entity cells: that is between two such lists.)
 ghost use mathlib.Core.Path.{_≡_};
 ghost use mathlib.Core.Bool.{true, _||_};
 ghost use Prim.Native.Nat.{_+_, _*_, _<_, _≤_};
@@ -129,36 +129,37 @@ fn perform_call(
     b: i64,
     cells: &mut [u32],
     store: &mut [u32],
+    entities: &mut [u32],
 ) -> Replied
     requires { ⌜ (ltb kind 6 || below b 4294967296) ≡ true ⌝ }
-    ensures { λ r. ⌜ repliedOf r (now (cells .exit)) (now (store .exit)) ≡ afterCall (programOf (now (file .entry))) (callNumbered kind a b) (config context (now (cells .entry)) (now (store .entry))) ⌝ }
+    ensures { λ r. ⌜ repliedOf r (now (cells .exit)) (now (store .exit)) (now (entities .exit)) ≡ afterCall (programOf (now (file .entry))) (callNumbered kind a b) (config context (now (cells .entry)) (now (store .entry)) (now (entities .entry))) ⌝ }
 {
     if kind == 0 {
-        let entered = context.enter(file, a, cells, store);
+        let entered = context.enter(file, a, cells, store, entities);
         return reply_answer(entered);
     }
     if kind == 1 {
-        let stepped = server::statement(context, file, cells, store);
+        let stepped = server::statement(context, file, cells, store, entities);
         return reply_statement(stepped);
     }
     if kind == 2 {
-        let ran = server::run(context, file, a, b, cells, store);
+        let ran = server::run(context, file, a, b, cells, store, entities);
         return reply_run(ran);
     }
     if kind == 3 {
-        let carried = context.carry_on(file, cells, store);
+        let carried = context.carry_on(file, cells, store, entities);
         return reply_answer(carried);
     }
     if kind == 4 {
-        let abandoned = context.abandon(file, a, cells, store);
+        let abandoned = context.abandon(file, a, cells, store, entities);
         return reply_answer(abandoned);
     }
     if kind == 5 {
-        let read = context.read(file, a, cells, store);
+        let read = context.read(file, a, cells, store, entities);
         return reply_read(context, read);
     }
     let value = fetch::place_of(0, b) as u32;
-    let written = context.write(file, a, value, cells, store);
+    let written = context.write(file, a, value, cells, store, entities);
     reply_answer(written)
 }
 
@@ -200,18 +201,28 @@ fn perform_all(
     answers: &mut [u32],
     cells: &mut [u32],
     store: &mut [u32],
+    entities: &mut [u32],
 ) -> ExecutionContext
     requires { ⌜ (3 * n ≤ length (now calls)) × (3 * n ≤ length (now answers)) ⌝ }
     requires { ⌜ allTrue (records (formedAt (now calls)) 3 n 0) ≡ true ⌝ }
-    ensures { λ r. ⌜ config r (now (cells .exit)) (now (store .exit)) ≡ afterAll (programOf (now (file .entry))) (records (callIn (now (calls .entry))) 3 n 0) (config context (now (cells .entry)) (now (store .entry))) ⌝ }
-    ensures { λ r. ⌜ now (answers .exit) ≡ sets (now (answers .entry)) 0 (replies (programOf (now (file .entry))) (records (callIn (now (calls .entry))) 3 n 0) (config context (now (cells .entry)) (now (store .entry)))) ⌝ }
+    ensures { λ r. ⌜ config r (now (cells .exit)) (now (store .exit)) (now (entities .exit)) ≡ afterAll (programOf (now (file .entry))) (records (callIn (now (calls .entry))) 3 n 0) (config context (now (cells .entry)) (now (store .entry)) (now (entities .entry))) ⌝ }
+    ensures { λ r. ⌜ now (answers .exit) ≡ sets (now (answers .entry)) 0 (replies (programOf (now (file .entry))) (records (callIn (now (calls .entry))) 3 n 0) (config context (now (cells .entry)) (now (store .entry)) (now (entities .entry)))) ⌝ }
 {
     let mut now = context;
     let mut i = 0;
     while i < n {
         let at = 3 * i;
         let kind = fetch::place_of(7, calls[at]);
-        let done = perform_call(now, file, kind, calls[at + 1], calls[at + 2], cells, store);
+        let done = perform_call(
+            now,
+            file,
+            kind,
+            calls[at + 1],
+            calls[at + 2],
+            cells,
+            store,
+            entities,
+        );
         answers[at] = done.word;
         answers[at + 1] = done.detail;
         answers[at + 2] = done.count;
@@ -229,8 +240,9 @@ pub fn perform_calls(
     answers: &mut [u32],
     cells: &mut [u32],
     store: &mut [u32],
+    entities: &mut [u32],
 ) -> Listed
-    ensures { λ r. ⌜ outcomeOf r (now (answers .exit)) (now (cells .exit)) (now (store .exit)) ≡ performed (programOf (now (file .entry))) (now (calls .entry)) (config context (now (cells .entry)) (now (store .entry))) (now (answers .entry)) ⌝ }
+    ensures { λ r. ⌜ outcomeOf r (now (answers .exit)) (now (cells .exit)) (now (store .exit)) (now (entities .exit)) ≡ performed (programOf (now (file .entry))) (now (calls .entry)) (config context (now (cells .entry)) (now (store .entry)) (now (entities .entry))) (now (answers .entry)) ⌝ }
 {
     let malformed = Listed {
         context,
@@ -247,7 +259,7 @@ pub fn perform_calls(
         return malformed;
     }
     Listed {
-        context: perform_all(context, file, calls, n, answers, cells, store),
+        context: perform_all(context, file, calls, n, answers, cells, store, entities),
         answer: ListAnswer::Performed,
     }
 }

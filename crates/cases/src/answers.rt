@@ -65,7 +65,13 @@ pub fn print(said: Said) {
     }
 }
 
-pub fn print_with_state(said: Said, context: ExecutionContext, cells: &[u32], store: &[u32]) {
+pub fn print_with_state(
+    said: Said,
+    context: ExecutionContext,
+    cells: &[u32],
+    store: &[u32],
+    entities: &[u32],
+) {
     print(said);
-    print::state(context, cells, store);
+    print::state(context, cells, store, entities);
 }

@@ -1,4 +1,4 @@
-// The digest of a state's frames, the lent cells and the saved store: FNV-1a of 64 bits.
+// The digest of a state's frames, the lent cells, the saved store and the lent entity cells: FNV-1a of 64 bits.
 ghost use Prim.Native.Nat.{_≤_};
 ghost use lib.ListN.{length};
 ghost use Rattle.io.specs.Counts.{Counts};
@@ -80,6 +80,11 @@ fn frames(frames: [StackFrame; GREATEST_DEPTH]) -> u64 {
     h
 }
 
-pub fn digest(stack: [StackFrame; GREATEST_DEPTH], cells: &[u32], store: &[u32]) -> u64 {
-    words(words(frames(stack), cells), store)
+pub fn digest(
+    stack: [StackFrame; GREATEST_DEPTH],
+    cells: &[u32],
+    store: &[u32],
+    entities: &[u32],
+) -> u64 {
+    words(words(words(frames(stack), cells), store), entities)
 }

@@ -1,7 +1,9 @@
-// Reading the lines of cases: words separated by one blank, numbers in decimal, bytes in hexadecimal as a line's last word.
+// Reading the lines of cases: words separated by one blank, numbers in decimal, bytes in hexadecimal.
 // What a text that isn't so gives is not stated.
 ghost use Prim.Native.Nat.{_+_, _*_, _≤_, _<_};
 ghost use lib.ListN.{length};
+use progs::ExecutionContext;
+use progs::load;
 
 pub mod answers;
 pub mod digest;
@@ -135,12 +137,23 @@ fn digit_at(s: &[u8], at: usize) -> u8
     0
 }
 
-// How many bytes the digits from `at` to the end of the line spell: `-` is for none.
+// The end of the word that holds `at`.
+fn word_end(s: &[u8], at: usize) -> usize
+    requires { ⌜ at ≤ length (now s) ⌝ }
+    ensures { λ r. ⌜ at ≤ r ⌝ }
+    ensures { λ r. ⌜ r ≤ length (now (s .entry)) ⌝ }
+{
+    let blank = find(s, at, b' ');
+    let line = find(s, at, b'\n');
+    if blank < line { blank } else { line }
+}
+
+// How many bytes the digits from `at` to the end of the word spell: `-` is for none.
 fn given(s: &[u8], at: usize) -> usize
     requires { ⌜ at ≤ length (now s) ⌝ }
     ensures { λ r. ⌜ at + 2 * r ≤ length (now (s .entry)) ⌝ }
 {
-    (find(s, at, b'\n') - at) / 2
+    (word_end(s, at) - at) / 2
 }
 
 // Byte i of the n that the digits from `at` on spell, 0 past them.
@@ -154,7 +167,7 @@ fn byte_of(s: &[u8], at: usize, n: usize, i: usize) -> u8
     0
 }
 
-// The bytes that the line's last word, at `at`, spells go to the front of `to`, and zeros after them.
+// The bytes that the word at `at` spells go to the front of `to`, and zeros after them.
 pub fn bytes(s: &[u8], at: usize, to: &mut [u8])
     requires { ⌜ at ≤ length (now s) ⌝ }
 {
@@ -177,8 +190,24 @@ pub fn file(s: &[u8], at: usize, file: &mut [u8]) -> usize
     n
 }
 
+// The letter at a place, 0 past the end.
+pub fn letter(s: &[u8], at: usize) -> u8 {
+    if at < s.len() {
+        return s[at];
+    }
+    0
+}
+
 pub fn set_byte(file: &mut [u8], at: usize, b: u8) {
     if at < file.len() {
         file[at] = b;
     }
+}
+
+// A state of zeros, as a refused load gives it.
+pub fn zero_state() -> ExecutionContext {
+    let mut cells = [0u32; 1];
+    let lent = [0u32; 1];
+    let refused = load::load(b"", 0, &mut cells, &lent, &lent);
+    refused.context
 }

@@ -28,13 +28,14 @@ pub fn said(word: &[u8], n: u64) {
     field(n);
 }
 
-// Position, function, depth, saved count, and the digest of frames, cells and saved store.
-pub fn state(context: ExecutionContext, cells: &[u32], store: &[u32]) {
+// Position, function, depth, saved count, and the digest of frames, cells, saved store and entity cells.
+pub fn state(context: ExecutionContext, cells: &[u32], store: &[u32], entities: &[u32]) {
     let frames = context.frames;
     position(context.pc);
     field(context.current_function as u64);
     field(context.depth as u64);
     field(context.saved as u64);
     text(b" ");
-    io::print_hex(STDOUT_FILENO, digest::digest(frames, cells, store), 16);
+    let digest = digest::digest(frames, cells, store, entities);
+    io::print_hex(STDOUT_FILENO, digest, 16);
 }

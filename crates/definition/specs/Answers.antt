@@ -53,10 +53,10 @@ cellsAlone n =
 
 -- a refused load gives a state of zeros, which every operation refuses 13, and leaves the buffers
 abbrev pub noState : State
-noState = startState (cellsAlone 0)
+noState = startState (cellsAlone 0) 0
 
-abbrev pub loadOutcome : List ℕ → List ℕ → Checked Config → Outcome
-loadOutcome cells saved x = outcome (record { state = noState; cells = cells; saved = saved }) x
+abbrev pub loadOutcome : List ℕ → List ℕ → List ℕ → Checked Config → Outcome
+loadOutcome cells saved entities x = outcome (record { state = noState; cells = cells; saved = saved; entities = entities }) x
 
 -- the number of the refusal, 0 where there is none
 abbrev pub refusalNumber : Answer → ℕ

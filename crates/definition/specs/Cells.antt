@@ -11,6 +11,9 @@ use Rattle.definition.specs.File.{Contents, negative, saveFlag}
 
 -- ---- types: "0 void, 1 string, 2 float, 3 vector, 4 entity, 5 field, 6 function, 7 pointer"
 
+abbrev pub void : ℕ
+void = 0
+
 abbrev pub string : ℕ
 string = 1
 
@@ -29,6 +32,9 @@ field = 5
 abbrev pub function : ℕ
 function = 6
 
+abbrev pub pointer : ℕ
+pointer = 7
+
 -- what a lookup gives for a cell without a definition: no type, since bit 15 of a definition's type is its save flag
 abbrev pub untyped : ℕ
 untyped = saveFlag
@@ -41,6 +47,11 @@ typeOf d = d .kind % saveFlag
 unfoldable pub lookup : List Definition → ℕ → ℕ
 lookup [] cell = untyped
 lookup (d ∷ ds) cell = cond (eqb (d .offset) cell) (typeOf d) (lookup ds cell)
+
+-- R-3, of field definitions: "as `Entity::type_check` does, void ones passed over"
+unfoldable pub withoutVoid : List Definition → List Definition
+withoutVoid [] = []
+withoutVoid (d ∷ ds) = cond (eqb (typeOf d) void) (withoutVoid ds) (d ∷ withoutVoid ds)
 
 -- vector counts as float
 unfoldable pub scalar : ℕ → ℕ
@@ -62,13 +73,17 @@ cellOf x = cond (ltb x 32768) x (x + 65536)
 
 -- ---- typed access
 
--- what an access looks at: the global definitions, and the file's count of cells
+-- what an access looks at: the definitions, and how many cells there are. Of the cells these are the global definitions and the file's count, of an
+-- entity's cells (R-3) the field definitions and the cells per entity
 pub record Typing : Type 0 where
   pub definitions : List Definition
   pub count : ℕ
 
 abbrev pub typingOf : Contents → Typing
 typingOf k = record { definitions = k .globaldefs; count = length (k .globals) }
+
+abbrev pub fieldsOf : Contents → Typing
+fieldsOf k = record { definitions = withoutVoid (k .fielddefs); count = k .entityfields }
 
 abbrev pub typeIs : Typing → ℕ → ℕ → Bool
 typeIs g want cell = passes (lookup (g .definitions) cell) want
@@ -96,3 +111,16 @@ mustBeNatural t = eqb t entity || eqb t field
 -- a read of a value: the access, then 17
 unfoldable pub readAccess : Typing → Bool → ℕ → ℕ → List ℕ → Conditions
 readAccess g must t cell cells = access g t cell ++ ((not (must && negative (getD cells cell 0)) otherwise 17) ∷ [])
+
+-- ---- the fields of an entity (R-3)
+
+-- "cell by cell, 16 by field definition .. and 31 for a field cell not below the cells per entity"
+unfoldable pub fieldCellAccess : Typing → ℕ → ℕ → Conditions
+fieldCellAccess h want field = (typeIs h want field otherwise 16) ∷ (ltb field (h .count) otherwise 31) ∷ []
+
+-- a vector is three cells, each typed as float
+unfoldable pub fieldAccess : Typing → ℕ → ℕ → Conditions
+fieldAccess h want field =
+    cond (eqb want vector)
+    (fieldCellAccess h float field ++ fieldCellAccess h float (field + 1) ++ fieldCellAccess h float (field + 2))
+    (fieldCellAccess h want field)

@@ -62,6 +62,14 @@ mostCells = 32768
 abbrev pub leastEntityCells : ℕ
 leastEntityCells = 105
 
+-- R-3: "More than 600 entities .. are refused 13"
+abbrev pub mostEntities : ℕ
+mostEntities = 600
+
+-- R-3: "32 for a pointer to be made over 2,147,483,647"
+abbrev pub greatestPointer : ℕ
+greatestPointer = 2147483647
+
 -- "saved store under 2,048" (12, 13), "saved over 2,048" (13, 23)
 abbrev pub savedStore : ℕ
 savedStore = 2048

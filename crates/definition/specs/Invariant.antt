@@ -1,6 +1,6 @@
 -- INDUCTIVE INVARIANTS. What every small step preserves holds always, along every list of calls: proved once, for any property. With it: the small steps
 -- of a call are transitions, end where it ends, and are as many as a run counts.
-use Prim.Native.Nat.{ℕ, zero, suc, _+_, _-_, _<_}
+use Prim.Native.Nat.{ℕ, zero, suc, _+_, _-_, _*_, _<_}
 use mathlib.Core.Path.{_≡_, refl, sym, _∙_, subst, ap}
 use mathlib.Core.List.{List, [], _∷_, _++_}
 use mathlib.Core.Bool.{Bool, true, false}
@@ -10,19 +10,19 @@ use lib.IntN.{ℤ, pos, negsuc, _+ℤ_}
 use lib.ListN.{length, set}
 use lib.Dec.{eqb, ltb}
 use Rattle.definition.specs.Checks.{Condition, Conditions, judge, Checked, refused, accepted, guard}
-use Rattle.definition.specs.File.{contentsOf}
-use Rattle.definition.specs.Statements.{Does, next, calls, returns, refuses, handsOver}
-use Rattle.definition.specs.Machine.{Program, Config, countOf, withCells, advanced, entryConditions, entered, enter, leaveConditions, left, leave, returnConditions, returned}
+use Rattle.definition.specs.File.{Contents, contentsOf}
+use Rattle.definition.specs.Statements.{Does, next, puts, calls, returns, refuses, handsOver}
+use Rattle.definition.specs.Machine.{Program, Config, entitiesOf, countOf, withCells, withEntities, advanced, entryConditions, entered, enter, leaveConditions, left, leave, returnConditions, returned}
 use Rattle.definition.specs.Machine.{Stepped, completed, refusedStep, handedStep, asStep, stepAs, step, Ran, goOn, runAs, runFor}
 use Rattle.definition.specs.Load.{programOf}
 use Rattle.definition.specs.Operations.{sound, natural, below, hostEnter, stepIf, statement, runConditions, runAfter, run, carryOnConditions, carryOn}
 use Rattle.definition.specs.Operations.{leftTimes, leavingsConditions, leavingsTo, abandonConditions, abandon, rawConditions, rawWrite}
 use Rattle.definition.specs.Answers.{kept, statementOutcome}
-use Rattle.definition.specs.Calls.{Call, enters, steps, runs, carries, abandons, reads, writes, after, ifAccepted, ifCompleted, unlessEnded, stepsAs, runSteps, runStepsAfter, leavings, leavingsAfter, smallSteps}
+use Rattle.definition.specs.Calls.{Call, enters, steps, runs, carries, abandons, reads, writes, lends, after, ifAccepted, ifCompleted, unlessEnded, stepsAs, runSteps, runStepsAfter, leavings, leavingsAfter, smallSteps}
 use Rattle.definition.specs.Log.{Log, Kind, entry, leaving, other, statementKind, kindOf}
 use Rattle.definition.specs.Trace.{kindAt, logAfter, Transition, StepProperty, StateProperty, Trace, logAfterSteps, Counted, Always}
 use Rattle.definition.specs.CheckLaws.{All, judge-passed, judge-all, all-front, all-back, WhenAccepted, guarded, guard-accepts}
-use Rattle.definition.specs.StatementLaws.{Keeps, HasKind, statement-has-kind}
+use Rattle.definition.specs.StatementLaws.{Keeps, keeps-all, HasKind, beforeIn, statement-has-kind}
 
 -- ---- a run's small steps are as many as it counts
 
@@ -55,6 +55,7 @@ counted file carries c = tt
 counted file (abandons target) c = tt
 counted file (reads a) c = tt
 counted file (writes a v) c = tt
+counted file (lends entities) c = tt
 
 -- ---- what is preserved
 
@@ -62,11 +63,16 @@ counted file (writes a v) c = tt
 abbrev pub Preserves : List ℕ → StateProperty → StepProperty → Kind → Config → Log → Config → Type 0
 Preserves file K Step κ c l c′ = Step κ c l c′ × K c′ (logAfter file κ c l)
 
+-- how many entity cells the entities have
+abbrev pub roomIn : List ℕ → Config → ℕ
+roomIn file c = c .state .entityCount * contentsOf file .entityfields
+
 -- K is inductive: every kind of small step, from where K holds, has the property Step and preserves K
 pub record Inductive (file : List ℕ) (K : StateProperty) (Step : StepProperty) : Type 0 where
-  pub plain : (c : Config) (l : Log) (p : ℤ) (cells : List ℕ) → K c l → Keeps (length (contentsOf file .globals)) (c .cells) cells
-      → Preserves file K Step other c l (advanced c p cells)
+  pub plain : (c : Config) (l : Log) (p : ℤ) (cells entities : List ℕ) → K c l → Keeps (length (contentsOf file .globals)) (c .cells) cells
+      → Keeps (roomIn file c) (c .entities) entities → Preserves file K Step other c l (advanced c p cells entities)
   pub writing : (c : Config) (l : Log) (a v : ℕ) → K c l → a < countOf c → Preserves file K Step other c l (withCells c (set (c .cells) a v))
+  pub lending : (c : Config) (l : Log) (entities : List ℕ) → K c l → Preserves file K Step other c l (withEntities c entities)
   pub entering : (c : Config) (l : Log) (f : ℕ) (back : ℤ) → K c l → All (entryConditions (programOf file) f c)
       → Preserves file K Step (entry f back) c l (entered (programOf file) f back c)
   pub returning : (c : Config) (l : Log) (a : ℕ) → K c l → All (returnConditions (programOf file) a c)
@@ -92,10 +98,11 @@ module _ (file : List ℕ) (K : StateProperty) (Step : StepProperty) (S : Induct
   as-step Q (refused n) h = tt
   as-step Q (accepted c′) h = h
 
-  step-as-preserves : (x : Does) (c : Config) (l : Log) (κ : Kind) → HasKind (length (contentsOf file .globals)) (c .state .pc) (c .cells) κ x → K c l
+  step-as-preserves : (x : Does) (c : Config) (l : Log) (κ : Kind) → HasKind (beforeIn file (c .state .pc) (entitiesOf c) (c .cells)) κ x → K c l
       → WhenCompleted (Preserved κ c l) (stepAs P x c)
   unfolding stepAs
-  step-as-preserves (next p cells) c l κ (o, keeps) k = rw o (S .plain c l p cells k keeps)
+  step-as-preserves (next p cells) c l κ (o, keeps) k = rw o (S .plain c l p cells (c .entities) k keeps (keeps-all _ (c .entities)))
+  step-as-preserves (puts p entities) c l κ (o, keeps) k = rw o (S .plain c l p (c .cells) entities k (keeps-all _ (c .cells)) keeps)
   step-as-preserves (calls f) c l κ e k =
       let back = c .state .pc +ℤ pos 1 in
       rw e
@@ -111,7 +118,8 @@ module _ (file : List ℕ) (K : StateProperty) (Step : StepProperty) (S : Induct
   step-preserves : (c : Config) (l : Log) → K c l → WhenCompleted (Preserved (statementKind file (c .state .pc) (c .cells)) c l) (step P c)
   unfolding step
   step-preserves c l k =
-      step-as-preserves (P .does (c .state .pc) (c .cells)) c l (statementKind file (c .state .pc) (c .cells)) (statement-has-kind file (c .state .pc) (c .cells)) k
+      step-as-preserves (P .does (c .state .pc) (entitiesOf c) (c .cells)) c l (statementKind file (c .state .pc) (c .cells))
+      (statement-has-kind file (c .state .pc) (entitiesOf c) (c .cells)) k
 
   -- ---- traces that preserve K to their end
 
@@ -211,7 +219,7 @@ module _ (file : List ℕ) (K : StateProperty) (Step : StepProperty) (S : Induct
   call-preserves (runs target limit) c l k = run-after-preserves target limit (judge (runConditions P target limit c)) (natural target) (natural limit) c l k
   call-preserves carries c l k =
       if-accepted carries c l (carryOn P c) (λ c₁ e. e) k
-      (guarded (Preserved other c l) _ _ λ h. S .plain c l (c .state .pc +ℤ pos 1) (c .cells) k (record { same-length = refl; same-above = refl }))
+      (guarded (Preserved other c l) _ _ λ h. S .plain c l (c .state .pc +ℤ pos 1) (c .cells) (c .entities) k (keeps-all _ (c .cells)) (keeps-all _ (c .entities)))
   call-preserves (abandons target) c l k = abandon-preserves target c l k
   call-preserves (reads a) c l k = none (reads a) c l k
   call-preserves (writes a v) c l k = if-accepted (writes a v) c l (rawWrite P a v c) (λ c₁ e. e) k (guarded (Preserved other c l) _ _ λ h. S .writing c l (natural a) v k (in-count a (h .1 .0)))
@@ -219,6 +227,7 @@ module _ (file : List ℕ) (K : StateProperty) (Step : StepProperty) (S : Induct
       in-count : (a : ℤ) → below a (countOf c) ≡ true → natural a < countOf c
       in-count (pos i) e = ltb-true i (countOf c) e
       in-count (negsuc i) e = absurd (let z : false ≡ true = e in mathlib.Core.Bool.false≢true z)
+  call-preserves (lends entities) c l k = one (lends entities) c l (withEntities c entities) refl (S .lending c l entities k)
 
   -- what K shows, holds between the calls, and Step of every small step
   pub always : (At : StateProperty) → ((c : Config) (l : Log) → K c l → At c l)

@@ -10,6 +10,7 @@ pub mod Operations
 pub mod Answers
 pub mod Starred
 pub mod Rounding
+pub mod Fields
 pub mod Calls
 pub mod Log
 pub mod Trace

@@ -1,7 +1,8 @@
--- THE LOAD. Document 01's refusals 1 to 12, in the table's order, and what an accepted load leaves; and the program of a file.
+-- THE LOAD. Document 01's refusals 1 to 12, in the table's order, and 02's 13 after them; what an accepted load leaves; and the program of a file.
 use Prim.Native.Nat.{ℕ, _+_}
 use mathlib.Core.List.{List, [], _∷_, _++_}
 use mathlib.Core.Bool.{Bool, not, _&&_}
+use lib.IntN.{ℤ}
 use lib.ListN.{length, drop}
 use lib.Dec.{leb, ltb, eqb}
 use Rattle.definition.specs.declared.Lump.{Lump}
@@ -10,11 +11,11 @@ use Rattle.definition.specs.declared.Statement.{Statement}
 use Rattle.definition.specs.declared.Definition.{Definition}
 use Rattle.definition.specs.declared.FunctionDef.{FunctionDef}
 use Rattle.definition.specs.Checks.{Condition, Conditions, _otherwise_, Checked, guard}
-use Rattle.definition.specs.File.{version, checkNumber, opcodeCount, greatestType, saveFlag, leastCells, savedStore, versionOf, checkNumberOf, fileOf, lengthFits, lumpsFit, cellsFit, entityFits}
+use Rattle.definition.specs.File.{version, checkNumber, opcodeCount, greatestType, saveFlag, leastCells, mostEntities, savedStore, versionOf, checkNumberOf, fileOf, lengthFits, lumpsFit, cellsFit, entityFits}
 use Rattle.definition.specs.File.{Contents, contentsAt, contentsOf, builtinKnown}
 use Rattle.definition.specs.Cells.{typeOf}
-use Rattle.definition.specs.Statements.{fetchConditions, doesAt}
-use Rattle.definition.specs.Machine.{Program, Config, startState}
+use Rattle.definition.specs.Statements.{placeOf, fetchConditions, doesAt}
+use Rattle.definition.specs.Machine.{Program, Config, startState, entitiesFit}
 
 -- ---- the records, each along its row
 
@@ -70,23 +71,37 @@ cellConditions least r lent store =
     ∷ (leb (r .globals .count) lent && leb savedStore store otherwise 12)
     ∷ []
 
-abbrev pub loadConditions : ℕ → List ℕ → ℕ → ℕ → Conditions
-loadConditions least file lent store =
+-- R-3: "are refused 13, at load after 12"
+abbrev pub entityConditions : FileRecord → ℕ → ℕ → Conditions
+entityConditions r n lent = (entitiesFit n (r .entityfields) lent otherwise 13) ∷ []
+
+-- beside n entities, so many lent cells, a saved store of so many, and so many lent entity cells
+abbrev pub loadConditions : ℕ → List ℕ → ℕ → ℕ → ℕ → ℕ → Conditions
+loadConditions least file n lent store entities =
     headerConditions file
     ++ recordConditions (fileOf file .strings .count) (contentsOf file)
     ++ cellConditions least (fileOf file) lent store
+    ++ entityConditions (fileOf file) n entities
 
--- "A load fills the lent cells from 0 and leaves those past the file's count"
-unfoldable pub loaded : List ℕ → List ℕ → List ℕ → Config
-loaded file cells saved =
+-- "A load fills the lent cells from 0 and leaves those past the file's count"; the entity cells "are untouched, by a load too"
+unfoldable pub loaded : List ℕ → ℕ → List ℕ → List ℕ → List ℕ → Config
+loaded file n cells saved entities =
     record {
-      state = startState (fileOf file);
+      state = startState (fileOf file) n;
       cells = contentsOf file .globals ++ drop (fileOf file .globals .count) cells;
       saved = saved;
+      entities = entities;
     }
 
-unfoldable pub load : List ℕ → List ℕ → List ℕ → Checked Config
-load file cells saved = guard (loadConditions leastCells file (length cells) (length saved)) (loaded file cells saved)
+-- the number of entities that a host gives is signed; a negative one is more than there may be
+abbrev pub entitiesGiven : ℤ → ℕ
+entitiesGiven n = placeOf (mostEntities + 1) n
+
+unfoldable pub load : List ℕ → ℤ → List ℕ → List ℕ → List ℕ → Checked Config
+load file n cells saved entities =
+    guard
+    (loadConditions leastCells file (entitiesGiven n) (length cells) (length saved) (length entities))
+    (loaded file (entitiesGiven n) cells saved entities)
 
 -- ---- the program of a file
 

@@ -14,8 +14,8 @@ use Rattle.definition.specs.declared.Handover.{Handover}
 use Rattle.definition.specs.declared.RunAnswer.{RunAnswer}
 use Rattle.definition.specs.declared.RunAnswer.the-variants.{Ended, Spent, Refused, HandedOver}
 use Rattle.definition.specs.Checks.{Condition, Conditions, _otherwise_, Checked, refused, accepted, guard}
-use Rattle.definition.specs.File.{savedStore, greatestDepth, mostArguments, greatestLimit, negative, noFunction, isBuiltin}
-use Rattle.definition.specs.Statements.{Does, next, calls, returns, refuses, handsOver}
+use Rattle.definition.specs.File.{savedStore, mostEntities, greatestDepth, mostArguments, greatestLimit, negative, noFunction, isBuiltin}
+use Rattle.definition.specs.Statements.{Entities, Does, next, puts, calls, returns, refuses, handsOver}
 
 -- ---- the program
 
@@ -23,15 +23,15 @@ pub record Program : Type 0 where
   pub functions : List FunctionDef
   -- 14 and 7, at a position
   pub fetching : ℤ → Conditions
-  -- what the statement at a position does, with the cells as they are
-  pub does : ℤ → List ℕ → Does
+  -- what the statement at a position does, with the entities and the cells as they are
+  pub does : ℤ → Entities → List ℕ → Does
   -- the file is as a state records, with so many lent cells (the first of 13's conditions)
   pub recorded : FileRecord → ℕ → Bool
 
 abbrev pub functionOf : Program → ℕ → FunctionDef
 functionOf P f = getD (P .functions) f noFunction
 
--- ---- the state, and the two lent stores that an operation may change
+-- ---- the state, and the three lent stores that an operation may change
 
 pub record State : Type 0 where
   pub file : FileRecord
@@ -39,12 +39,18 @@ pub record State : Type 0 where
   pub function : ℕ
   pub depth : ℕ
   pub saved : ℕ
+  -- R-3: "their number given at load and kept in the state"
+  pub entityCount : ℕ
   pub frames : List StackFrame
 
 pub record Config : Type 0 where
   pub state : State
   pub cells : List ℕ
   pub saved : List ℕ
+  pub entities : List ℕ
+
+abbrev pub entitiesOf : Config → Entities
+entitiesOf c = record { count = c .state .entityCount; cells = c .entities }
 
 -- the file's count of cells, by which 15 refuses
 abbrev pub countOf : Config → ℕ
@@ -63,8 +69,13 @@ abbrev pub zeroFrame : StackFrame
 zeroFrame = record { «instr_id» = pos 0; «func_id» = 0 }
 
 -- "Position, function and depths start at 0. Frames start as zeros"
-abbrev pub startState : FileRecord → State
-startState r = record { file = r; pc = pos 0; function = 0; depth = 0; saved = 0; frames = replicate greatestDepth zeroFrame }
+abbrev pub startState : FileRecord → ℕ → State
+startState r n =
+    record { file = r; pc = pos 0; function = 0; depth = 0; saved = 0; entityCount = n; frames = replicate greatestDepth zeroFrame }
+
+-- R-3: "More than 600 entities, or lent entity cells too few for them": n entities of so many cells, beside so many lent ones
+unfoldable pub entitiesFit : ℕ → ℕ → ℕ → Bool
+entitiesFit n size lent = leb n mostEntities && leb (n * size) lent
 
 -- the n cells from a on are below the count: of no cells none is missing, and the bits of a negative cell number are above every count
 unfoldable pub present : ℕ → ℕ → ℕ → Bool
@@ -127,10 +138,12 @@ entered P f back c =
             function = f;
             depth = c .state .depth + 1;
             saved = c .state .saved + d .locals;
+            entityCount = c .state .entityCount;
             frames = set (c .state .frames) (c .state .depth) (record { «instr_id» = back; «func_id» = c .state .function });
           };
       cells = copied (argumentsOf d) (c .cells);
       saved = paste (c .saved) (c .state .saved) (drop (d .start) (c .cells)) (d .locals);
+      entities = c .entities;
     }
 
 abbrev pub enter : Program → ℕ → ℤ → Config → Checked Config
@@ -162,17 +175,23 @@ left P c =
             function = frame .«func_id»;
             depth = c .state .depth - 1;
             saved = below;
+            entityCount = c .state .entityCount;
             frames = set (c .state .frames) (c .state .depth - 1) zeroFrame;
           };
       cells = paste (c .cells) (d .start) (drop below (c .saved)) (d .locals);
       saved = c .saved;
+      entities = c .entities;
     }
 
 abbrev pub leave : Program → Config → Checked Config
 leave P c = guard (leaveConditions P c) (left P c)
 
 abbrev pub withCells : Config → List ℕ → Config
-withCells c cells = record { state = c .state; cells = cells; saved = c .saved }
+withCells c cells = record { state = c .state; cells = cells; saved = c .saved; entities = c .entities }
+
+-- R-3: "between calls the host may change any" of the lent entity cells
+abbrev pub withEntities : Config → List ℕ → Config
+withEntities c entities = record { state = c .state; cells = c .cells; saved = c .saved; entities = entities }
 
 -- "15: operand cells", three of them
 abbrev pub returnConditions : Program → ℕ → Config → Conditions
@@ -189,8 +208,8 @@ pub data Stepped : Type 0 where
   refusedStep : ℕ → Stepped
   handedStep : Handover → Stepped
 
-abbrev pub advanced : Config → ℤ → List ℕ → Config
-advanced c p cells =
+abbrev pub advanced : Config → ℤ → List ℕ → List ℕ → Config
+advanced c p cells entities =
     record {
       state =
           record {
@@ -199,10 +218,12 @@ advanced c p cells =
             function = c .state .function;
             depth = c .state .depth;
             saved = c .state .saved;
+            entityCount = c .state .entityCount;
             frames = c .state .frames;
           };
       cells = cells;
       saved = c .saved;
+      entities = entities;
     }
 
 abbrev pub asStep : Checked Config → Stepped
@@ -210,7 +231,8 @@ asStep (refused n) = refusedStep n
 asStep (accepted c) = completed c
 
 unfoldable pub stepAs : Program → Does → Config → Stepped
-stepAs P (next p cells) c = completed (advanced c p cells)
+stepAs P (next p cells) c = completed (advanced c p cells (c .entities))
+stepAs P (puts p entities) c = completed (advanced c p (c .cells) entities)
 stepAs P (calls f) c = asStep (enter P f (c .state .pc +ℤ pos 1) c)
 stepAs P (returns a) c = asStep (guard (returnConditions P a c) (returned P a c))
 stepAs P (refuses n) c = refusedStep n
@@ -218,7 +240,7 @@ stepAs P (handsOver h) c = handedStep h
 
 -- the statement at the position
 unfoldable pub step : Program → Config → Stepped
-step P c = stepAs P (P .does (c .state .pc) (c .cells)) c
+step P c = stepAs P (P .does (c .state .pc) (entitiesOf c) (c .cells)) c
 
 -- ---- a run, after its checks
 

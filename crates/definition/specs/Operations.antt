@@ -9,9 +9,9 @@ use lib.Dec.{leb, ltb, eqb}
 use Rattle.definition.specs.declared.StackFrame.{StackFrame}
 use Rattle.definition.specs.declared.RunAnswer.the-variants.{Refused}
 use Rattle.definition.specs.Checks.{Condition, Conditions, _otherwise_, judge, Checked, refused, accepted, guard}
-use Rattle.definition.specs.File.{savedStore, negative, between}
-use Rattle.definition.specs.Statements.{Does, next, calls, returns, refuses, handsOver, placeOf}
-use Rattle.definition.specs.Machine.{Program, functionOf, State, Config, countOf, limits, zeroFrame, withCells, advanced}
+use Rattle.definition.specs.File.{savedStore, mostEntities, negative, between}
+use Rattle.definition.specs.Statements.{Does, next, puts, calls, returns, refuses, handsOver, placeOf}
+use Rattle.definition.specs.Machine.{Program, functionOf, State, Config, entitiesOf, countOf, limits, entitiesFit, zeroFrame, withCells, advanced}
 use Rattle.definition.specs.Machine.{entryConditions, entered, leaveConditions, left, Stepped, refusedStep, step, Ran, runFor}
 
 -- ---- check 13
@@ -43,6 +43,7 @@ unfoldable pub sound : Program → Config → Bool
 sound P c =
     P .recorded (c .state .file) (length (c .cells))
     && leb savedStore (length (c .saved))
+    && entitiesFit (c .state .entityCount) (c .state .file .entityfields) (length (c .entities))
     && leb (c .state .depth) (limits (c .state .file) .depth)
     && allPresent P (enteredFunctions (c .state))
     && leb (c .state .saved) (limits (c .state .file) .saved)
@@ -96,6 +97,7 @@ run P target limit c = runAfter (judge (runConditions P target limit c)) P (natu
 
 abbrev pub isHandedOver : Does → Bool
 isHandedOver (next p cells) = false
+isHandedOver (puts p entities) = false
 isHandedOver (calls f) = false
 isHandedOver (returns a) = false
 isHandedOver (refuses n) = false
@@ -106,11 +108,11 @@ unfoldable pub carryOnConditions : Program → Config → Conditions
 carryOnConditions P c =
     (sound P c otherwise 13)
     ∷ P .fetching (c .state .pc)
-    ++ ((isHandedOver (P .does (c .state .pc) (c .cells)) otherwise 27) ∷ [])
+    ++ ((isHandedOver (P .does (c .state .pc) (entitiesOf c) (c .cells)) otherwise 27) ∷ [])
 
 -- "until the host carries on by one"
 unfoldable pub carryOn : Program → Config → Checked Config
-carryOn P c = guard (carryOnConditions P c) (advanced c (c .state .pc +ℤ pos 1) (c .cells))
+carryOn P c = guard (carryOnConditions P c) (advanced c (c .state .pc +ℤ pos 1) (c .cells) (c .entities))
 
 -- n leavings, "innermost first, no return value"
 unfoldable pub leftTimes : Program → ℕ → Config → Config

@@ -3,6 +3,7 @@
 use Prim.Native.Nat.{ℕ, _+_, _≤_}
 use mathlib.Core.Path.{_≡_}
 use mathlib.Core.List.{List, [], _∷_}
+use lib.IntN.{ℤ}
 use lib.ListN.{length}
 use Rattle.definition.specs.Checks.{accepted}
 use Rattle.definition.specs.File.{savedStore, greatestDepth}
@@ -45,11 +46,11 @@ pub record StepCorrect (file : List ℕ) (k : Kind) (c : Config) (l : Log) (c′
   pub restores : LeavingRestores file k c l c′
   pub depths : DepthsMatch file c′ (logAfter file k c l)
 
--- for every file, every accepted load of it and every list of calls after that, from an empty log: every small step is correct, and between the calls
+-- for every file, every accepted load of it with any number of entities, and every list of calls after that, from an empty log: every small step is correct, and between the calls
 -- the depths match
 unfoldable pub Demand3 : Type 0
 Demand3 =
-    (file cells saved : List ℕ) (c : Config)
-    → load file cells saved ≡ accepted c
+    (file : List ℕ) (n : ℤ) (cells saved entities : List ℕ) (c : Config)
+    → load file n cells saved entities ≡ accepted c
     → (calls : List Call)
     → Always file (StepCorrect file) (DepthsMatch file) c [] calls

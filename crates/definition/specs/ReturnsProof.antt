@@ -13,9 +13,9 @@ use Rattle.definition.specs.declared.FunctionDef.{FunctionDef}
 use Rattle.definition.specs.declared.StackFrame.{StackFrame}
 use Rattle.definition.specs.Checks.{Condition, Conditions, Checked, accepted, guard}
 use Rattle.definition.specs.File.{savedStore, greatestDepth, negative, contentsOf, fileOf}
-use Rattle.definition.specs.Machine.{Program, functionOf, Config, countOf, limits, zeroFrame, present, copied, successive, argumentsOf, withCells, advanced}
+use Rattle.definition.specs.Machine.{Program, functionOf, Config, countOf, limits, zeroFrame, present, copied, successive, argumentsOf, withCells, withEntities, advanced}
 use Rattle.definition.specs.Machine.{entryConditions, entered, leaveConditions, left, returnConditions, returned}
-use Rattle.definition.specs.Load.{cellConditions, loaded, load, programAt, programOf}
+use Rattle.definition.specs.Load.{cellConditions, entitiesGiven, loaded, load, programAt, programOf}
 use Rattle.definition.specs.Calls.{Call}
 use Rattle.definition.specs.Log.{Note, Log, functionIn, localCells, Kind, entry, leaving, other}
 use Rattle.definition.specs.Trace.{logAfter}
@@ -184,10 +184,11 @@ module _ (file : List ℕ) (c : Config) (n : Note) (l : Log) (k : StackMatches f
             (k .frames .3));
       }
 
--- ---- what changes only the position and the cells preserves it
+-- ---- what changes only the position, the cells and the entity cells preserves it
 
-advanced-matches : (file : List ℕ) (c : Config) (l : Log) (p : ℤ) (cells : List ℕ) → length cells ≡ length (c .cells) → StackMatches file c l → StackMatches file (advanced c p cells) l
-advanced-matches file c l p cells e k =
+advanced-matches : (file : List ℕ) (c : Config) (l : Log) (p : ℤ) (cells entities : List ℕ) → length cells ≡ length (c .cells) → StackMatches file c l
+    → StackMatches file (advanced c p cells entities) l
+advanced-matches file c l p cells entities e k =
     record {
       depths =
           record {
@@ -230,7 +231,7 @@ unfolding leaveConditions programAt
 leave-preserves file c cells [] e k h = absurd (omega (arith, ltb-true 0 (c .state .depth) (h .0), k .depths .depth-is))
 leave-preserves file c cells (n ∷ l) e k h =
     let d = functionIn file (c .state .function) in
-    let kc : StackMatches file (withCells c cells) (n ∷ l) = advanced-matches file c (n ∷ l) (c .state .pc) cells e k in
+    let kc : StackMatches file (withCells c cells) (n ∷ l) = advanced-matches file c (n ∷ l) (c .state .pc) cells (c .entities) e k in
     let there : Present (d .start) (d .locals) (length cells) =
     present-more (d .start) (d .locals) (countOf c) (length cells) (omega (arith, k .enough, e))
     (present-true (d .start) (d .locals) (countOf c) (h .1 .1 .0))
@@ -241,10 +242,13 @@ leave-preserves file c cells (n ∷ l) e k h =
 matches-inductive : (file : List ℕ) → Inductive file (StackMatches file) (StepCorrect file)
 matches-inductive file =
     record {
-      plain = λ c l p cells k keeps. other-preserves file c l (advanced c p cells) (advanced-matches file c l p cells (keeps .same-length) k);
+      plain = λ c l p cells entities k keeps _.
+          other-preserves file c l (advanced c p cells entities) (advanced-matches file c l p cells entities (keeps .same-length) k);
       writing = λ c l a v k h.
           other-preserves file c l (withCells c (set (c .cells) a v))
-          (advanced-matches file c l (c .state .pc) (set (c .cells) a v) (length-set (c .cells) a v) k);
+          (advanced-matches file c l (c .state .pc) (set (c .cells) a v) (c .entities) (length-set (c .cells) a v) k);
+      lending = λ c l entities k.
+          other-preserves file c l (withEntities c entities) (advanced-matches file c l (c .state .pc) (c .cells) entities refl k);
       entering = enter-preserves file;
       returning = λ c l a k h.
           leave-preserves file c (copied (successive 3 a 1) (c .cells)) l (length-copied (successive 3 a 1) (c .cells)) k (h .1);
@@ -253,12 +257,12 @@ matches-inductive file =
 
 -- ---- the load
 
-loaded-matches : (file cells saved : List ℕ) → WhenAccepted (λ (c : Config). StackMatches file c []) (load file cells saved)
+loaded-matches : (file : List ℕ) (n : ℤ) (cells saved entities : List ℕ) → WhenAccepted (λ (c : Config). StackMatches file c []) (load file n cells saved entities)
 unfolding load loaded localsNoted cellConditions
-loaded-matches file cells saved =
+loaded-matches file n cells saved entities =
     guarded (λ (c : Config). StackMatches file c []) _ _ λ h.
     let r = fileOf file in
-    let twelve = load-rows file (length cells) (length saved) h .cells .1 .1 .0 in
+    let twelve = load-rows file (entitiesGiven n) (length cells) (length saved) (length entities) h .cells .1 .1 .0 in
     record {
       depths = record { depth-is = refl; depth-most = omega arith; saved-is = refl; saved-most = omega arith };
       room = omega (arith, length-replicate greatestDepth zeroFrame);
@@ -269,6 +273,6 @@ loaded-matches file cells saved =
 
 pub demand3 : Demand3
 unfolding Demand3
-demand3 file cells saved c accepts calls =
+demand3 file n cells saved entities c accepts calls =
     always file (StackMatches file) (StepCorrect file) (matches-inductive file) (DepthsMatch file) (λ c′ l k. k .depths) c [] calls
-    (subst (WhenAccepted (λ (c′ : Config). StackMatches file c′ [])) accepts (loaded-matches file cells saved))
+    (subst (WhenAccepted (λ (c′ : Config). StackMatches file c′ [])) accepts (loaded-matches file n cells saved entities))

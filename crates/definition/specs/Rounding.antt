@@ -80,6 +80,7 @@ calls =
     ∷ row "43: fabs" (called 43 (complete (cells 1 1))) (accepted (0x40200000 ∷ []))
     ∷ row "38: ceil" (called 38 (complete (cells 1 1))) (accepted (0xc0000000 ∷ []))
     ∷ row "36: rint" (called 36 (complete (cells 1 1))) (accepted (0xc0400000 ∷ []))
+    ∷ row "36: rint, halves away from zero" (calling [] 36 0x3f000000 (complete (cells 1 1))) (accepted (0x3f800000 ∷ []))
     ∷ row "and the run goes on" (called 36 (runBy (pos 0) (pos 9) (state and cells 3 1))) (accepted (0 ∷ 2 ∷ 0 ∷ 0 ∷ 0 ∷ 0 ∷ 0xc0400000 ∷ 2 ∷ 3 ∷ []))
     ∷ row "the builtin 35 is handed over" (called 35 (runBy (pos 0) (pos 9) state)) (accepted (35 ∷ 0 ∷ 1 ∷ 1 ∷ 1 ∷ 0 ∷ []))
     ∷ row "the builtin 44 is handed over" (called 44 (runBy (pos 0) (pos 9) state)) (accepted (44 ∷ 0 ∷ 1 ∷ 1 ∷ 1 ∷ 0 ∷ []))

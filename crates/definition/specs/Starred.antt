@@ -16,10 +16,10 @@ use Rattle.definition.specs.declared.StackFrame.{StackFrame}
 use Rattle.definition.specs.Checks.{judge, Checked, refused, accepted, guard}
 use Rattle.definition.specs.Floats.{roundingOf}
 use Rattle.definition.specs.File.{byteAt, u16At, u32At, fileOf, lumpsFit, records, Contents, contentsAt, builtinNumber, noFunction}
-use Rattle.definition.specs.Cells.{float, entity, lookup, scalar, passes, signed, cellOf, cellAccess, vectorAccess, access, readAccess}
+use Rattle.definition.specs.Cells.{float, entity, lookup, withoutVoid, scalar, passes, signed, cellOf, cellAccess, vectorAccess, access, readAccess, fieldCellAccess, fieldAccess}
 use Rattle.definition.specs.Statements.{shapeOf, floatsEffect, vectorResult, vectorsEffect, vectorsToFloatEffect, negatesVEffect, storesEffect, storesVEffect, branchesDo, callOf, callDoes}
-use Rattle.definition.specs.Statements.{fetchConditions, execute, doesAt}
-use Rattle.definition.specs.Machine.{Program, Config, limits, zeroFrame, present, copied, successive, arguments, copiesPresent}
+use Rattle.definition.specs.Statements.{fetchConditions, execute, doesAt, valueMoved, loadsEffect, addressesEffect, storesPEffect}
+use Rattle.definition.specs.Machine.{Program, Config, limits, zeroFrame, entitiesFit, present, copied, successive, arguments, copiesPresent}
 use Rattle.definition.specs.Machine.{entryConditions, entered, leaveConditions, left, Stepped, completed, refusedStep, handedStep, stepAs, step, runFor}
 use Rattle.definition.specs.Load.{each, headerConditions, recordConditions, cellConditions, loaded, load, sameFile, recordedIn, programAt, programOf}
 use Rattle.definition.specs.Operations.{frameFunctions, enteredFunctions, allPresent, localsOf, sound}
@@ -49,7 +49,7 @@ abbrev functionBytes : FunctionDef → List ℕ
 functionBytes d = bytes u32 (d .first ∷ d .start ∷ d .locals ∷ 0 ∷ d .name ∷ d .srcfile ∷ d .argc ∷ []) ++ d .argsz
 
 -- the lumps one behind the other, the cells first: to read a byte costs by its place
-abbrev assembled : Contents → List ℕ
+abbrev pub assembled : Contents → List ℕ
 assembled k =
     let cells : ℕ = 60 in
     let statements = cells + 4 * length (k .globals) in
@@ -73,7 +73,7 @@ overwritten at xs file = take at file ++ xs ++ drop (at + length xs) file
 
 -- ---- contents
 
-abbrev op : ℕ → ℕ → ℕ → ℕ → Statement
+abbrev pub op : ℕ → ℕ → ℕ → ℕ → Statement
 op opcode a b c = record { opcode = opcode; arg1 = a; arg2 = b; arg3 = c }
 
 abbrev mulV : ℕ → ℕ → ℕ → Statement
@@ -146,7 +146,7 @@ typedProgram definitions statements functions cells =
 abbrev pub program : List Statement → List FunctionDef → List ℕ → Contents
 program = typedProgram []
 
-abbrev numbers : ℕ → ℕ → List ℕ
+abbrev pub numbers : ℕ → ℕ → List ℕ
 numbers zero a = []
 numbers (suc n) a = a ∷ numbers n (a + 1)
 
@@ -177,7 +177,7 @@ cellsWith a (x ∷ xs) = set (cellsWith (a + 1) xs) a x
 abbrev pub Seen : Type 0
 Seen = Checked (List ℕ)
 
-abbrev andThen : {A B : Type 0} → Checked A → (A → Checked B) → Checked B
+abbrev pub andThen : {A B : Type 0} → Checked A → (A → Checked B) → Checked B
 andThen (refused n) rest = refused n
 andThen (accepted a) rest = rest a
 
@@ -273,7 +273,7 @@ abbrev abandonTo : ℤ → Scenario → Scenario
 abandonTo target rest P c = andThen (abandon P target c) (rest P)
 
 -- every operation, with an argument that its own row refuses: entry, statement, run, carry on, abandon, raw read, raw write
-abbrev everyOperation : Scenario
+abbrev pub everyOperation : Scenario
 everyOperation P c =
     let none = negsuc 0 in
     accepted
@@ -299,21 +299,23 @@ madeUp file function depth saved frames rest P c =
             function = function;
             depth = depth;
             saved = saved;
+            entityCount = c .state .entityCount;
             frames = take 31 (mapped frame frames ++ replicate 31 zeroFrame);
           };
       cells = c .cells;
       saved = c .saved;
+      entities = c .entities;
     })
 
 -- buffers of which a host lends only so many cells, and so many of the saved store
 abbrev lending : ℕ → ℕ → Scenario → Scenario
-lending cells saved rest P c = rest P (record { state = c .state; cells = take cells (c .cells); saved = take saved (c .saved) })
+lending cells saved rest P c = rest P (record { state = c .state; cells = take cells (c .cells); saved = take saved (c .saved); entities = c .entities })
 
 -- a load of these bytes, which is lent two cells more than the file has, and what is seen after it, with the bytes that then stand there
 abbrev fromThen : List ℕ → List ℕ → Scenario → Seen
 fromThen file then scenario =
     let P = programOf then in
-    andThen (load file (replicate (fileOf file .globals .count + 2) 0xffffffff) (replicate 2048 0xeeeeeeee)) (scenario P)
+    andThen (load file (pos 0) (replicate (fileOf file .globals .count + 2) 0xffffffff) (replicate 2048 0xeeeeeeee) []) (scenario P)
 
 -- of the file with these contents
 abbrev pub from : Contents → Scenario → Seen
@@ -321,7 +323,7 @@ from k = let file = assembled k in fromThen file file
 
 -- a load of these bytes, which is lent so many cells and a saved store of so many
 abbrev loading : List ℕ → ℕ → ℕ → Seen
-loading file cells saved = andThen (load file (replicate cells 0) (replicate saved 0)) (state (programOf file))
+loading file cells saved = andThen (load file (pos 0) (replicate cells 0) (replicate saved 0) []) (state (programOf file))
 
 -- ---- what several rows share
 
@@ -675,7 +677,8 @@ unfolding judge guard
     Ieee.ofBits Ieee.toBits Ieee.add Ieee.mul Ieee.div Ieee.eq Ieee.toSigned Ieee.ofInt
     lookup scalar passes signed cellOf cellAccess vectorAccess access readAccess
     shapeOf floatsEffect vectorResult vectorsEffect vectorsToFloatEffect negatesVEffect storesEffect storesVEffect branchesDo roundingOf callOf callDoes fetchConditions execute doesAt
-    limits present copied successive arguments copiesPresent entryConditions entered leaveConditions left stepAs step runFor
+    withoutVoid fieldCellAccess fieldAccess valueMoved loadsEffect addressesEffect storesPEffect
+    entitiesFit limits present copied successive arguments copiesPresent entryConditions entered leaveConditions left stepAs step runFor
     each headerConditions recordConditions cellConditions loaded load sameFile recordedIn programAt
     frameFunctions enteredFunctions allPresent localsOf sound hostEnter statement runConditions run carryOnConditions carryOn leftTimes leavingsConditions abandonConditions abandon rawRead rawWrite
 computing = tt

@@ -1,5 +1,5 @@
 -- STATEMENTS. Document 01, "Cells and statements", globals.rs and pr_exec.c: what a statement does with the cells, for all 66 opcodes.
-use Prim.Native.Nat.{ℕ, zero, suc, _+_, _*_}
+use Prim.Native.Nat.{ℕ, zero, suc, _+_, _*_, _/_, _%_}
 use mathlib.Core.List.{List, [], _∷_, _++_}
 use mathlib.Core.Bool.{Bool, true, false, not, _&&_, _||_, Bool·beq, cond}
 use mathlib.Core.Option.{Option, none, some}
@@ -11,16 +11,23 @@ use Rattle.definition.specs.declared.FunctionDef.{FunctionDef}
 use Rattle.definition.specs.declared.Handover.{Handover}
 use Rattle.definition.specs.declared.Handover.the-variants.{Builtin, Opcode}
 use Rattle.definition.specs.Checks.{Condition, Conditions, _otherwise_, judge}
-use Rattle.definition.specs.File.{opcodeCount, Contents, noFunction, isBuiltin, builtinOf, builtinKnown}
+use Rattle.definition.specs.File.{opcodeCount, greatestPointer, negative, Contents, noFunction, isBuiltin, builtinOf, builtinKnown}
 use Rattle.definition.specs.Floats.{addF, subF, mulF, divF, eqF, neF, leF, geF, ltF, gtF, andF, orF, notF, bitAndF, bitOrF, isZero, flag}
 use Rattle.definition.specs.Floats.{mulV, eqV, neV, notV, eqN, neN, notN, roundingOf}
-use Rattle.definition.specs.Cells.{string, float, vector, entity, field, function, cellOf, signed, Typing, typingOf}
-use Rattle.definition.specs.Cells.{addressed, cellAccess, access, mustBeNatural, readAccess}
+use Rattle.definition.specs.Cells.{string, float, vector, entity, field, function, pointer, cellOf, signed, Typing, typingOf, fieldsOf}
+use Rattle.definition.specs.Cells.{addressed, cellAccess, access, mustBeNatural, readAccess, fieldAccess}
 
--- what the statement at a position does, with the cells as they are
+-- R-3: "The host lends entity cells: up to 600 entities, each with the file's count of cells per entity": their number, and the lent cells
+pub record Entities : Type 0 where
+  pub count : ℕ
+  pub cells : List ℕ
+
+-- what the statement at a position does, with the cells and the entity cells as they are
 pub data Does : Type 0 where
   -- it completes, and neither enters nor leaves a function: the new position, the new cells
   next : ℤ → List ℕ → Does
+  -- it completes, and writes a field: the new position, the new entity cells
+  puts : ℤ → List ℕ → Does
   -- a Call of that function, which is none of 19, 20, 5 or a builtin
   calls : ℕ → Does
   -- a Return or Done of the three cells from that one on
@@ -56,12 +63,16 @@ pub data Shape : Type 0 where
   -- a Store of a type; StoreV goes its own way
   stores : ℕ → Shape
   storesV : Shape
+  -- a field of a type is read; its pointer is made; a value of a type is written through a pointer (R-3)
+  loads : ℕ → Shape
+  addresses : Shape
+  storesP : ℕ → Shape
   -- IfNot jumps when the float is zero (true), If when it is not (false)
   branches : Bool → Shape
   jumps : Shape
   call : Shape
   return : Shape
-  -- "24 to 30, 37 to 42 and 60 go to the host"
+  -- R-3: "Only opcode 60 and the other builtins still go to the host"
   host : Shape
 
 -- opcodes 0 to 65 (ops.rs)
@@ -77,11 +88,11 @@ opcodes =
     -- 20: Le, Ge, Lt, Gt
     ++ (floats leF ∷ floats geF ∷ floats ltF ∷ floats gtF ∷ [])
     -- 24: LoadF, LoadV, LoadS, LoadEnt, LoadFld, LoadFnc, Address
-    ++ (host ∷ host ∷ host ∷ host ∷ host ∷ host ∷ host ∷ [])
+    ++ (loads float ∷ loads vector ∷ loads string ∷ loads entity ∷ loads field ∷ loads function ∷ addresses ∷ [])
     -- 31: StoreF, StoreV, StoreS, StoreEnt, StoreFld, StoreFnc
     ++ (stores float ∷ storesV ∷ stores string ∷ stores entity ∷ stores field ∷ stores function ∷ [])
     -- 37: StorePF, StorePV, StorePS, StorePEnt, StorePFld, StorePFnc
-    ++ (host ∷ host ∷ host ∷ host ∷ host ∷ host ∷ [])
+    ++ (storesP float ∷ storesP vector ∷ storesP string ∷ storesP entity ∷ storesP field ∷ storesP function ∷ [])
     -- 43: Return; NotF, NotV, NotS, NotEnt, NotFnc; If, IfNot
     ++ (return ∷ negates float notF ∷ negatesV ∷ negatesS ∷ negates entity notN ∷ negates function notN ∷ branches false ∷ branches true ∷ [])
     -- 51: Call0 to Call8
@@ -163,7 +174,7 @@ stringsEffect f g a b c cells =
       cells = set cells c (stringResult f a b cells);
     }
 
--- "18: third operand of a Store (31 to 36) or second of a Not isn't 0"
+-- "18: third operand of a Store (31 to 36) or second of a Not isn't 0"; R-3: "18 for the third operand of 37 to 42"
 abbrev pub unused : ℕ → Conditions
 unused cell = (eqb cell 0 otherwise 18) ∷ []
 
@@ -221,6 +232,71 @@ storesVEffect g a b c cells =
       cells = moved (a + 2) (b + 2) (moved (a + 1) (b + 1) (moved a b cells));
     }
 
+-- ---- the fields of entities (R-3)
+
+-- a value of a type goes from one list of cells to another: "Opcodes 24 to 29 read the field", "37 to 42 write the first operand"
+unfoldable pub valueMoved : ℕ → List ℕ → ℕ → List ℕ → ℕ → List ℕ
+valueMoved t from i to j =
+    let first = set to j (getD from i 0) in
+    cond (eqb t vector) (set (set first (j + 1) (getD from (i + 1) 0)) (j + 2) (getD from (i + 2) 0)) first
+
+-- "read the field in the second operand of the entity in the first"; "After the operand checks .. comes 30 for an entity not below the count; ..
+-- then, cell by cell, 16 by field definition .. and 31 ..; then 17 for a negative string, entity or field moved"
+unfoldable pub loadsEffect : ℕ → Typing → Typing → Entities → ℕ → ℕ → ℕ → List ℕ → Effect
+loadsEffect t g h e a b c cells =
+    let number = getD cells a 0 in
+    let named = getD cells b 0 in
+    let at = number * h .count + named in
+    record {
+      conditions =
+          readAccess g (mustBeNatural entity) entity a cells
+          ++ readAccess g (mustBeNatural field) field b cells
+          ++ access g t c
+          ++ ((ltb number (e .count) otherwise 30) ∷ [])
+          ++ fieldAccess h t named
+          ++ ((not (storedNatural t && negative (getD (e .cells) at 0)) otherwise 17) ∷ []);
+      cells = valueMoved t (e .cells) at cells c;
+    }
+
+-- "30 makes a pointer"; "A pointer, its cell typed 7, is (entity times cells per entity, plus field) times 4"; "16 by field definition (not for 30)";
+-- "32 for a pointer to be made over 2,147,483,647"
+unfoldable pub addressesEffect : Typing → Typing → Entities → ℕ → ℕ → ℕ → List ℕ → Effect
+addressesEffect g h e a b c cells =
+    let number = getD cells a 0 in
+    let named = getD cells b 0 in
+    let made = (number * h .count + named) * 4 in
+    record {
+      conditions =
+          readAccess g (mustBeNatural entity) entity a cells
+          ++ readAccess g (mustBeNatural field) field b cells
+          ++ access g pointer c
+          ++ ((ltb number (e .count) otherwise 30) ∷ (ltb named (h .count) otherwise 31) ∷ (leb made greatestPointer otherwise 32) ∷ []);
+      cells = set cells c made;
+    }
+
+-- "32 for a pointer that is negative, no multiple of 4 or past the last entity"
+abbrev pub pointsAtField : Typing → Entities → ℕ → Bool
+pointsAtField h e p = not (negative p) && eqb (p % 4) 0 && ltb (p / 4 / h .count) (e .count)
+
+-- "37 to 42 write the first operand through the pointer in the second": the cells after it are the entity cells. (40 and 41 read an entity and a
+-- field, which are not negative; so 17 comes last for a string alone.)
+unfoldable pub storesPEffect : ℕ → Typing → Typing → Entities → ℕ → ℕ → ℕ → List ℕ → Effect
+storesPEffect t g h e a b c cells =
+    let p = getD cells b 0 in
+    record {
+      conditions =
+          unused c
+          ++ readAccess g (mustBeNatural t) t a cells
+          ++ access g pointer b
+          ++ ((pointsAtField h e p otherwise 32) ∷ [])
+          ++ fieldAccess h t (p / 4 % h .count)
+          ++ ((not (eqb t string && negative (getD cells a 0)) otherwise 17) ∷ []);
+      cells = valueMoved t cells a (e .cells) (p / 4);
+    }
+
+abbrev pub putDoes : ℤ → Effect → Does
+putDoes p x = provided (x .conditions) (puts (p +ℤ pos 1) (x .cells))
+
 -- "If jumps unless the float is +0 or -0 (so on NaN); IfNot jumps on those two. A jump adds to the position"
 unfoldable pub branchesDo : Bool → Typing → ℤ → ℕ → ℤ → List ℕ → Does
 branchesDo when g p a by cells =
@@ -270,28 +346,43 @@ fetchConditions statements p =
     ∷ (ltb (statementAt statements p .opcode) opcodeCount otherwise 7)
     ∷ []
 
--- a statement of a shape at the position p, whose operands name the cells a, b and c
-abbrev pub executeAs : Shape → Contents → Typing → ℤ → Statement → ℕ → ℕ → ℕ → List ℕ → Does
-executeAs (floats f) k g p st a b c cells = effectDoes p (floatsEffect f g a b c cells)
-executeAs (values t f) k g p st a b c cells = effectDoes p (valuesEffect t f g a b c cells)
-executeAs (vectors ta tb f) k g p st a b c cells = effectDoes p (vectorsEffect ta tb f g a b c cells)
-executeAs (vectorsToFloat f) k g p st a b c cells = effectDoes p (vectorsToFloatEffect f g a b c cells)
-executeAs (strings f) k g p st a b c cells = effectDoes p (stringsEffect f g a b c cells)
-executeAs (negates t f) k g p st a b c cells = effectDoes p (negatesEffect t f g a b c cells)
-executeAs negatesV k g p st a b c cells = effectDoes p (negatesVEffect g a b c cells)
-executeAs negatesS k g p st a b c cells = effectDoes p (negatesSEffect g a b c cells)
-executeAs (stores t) k g p st a b c cells = effectDoes p (storesEffect t g a b c cells)
-executeAs storesV k g p st a b c cells = effectDoes p (storesVEffect g a b c cells)
-executeAs (branches when) k g p st a b c cells = branchesDo when g p a (signed (st .arg2)) cells
-executeAs jumps k g p st a b c cells = next (p +ℤ signed (st .arg1)) cells
-executeAs call k g p st a b c cells = callDoes (k .functions) g p a cells
-executeAs return k g p st a b c cells = returns a
-executeAs host k g p st a b c cells = handsOver (Opcode (st .opcode))
+-- what a statement looks up in the file
+pub record Tables : Type 0 where
+  pub functions : List FunctionDef
+  pub globals : Typing
+  pub fields : Typing
 
-unfoldable pub execute : Contents → ℤ → Statement → List ℕ → Does
-execute k p st cells =
-    executeAs (shapeOf (st .opcode)) k (typingOf k) p st (cellOf (st .arg1)) (cellOf (st .arg2)) (cellOf (st .arg3)) cells
+abbrev pub tablesOf : Contents → Tables
+tablesOf k = record { functions = k .functions; globals = typingOf k; fields = fieldsOf k }
+
+-- a statement of a shape at the position p, whose operands name the cells a, b and c
+abbrev pub executeAs : Shape → Tables → ℤ → Statement → ℕ → ℕ → ℕ → Entities → List ℕ → Does
+executeAs (floats f) k p st a b c e cells = effectDoes p (floatsEffect f (k .globals) a b c cells)
+executeAs (values t f) k p st a b c e cells = effectDoes p (valuesEffect t f (k .globals) a b c cells)
+executeAs (vectors ta tb f) k p st a b c e cells = effectDoes p (vectorsEffect ta tb f (k .globals) a b c cells)
+executeAs (vectorsToFloat f) k p st a b c e cells = effectDoes p (vectorsToFloatEffect f (k .globals) a b c cells)
+executeAs (strings f) k p st a b c e cells = effectDoes p (stringsEffect f (k .globals) a b c cells)
+executeAs (negates t f) k p st a b c e cells = effectDoes p (negatesEffect t f (k .globals) a b c cells)
+executeAs negatesV k p st a b c e cells = effectDoes p (negatesVEffect (k .globals) a b c cells)
+executeAs negatesS k p st a b c e cells = effectDoes p (negatesSEffect (k .globals) a b c cells)
+executeAs (stores t) k p st a b c e cells = effectDoes p (storesEffect t (k .globals) a b c cells)
+executeAs storesV k p st a b c e cells = effectDoes p (storesVEffect (k .globals) a b c cells)
+executeAs (loads t) k p st a b c e cells = effectDoes p (loadsEffect t (k .globals) (k .fields) e a b c cells)
+executeAs addresses k p st a b c e cells = effectDoes p (addressesEffect (k .globals) (k .fields) e a b c cells)
+executeAs (storesP t) k p st a b c e cells = putDoes p (storesPEffect t (k .globals) (k .fields) e a b c cells)
+executeAs (branches when) k p st a b c e cells = branchesDo when (k .globals) p a (signed (st .arg2)) cells
+executeAs jumps k p st a b c e cells = next (p +ℤ signed (st .arg1)) cells
+executeAs call k p st a b c e cells = callDoes (k .functions) (k .globals) p a cells
+executeAs return k p st a b c e cells = returns a
+executeAs host k p st a b c e cells = handsOver (Opcode (st .opcode))
+
+abbrev pub executeIn : Tables → ℤ → Statement → Entities → List ℕ → Does
+executeIn k p st e cells =
+    executeAs (shapeOf (st .opcode)) k p st (cellOf (st .arg1)) (cellOf (st .arg2)) (cellOf (st .arg3)) e cells
+
+unfoldable pub execute : Contents → ℤ → Statement → Entities → List ℕ → Does
+execute k p st e cells = executeIn (tablesOf k) p st e cells
 
 -- the statement at the position p
-unfoldable pub doesAt : Contents → ℤ → List ℕ → Does
-doesAt k p cells = provided (fetchConditions (k .statements) p) (execute k p (statementAt (k .statements) p) cells)
+unfoldable pub doesAt : Contents → ℤ → Entities → List ℕ → Does
+doesAt k p e cells = provided (fetchConditions (k .statements) p) (execute k p (statementAt (k .statements) p) e cells)

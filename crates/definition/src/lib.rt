@@ -39,6 +39,12 @@ pub const MOST_CELLS: usize = 32_768;
 // "11: entity cells under 105"
 pub const LEAST_ENTITY_CELLS: usize = 105;
 
+// Document 02, R-3: "More than 600 entities .. are refused 13"
+pub const MOST_ENTITIES: usize = 600;
+
+// The greatest signed number of 32 bits. R-3: "32 for a pointer to be made over 2,147,483,647"
+pub const GREATEST_POINTER: usize = 2_147_483_647;
+
 // "12: .. saved store under 2,048", "23: .. saved over 2,048"
 pub const SAVED_STORE: usize = 2_048;
 

@@ -2,7 +2,7 @@
 use Prim.Native.Nat.{ℕ, zero, suc, _<_, _≤_}
 use mathlib.Core.Path.{_≡_, refl, sym, _∙_, ap}
 use mathlib.Core.List.{List}
-use mathlib.Core.Bool.{Bool, true, false, true≢false}
+use mathlib.Core.Bool.{Bool, true, false, true≢false, not}
 use native.Mathlib.Omega.{arith}
 use lib.IntN.{ℤ, pos}
 use lib.ListN.{length}
@@ -14,41 +14,40 @@ use Rattle.definition.specs.declared.FileRecord.{FileRecord}
 use Rattle.definition.specs.File.{Contents, contentsAt}
 use Rattle.functions.specs.Parts.{partOf, functionsIn}
 use Rattle.functions.specs.Laws.{AllFit}
-use Rattle.typed.specs.Typing.{typing}
-use Rattle.definition.specs.Statements.{Does, orRefused, provided, fetchConditions, statementAt, execute, doesAt, branchesDo, callDoes, executeAs}
-use Rattle.definition.specs.Statements.{Shape, floats, values, vectors, vectorsToFloat, strings, negates, negatesV, negatesS, stores, storesV, branches, jumps, call, return, host, shapeOf}
+use Rattle.definition.specs.Statements.{Entities, Does, orRefused, provided, fetchConditions, statementAt, execute, doesAt, branchesDo, builtinDoes, callDoes, Tables, executeAs, executeIn}
+use Rattle.definition.specs.Statements.{Shape, floats, values, vectors, vectorsToFloat, strings, negates, negatesV, negatesS, stores, storesV, loads, addresses, storesP, branches, jumps, call, return, host, shapeOf}
 use Rattle.definition.specs.Operations.{isHandedOver}
 use Rattle.functions.specs.declared.fetch.Fetched.the-variants.{At, Refused}
 use Rattle.functions.specs.Answers.{fetched}
 use Rattle.functions.specs.Laws.{FetchedAt, fetch-accepts, fetch-refuses}
-use Rattle.execution.specs.declared.Callee.{Callee}
-use Rattle.execution.specs.declared.Callee.the-variants as callee
+use Rattle.definition.specs.Floats.{roundingOf}
+use Rattle.floats.specs.Rounding.{isRounding}
 use Rattle.execution.specs.declared.Executed.{Executed}
 use Rattle.execution.specs.declared.Executed.the-variants as does
 use Rattle.execution.specs.declared.shapes.Shape.the-variants.{Call}
 use Rattle.execution.specs.Shapes.{isCall, isHost}
-use Rattle.execution.specs.Execution.{onlyFunctions, statement, executeWith, calleeDoes, executed, execution, on-parts}
+use Rattle.execution.specs.Execution.{statement, calleeDoes, executed, execution, tablesIn, on-parts}
 use Rattle.execution.proofs.Opcodes.{call-shape}
-use Rattle.execution.proofs.Transfers.{call-is}
+use Rattle.execution.proofs.Transfers.{does-is, builtin-rounds, builtin-hosts}
 
-module _ (k : Contents) (p : ℤ) (cells : List ℕ) where
-  refused-as : (n m : ℕ) (d : Does) → n ≡ m → 0 < n → executed (does.Refused n) cells ≡ execution (orRefused m d) cells
-  unfolding executed execution
-  refused-as n zero d e h = absurd (omega arith)
-  refused-as n (suc m) d e h = ap (λ (i : ℕ). executed (does.Refused i) cells) e
+module _ (k : Contents) (p : ℤ) (e : Entities) (cells : List ℕ) where
+  refused-as : (n m : ℕ) (d : Does) → n ≡ m → 0 < n → executed (does.Refused n) cells (e .cells) ≡ execution (orRefused m d) cells (e .cells)
+  unfolding execution
+  refused-as n zero d q h = absurd (omega arith)
+  refused-as n (suc m) d q h = ap (λ (i : ℕ). executed (does.Refused i) cells (e .cells)) q
 
-  pub not-fetched : (n : ℕ) → Refused n ≡ fetched (k .statements) p → executed (does.Refused n) cells ≡ execution (doesAt k p cells) cells
+  pub not-fetched : (n : ℕ) → Refused n ≡ fetched (k .statements) p → executed (does.Refused n) cells (e .cells) ≡ execution (doesAt k p e cells) cells (e .cells)
   unfolding doesAt
-  not-fetched n e =
-      let r = fetch-refuses (k .statements) p n e in
-      refused-as n (judge (fetchConditions (k .statements) p)) (execute k p (statementAt (k .statements) p) cells) (r .0) (r .1)
+  not-fetched n q =
+      let r = fetch-refuses (k .statements) p n q in
+      refused-as n (judge (fetchConditions (k .statements) p)) (execute k p (statementAt (k .statements) p) e cells) (r .0) (r .1)
 
-  pub is-fetched : (i : ℕ) (st : Statement) (r : Executed) (cells′ : List ℕ) → At i st ≡ fetched (k .statements) p
-      → executed r cells′ ≡ execution (execute k (pos i) st cells) cells
-      → executed r cells′ ≡ execution (doesAt k p cells) cells
+  pub is-fetched : (i : ℕ) (st : Statement) (r : Executed) (cells′ entities′ : List ℕ) → At i st ≡ fetched (k .statements) p
+      → executed r cells′ entities′ ≡ execution (execute k (pos i) st e cells) cells (e .cells)
+      → executed r cells′ entities′ ≡ execution (doesAt k p e cells) cells (e .cells)
   unfolding doesAt
-  is-fetched i st r cells′ e h =
-      let a : FetchedAt (k .statements) p i st = fetch-accepts (k .statements) p i st e in
+  is-fetched i st r cells′ entities′ q h =
+      let a : FetchedAt (k .statements) p i st = fetch-accepts (k .statements) p i st q in
       h ∙ rw (a .conditions, a .statement, a .position)
 
 -- ---- handed over or not, by shape
@@ -60,46 +59,49 @@ not-handed cs d h = by (judge cs)
     by zero = h
     by (suc n) = refl
 
-module _ (fs : List FunctionDef) (g : Typing) (p : ℤ) (op x y z : ℕ) (cells : List ℕ) where
+module _ (k : Tables) (p : ℤ) (op x y z : ℕ) (e : Entities) (cells : List ℕ) where
   abbrev goal : Bool → Type 0
-  goal b = b ≡ isHandedOver (executeWith fs g p (statement op x y z) cells)
+  goal b = b ≡ isHandedOver (executeIn k p (statement op x y z) e cells)
 
   -- of what is no Call, what is the host's
   pub other-handed : (b : Bool) → isCall (shapeOf op) ≡ false → b ≡ isHost (shapeOf op) → goal b
-  unfolding executeWith branchesDo
-  other-handed b other e = e ∙ by (shapeOf op) other
+  unfolding branchesDo
+  other-handed b other q = q ∙ by (shapeOf op) other
     where
-      by : (s : Shape) → isCall s ≡ false
-          → isHost s ≡ isHandedOver (executeAs s (onlyFunctions fs) g p (statement op x y z) (cellOf x) (cellOf y) (cellOf z) cells)
-      by (floats f) e = sym (not-handed _ _ refl)
-      by (values t f) e = sym (not-handed _ _ refl)
-      by (vectors ta tb f) e = sym (not-handed _ _ refl)
-      by (vectorsToFloat f) e = sym (not-handed _ _ refl)
-      by (strings f) e = sym (not-handed _ _ refl)
-      by (negates t f) e = sym (not-handed _ _ refl)
-      by negatesV e = sym (not-handed _ _ refl)
-      by negatesS e = sym (not-handed _ _ refl)
-      by (stores t) e = sym (not-handed _ _ refl)
-      by storesV e = sym (not-handed _ _ refl)
-      by (branches when) e = sym (not-handed _ _ refl)
-      by jumps e = refl
-      by call e = absurd (true≢false e)
-      by return e = refl
-      by host e = refl
+      by : (s : Shape) → isCall s ≡ false → isHost s ≡ isHandedOver (executeAs s k p (statement op x y z) (cellOf x) (cellOf y) (cellOf z) e cells)
+      by (floats f) q = sym (not-handed _ _ refl)
+      by (values t f) q = sym (not-handed _ _ refl)
+      by (vectors ta tb f) q = sym (not-handed _ _ refl)
+      by (vectorsToFloat f) q = sym (not-handed _ _ refl)
+      by (strings f) q = sym (not-handed _ _ refl)
+      by (negates t f) q = sym (not-handed _ _ refl)
+      by negatesV q = sym (not-handed _ _ refl)
+      by negatesS q = sym (not-handed _ _ refl)
+      by (stores t) q = sym (not-handed _ _ refl)
+      by storesV q = sym (not-handed _ _ refl)
+      by (loads t) q = sym (not-handed _ _ refl)
+      by addresses q = sym (not-handed _ _ refl)
+      by (storesP t) q = sym (not-handed _ _ refl)
+      by (branches when) q = sym (not-handed _ _ refl)
+      by jumps q = refl
+      by call q = absurd (true≢false q)
+      by return q = refl
+      by host q = refl
 
-  pub call-handed : isCall (shapeOf op) ≡ true → (a : ℕ) → a ≡ cellOf x → (b : Bool) (c : Callee) → b ≡ isHandedOver (calleeDoes c g p cells)
-      → calleeDoes c g p cells ≡ callDoes fs g p a cells → goal b
-  call-handed t a e b c h k = h ∙ ap isHandedOver (call-is fs g p op x y z cells Call refl (call-shape (shapeOf op) t) a e c k)
+  -- of a Call, what its callee comes to
+  pub call-handed : isCall (shapeOf op) ≡ true → (a : ℕ) → a ≡ cellOf x → (b : Bool) → b ≡ isHandedOver (callDoes (k .functions) (k .globals) p a cells) → goal b
+  call-handed t a q b h = h ∙ ap (λ (i : ℕ). isHandedOver (callDoes (k .functions) (k .globals) p i cells)) q ∙ ap isHandedOver (does-is k p op x y z e cells Call Call refl (call-shape (shapeOf op) t))
 
-pub handed-known : (c known : Callee) (b : Bool) → c ≡ known → ((g : Typing) (p : ℤ) (cells : List ℕ) → b ≡ isHandedOver (calleeDoes known g p cells))
-    → (g : Typing) (p : ℤ) (cells : List ℕ) → b ≡ isHandedOver (calleeDoes c g p cells)
-handed-known c known b e h g p cells = h g p cells ∙ ap (λ (d : Callee). isHandedOver (calleeDoes d g p cells)) (sym e)
+-- a builtin is the host's unless the machine does it
+pub builtin-handed : (n : ℕ) (g : Typing) (p : ℤ) (cells : List ℕ) → not (isRounding n) ≡ isHandedOver (builtinDoes (roundingOf n) n g p cells)
+builtin-handed n g p cells = go (isRounding n) refl
+  where
+    go : (b : Bool) → isRounding n ≡ b → not b ≡ isHandedOver (builtinDoes (roundingOf n) n g p cells)
+    go true h = sym (not-handed _ _ refl) ∙ ap isHandedOver (builtin-rounds n g p cells h)
+    go false h = ap isHandedOver (builtin-hosts n g p cells h)
 
-pub rounding-not-handed : (n : ℕ) (g : Typing) (p : ℤ) (cells : List ℕ) → false ≡ isHandedOver (calleeDoes (callee.Rounding n) g p cells)
-rounding-not-handed n g p cells = sym (not-handed _ _ refl)
-
-pub handed-here : (r : FileRecord) (file : List ℕ) → AllFit (length file) r → (defs functions : List ℕ) → defs ≡ partOf 8 (r .globaldefs) file → functions ≡ partOf 36 (r .functions) file
-    → (p : ℤ) (st : Statement) (cells : List ℕ) (b : Bool)
-    → b ≡ isHandedOver (executeWith (functionsIn functions) (typing defs (r .globals .count)) p st cells)
-    → b ≡ isHandedOver (execute (contentsAt r file) p st cells)
-handed-here r file fit defs functions d f p st cells b h = h ∙ ap isHandedOver (on-parts r file fit defs functions d f p st cells)
+pub handed-here : (r : FileRecord) (file : List ℕ) → AllFit (length file) r → (functions defs fields : List ℕ) → functions ≡ partOf 36 (r .functions) file
+    → defs ≡ partOf 8 (r .globaldefs) file → fields ≡ partOf 8 (r .fielddefs) file → (p : ℤ) (st : Statement) (e : Entities) (cells : List ℕ) (b : Bool)
+    → b ≡ isHandedOver (executeIn (tablesIn functions defs (r .globals .count) fields (r .entityfields)) p st e cells)
+    → b ≡ isHandedOver (execute (contentsAt r file) p st e cells)
+handed-here r file fit functions defs fields f d h p st e cells b q = q ∙ ap isHandedOver (on-parts r file fit functions defs fields f d h p st e cells)

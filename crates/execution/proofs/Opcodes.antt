@@ -1,13 +1,15 @@
 -- Laws of the opcodes' shapes: the arms of a match on an opcode are rows of the definition's table. Assumes nothing.
-use Prim.Native.Nat.{ℕ, _+_, _/_, _%_, _^_, _<_}
-use mathlib.Core.Path.{_≡_, refl, sym}
+use Prim.Native.Nat.{ℕ, _+_, _/_, _%_, _^_, _<_, _≤_}
+use mathlib.Core.Path.{_≡_, refl, sym, _∙_, ap}
+use mathlib.Core.Logic.{_⊎_, inl, inr}
 use mathlib.Core.List.{List}
 use mathlib.Core.Option.{Option·getD}
 use mathlib.Core.Bool.{Bool, true, false, true≢false, not, _&&_, _||_, Bool·beq}
-use lib.Dec.{eqb, leb}
-use borrow.Author.Tests.{eq-eqb, ne-eqb}
+use lib.Dec.{eqb, leb, ltb}
+use native.Mathlib.Omega.{arith}
+use borrow.Author.Tests.{eq-eqb, ne-eqb, le-leb, lt-leb, lt-ltb}
 use native.Mathlib.Nat.{zero-add}
-use Rattle.definition.specs.Statements.{Shape, floats, values, vectors, vectorsToFloat, strings, negates, negatesV, negatesS, stores, storesV, branches, jumps, call, return, host, opcodes, shapeOf}
+use Rattle.definition.specs.Statements.{Shape, floats, values, vectors, vectorsToFloat, strings, negates, negatesV, negatesS, stores, storesV, loads, addresses, storesP, branches, jumps, call, return, host, opcodes, shapeOf}
 use Rattle.definition.specs.StatementLaws.{every, every-at}
 use Rattle.floats.specs.Opcodes.{floatsOf, floatOp}
 use Rattle.floats.proofs.Opcodes.{among, Missed, missed}
@@ -58,6 +60,9 @@ floats-are op e = go (shapeOf op) e
     go negatesS e = absurd (true≢false (sym e))
     go (stores t) e = absurd (true≢false (sym e))
     go storesV e = absurd (true≢false (sym e))
+    go (loads t) e = absurd (true≢false (sym e))
+    go addresses e = absurd (true≢false (sym e))
+    go (storesP t) e = absurd (true≢false (sym e))
     go (branches when) e = absurd (true≢false (sym e))
     go jumps e = absurd (true≢false (sym e))
     go call e = absurd (true≢false (sym e))
@@ -73,31 +78,43 @@ at s k op e h = rw e h
 abbrev pub isCallNumber : ℕ → Bool
 isCallNumber op = leb 51 op && leb op 59
 
+-- a shape is a Call's, or what goes to the host, or another
+transfers : (s : Shape) → (call ≡ s) ⊎ ((host ≡ s) ⊎ ((isCall s ≡ false) × (isHost s ≡ false)))
+transfers (floats f) = inr (inr (refl, refl))
+transfers (values t f) = inr (inr (refl, refl))
+transfers (vectors ta tb f) = inr (inr (refl, refl))
+transfers (vectorsToFloat f) = inr (inr (refl, refl))
+transfers (strings f) = inr (inr (refl, refl))
+transfers (negates t f) = inr (inr (refl, refl))
+transfers negatesV = inr (inr (refl, refl))
+transfers negatesS = inr (inr (refl, refl))
+transfers (stores t) = inr (inr (refl, refl))
+transfers storesV = inr (inr (refl, refl))
+transfers (loads t) = inr (inr (refl, refl))
+transfers addresses = inr (inr (refl, refl))
+transfers (storesP t) = inr (inr (refl, refl))
+transfers (branches when) = inr (inr (refl, refl))
+transfers jumps = inr (inr (refl, refl))
+transfers call = inl refl
+transfers return = inr (inr (refl, refl))
+transfers host = inr (inl refl)
+
 pub call-shape : (s : Shape) → isCall s ≡ true → call ≡ s
-call-shape (floats f) e = absurd (true≢false (sym e))
-call-shape (values t f) e = absurd (true≢false (sym e))
-call-shape (vectors ta tb f) e = absurd (true≢false (sym e))
-call-shape (vectorsToFloat f) e = absurd (true≢false (sym e))
-call-shape (strings f) e = absurd (true≢false (sym e))
-call-shape (negates t f) e = absurd (true≢false (sym e))
-call-shape negatesV e = absurd (true≢false (sym e))
-call-shape negatesS e = absurd (true≢false (sym e))
-call-shape (stores t) e = absurd (true≢false (sym e))
-call-shape storesV e = absurd (true≢false (sym e))
-call-shape (branches when) e = absurd (true≢false (sym e))
-call-shape jumps e = absurd (true≢false (sym e))
-call-shape call e = refl
-call-shape return e = absurd (true≢false (sym e))
-call-shape host e = absurd (true≢false (sym e))
+call-shape s e = go (transfers s)
+  where
+    go : (call ≡ s) ⊎ ((host ≡ s) ⊎ ((isCall s ≡ false) × (isHost s ≡ false))) → call ≡ s
+    go (inl c) = c
+    go (inr (inl h)) = absurd (true≢false (sym e ∙ ap isCall (sym h)))
+    go (inr (inr (c, h))) = absurd (true≢false (sym e ∙ c))
 
 module _ (op : ℕ) (known : op < 66) where
   pub call-number-is : isCallNumber op ≡ isCall (shapeOf op)
   unfolding opcodes
   call-number-is = same op known _ _ (row (λ n s. Bool·beq (isCallNumber n) (isCall s)) op known refl)
 
-  pub host-bit-is : eqb (1152930165391622144 / 2 ^ (op % 64) % 2) 1 ≡ isHost (shapeOf op)
+  pub host-number-is : eqb op 60 ≡ isHost (shapeOf op)
   unfolding opcodes
-  host-bit-is = same op known _ _ (row (λ n s. Bool·beq (eqb (1152930165391622144 / 2 ^ (n % 64) % 2) 1) (isHost s)) op known refl)
+  host-number-is = same op known _ _ (row (λ n s. Bool·beq (eqb n 60) (isHost s)) op known refl)
 
 pub is-call : (op : ℕ) → op < 66 → isCallNumber op ≡ true → shapeAs Call op ≡ shapeOf op
 unfolding opcodes
@@ -106,25 +123,22 @@ is-call op h e = call-shape (shapeOf op) (rw e at (row (λ n s. not (isCallNumbe
 -- ---- the last arm
 
 host-is : (s : Shape) → isHost s ≡ true → host ≡ s
-host-is (floats f) e = absurd (true≢false (sym e))
-host-is (values t f) e = absurd (true≢false (sym e))
-host-is (vectors ta tb f) e = absurd (true≢false (sym e))
-host-is (vectorsToFloat f) e = absurd (true≢false (sym e))
-host-is (strings f) e = absurd (true≢false (sym e))
-host-is (negates t f) e = absurd (true≢false (sym e))
-host-is negatesV e = absurd (true≢false (sym e))
-host-is negatesS e = absurd (true≢false (sym e))
-host-is (stores t) e = absurd (true≢false (sym e))
-host-is storesV e = absurd (true≢false (sym e))
-host-is (branches when) e = absurd (true≢false (sym e))
-host-is jumps e = absurd (true≢false (sym e))
-host-is call e = absurd (true≢false (sym e))
-host-is return e = absurd (true≢false (sym e))
-host-is host e = refl
+host-is s e = go (transfers s)
+  where
+    go : (call ≡ s) ⊎ ((host ≡ s) ⊎ ((isCall s ≡ false) × (isHost s ≡ false))) → host ≡ s
+    go (inl c) = absurd (true≢false (sym e ∙ ap isHost (sym c)))
+    go (inr (inl h)) = h
+    go (inr (inr (c, h))) = absurd (true≢false (sym e ∙ h))
 
--- the test, over the rows: an opcode that isn't listed, is no Call and doesn't make a float of two, goes to the host
-abbrev pub listedOrHost : List ℕ → ℕ → Shape → Bool
-listedOrHost ks op s = isFloats s || (isCallNumber op || (among ks op || isHost s))
+-- the test, over the rows from `low` up to below `high`: an opcode that isn't listed, is no Call and doesn't make a float of two, goes to the host
+abbrev pub listedOrHost : ℕ → ℕ → List ℕ → ℕ → Shape → Bool
+listedOrHost low high ks op s = not (leb low op && ltb op high) || (isFloats s || (isCallNumber op || (among ks op || isHost s)))
 
-pub rest : (ks : List ℕ) (op : ℕ) → op < 66 → isFloats (shapeOf op) ≡ false → isCallNumber op ≡ false → every (listedOrHost ks) 0 opcodes ≡ true → Missed op (Unit {0}) ks → shapeAs Host op ≡ shapeOf op
-rest ks op h other apart t m = host-is (shapeOf op) (rw (other, apart, missed op (Unit {0}) ks m .1) at (row (listedOrHost ks) op h t))
+pub rest : (low high : ℕ) (ks : List ℕ) (op : ℕ) → op < 66 → low ≤ op → op < high → isFloats (shapeOf op) ≡ false → isCallNumber op ≡ false
+    → every (listedOrHost low high ks) 0 opcodes ≡ true → Missed op (Unit {0}) ks → shapeAs Host op ≡ shapeOf op
+rest low high ks op h from to other apart t m =
+    host-is (shapeOf op) (rw (le-leb low op from, lt-ltb op high to, other, apart, missed op (Unit {0}) ks m .1) at (row (listedOrHost low high ks) op h t))
+
+-- no Call stands before the Stores
+pub no-call-before : (op : ℕ) → op < 31 → isCallNumber op ≡ false
+no-call-before op h = rw (lt-leb 51 op (omega arith))

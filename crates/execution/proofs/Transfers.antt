@@ -11,11 +11,12 @@ use lib.Dec.{eqb, ltb}
 use Rattle.definition.specs.declared.Answer.{Answer}
 use Rattle.definition.specs.declared.Answer.the-variants as answer
 use Rattle.definition.specs.declared.FunctionDef.{FunctionDef}
+use Rattle.definition.specs.declared.Statement.{Statement}
 use Rattle.definition.specs.Checks.{judge}
 use Rattle.definition.specs.File.{noFunction, isBuiltin, builtinOf, builtinKnown}
 use Rattle.definition.specs.Floats.{isZero, roundingOf}
 use Rattle.definition.specs.Cells.{cellOf, Typing, cellAccess, access}
-use Rattle.definition.specs.Statements.{Effect, Does, next, calls, refuses, handsOver, orRefused, effectDoes, floatsEffect, Shape, floats, shapeOf, branchesDo, builtinDoes, callOf, callDoes, executeAs}
+use Rattle.definition.specs.Statements.{Entities, Effect, Does, next, puts, calls, refuses, handsOver, orRefused, provided, effectDoes, putDoes, floatsEffect, Shape, floats, shapeOf, branchesDo, builtinDoes, callOf, callDoes, Tables, executeAs, executeIn}
 use Rattle.functions.specs.declared.FunctionId.the-variants.{Id, NoFunction}
 use Rattle.functions.specs.Answers.{functionId}
 use Rattle.functions.specs.Laws.{function-found, function-missing}
@@ -25,14 +26,16 @@ use Rattle.execution.specs.declared.Executed.{Executed}
 use Rattle.execution.specs.declared.Executed.the-variants.{Next, Calls, Returns, Refused, HandedOver}
 use Rattle.execution.specs.declared.shapes.CellOp.{CellOp}
 use Rattle.execution.specs.declared.shapes.CellOp.the-variants.{Values, Vectors, VectorsToFloat, Strings, Nots, NotV, NotS, Stores, StoreV}
+use Rattle.execution.specs.declared.shapes.FieldOp.{FieldOp}
+use Rattle.execution.specs.declared.shapes.FieldOp.the-variants.{Loads, Address, StoresP}
 use Rattle.execution.specs.declared.shapes.Shape as code
-use Rattle.execution.specs.declared.shapes.Shape.the-variants.{Cells, Call}
+use Rattle.execution.specs.declared.shapes.Shape.the-variants.{Cells, Fields, Call}
 use Rattle.floats.specs.Opcodes.{floatOp}
 use Rattle.floats.specs.Rounding.{isRounding, is-rounding, no-rounding}
 use Rattle.globals.specs.Effects.{After, after, answered, effectOn}
-use Rattle.execution.specs.Shapes.{isFloats, cellShape, shapeAs, effectAs}
+use Rattle.execution.specs.Shapes.{isFloats, cellShape, fieldShape, shapeAs, effectAs, fieldDoes}
 use Rattle.execution.proofs.Opcodes.{floats-are}
-use Rattle.execution.specs.Execution.{onlyFunctions, statement, executeWith, doesOf, calleeDoes, executed, execution, completedAs}
+use Rattle.execution.specs.Execution.{statement, doesOf, calleeDoes, Execution, executed, execution, completedAs}
 
 -- ---- a refusal
 
@@ -121,94 +124,129 @@ module _ (p : ℤ) (a : Answer) where
   unfolding completedAs
   completed-refused n e = rw e
 
-module _ (p : ℤ) (e : Effect) (cells cells′ : List ℕ) (a : Answer) where
-  pub completed-is : after a cells′ ≡ effectOn e cells → executed (completedAs p a) cells′ ≡ execution (effectDoes p e) cells
-  unfolding effectOn completedAs executed execution
-  completed-is h = by (judge (e .conditions)) h
+-- what a statement answers that checks the conditions of an effect and then writes its cells: `wrote` is what it does with these, `whole` its answer
+-- with what was written in its place
+module _ (p : ℤ) (x : Effect) (a : Answer) (cells entities old new : List ℕ) (wrote : List ℕ → Does) (whole : Executed → List ℕ → Execution) where
+  effect-is : after a new ≡ effectOn x old
+      → ((z : List ℕ) → whole (Next (p +ℤ pos 1)) z ≡ execution (wrote z) cells entities)
+      → ((n : ℕ) → whole (Refused n) old ≡ execution (refuses n) cells entities)
+      → whole (completedAs p a) new ≡ execution (provided (x .conditions) (wrote (x .cells))) cells entities
+  unfolding effectOn completedAs
+  effect-is h completes refused = by (judge (x .conditions)) h
     where
-      by : (n : ℕ)
-          → after a cells′ ≡ after (answered n) (cond (eqb n 0) (e .cells) cells)
-          → executed (completedAs p a) cells′ ≡ execution (orRefused n (next (p +ℤ pos 1) (e .cells))) cells
+      by : (n : ℕ) → after a new ≡ after (answered n) (cond (eqb n 0) (x .cells) old)
+          → whole (completedAs p a) new ≡ execution (orRefused n (wrote (x .cells))) cells entities
       by zero h =
-          let answers : a ≡ answer.Accepted = ap (λ (x : After). x .answer) h in
-          let written : cells′ ≡ e .cells = ap (λ (x : After). x .cells) h in
-          rw (answers, written)
+          let answers : a ≡ answer.Accepted = ap (λ (y : After). y .answer) h in
+          let written : new ≡ x .cells = ap (λ (y : After). y .cells) h in
+          rw (answers, written) (completes (x .cells))
       by (suc n) h =
-          let answers : a ≡ answer.Refused (suc n) = ap (λ (x : After). x .answer) h in
-          let kept : cells′ ≡ cells = ap (λ (x : After). x .cells) h ∙ rw (ne-eqb (suc n) 0 (λ z. omega arith)) in
-          rw (answers, kept)
+          let answers : a ≡ answer.Refused (suc n) = ap (λ (y : After). y .answer) h in
+          let kept : new ≡ old = ap (λ (y : After). y .cells) h ∙ rw (ne-eqb (suc n) 0 (λ z. omega arith)) in
+          rw (answers, kept) (refused (suc n))
 
--- a statement that writes no cells leaves them
-pub kept : (r : Executed) (cells : List ℕ) → executed r cells ≡ execution (doesOf r cells) cells
-unfolding executed execution
-kept (Next q) cells = refl
-kept (Calls f) cells = refl
-kept (Returns c) cells = refl
-kept (Refused n) cells = refl
-kept (HandedOver h) cells = refl
+module _ (p : ℤ) (x : Effect) (a : Answer) (cells entities written : List ℕ) where
+  pub completed-is : after a written ≡ effectOn x cells → executed (completedAs p a) written entities ≡ execution (effectDoes p x) cells entities
+  unfolding execution
+  completed-is h = effect-is p x a cells entities cells written (next (p +ℤ pos 1)) (λ r z. executed r z entities) h (λ z. refl) (λ n. refl)
+
+  pub put-is : after a written ≡ effectOn x entities → executed (completedAs p a) cells written ≡ execution (putDoes p x) cells entities
+  unfolding execution
+  put-is h = effect-is p x a cells entities entities written (puts (p +ℤ pos 1)) (λ r z. executed r cells z) h (λ z. refl) (λ n. refl)
+
+-- a statement that writes nothing leaves cells and entity cells
+pub kept : (r : Executed) (cells entities : List ℕ) → executed r cells entities ≡ execution (doesOf r cells) cells entities
+unfolding execution
+kept (Next q) cells entities = refl
+kept (Calls f) cells entities = refl
+kept (Returns c) cells entities = refl
+kept (Refused n) cells entities = refl
+kept (HandedOver h) cells entities = refl
 
 -- ---- execution by shape
 
-module _ (fs : List FunctionDef) (g : Typing) (p : ℤ) (op x y z : ℕ) (cells : List ℕ) (shape s : code.Shape) (told : shape ≡ s) (is : shapeAs shape op ≡ shapeOf op) where
-  abbrev does : code.Shape → Does
-  does s = executeAs (shapeAs s op) (onlyFunctions fs) g p (statement op x y z) (cellOf x) (cellOf y) (cellOf z) cells
+module _ (k : Tables) (p : ℤ) (op x y z : ℕ) (e : Entities) (cells : List ℕ) where
+  abbrev st : Statement
+  st = statement op x y z
 
-  pub does-is : does s ≡ executeWith fs g p (statement op x y z) cells
-  unfolding executeWith
-  does-is =
-      rw (← told) (ap (λ (t : Shape). executeAs t (onlyFunctions fs) g p (statement op x y z) (cellOf x) (cellOf y) (cellOf z) cells) is)
+  -- what the opcode's statement does, were it of that shape
+  abbrev does : Shape → Does
+  does s = executeAs s k p st (cellOf x) (cellOf y) (cellOf z) e cells
 
-  pub transferred : (r : Executed) → doesOf r cells ≡ does s → executed r cells ≡ execution (executeWith fs g p (statement op x y z) cells) cells
-  unfolding executed execution
-  transferred r e = rw (← does-is, ← e) (kept r cells)
+  abbrev Executes : Executed → List ℕ → List ℕ → Type 0
+  Executes r cells′ entities′ = executed r cells′ entities′ ≡ execution (executeIn k p st e cells) cells (e .cells)
 
--- a Call, of which c is what it calls
-module _ (fs : List FunctionDef) (g : Typing) (p : ℤ) (op x y z : ℕ) (cells : List ℕ) (shape : code.Shape) (told : shape ≡ Call) (is : shapeAs shape op ≡ shapeOf op) (a : ℕ) (here : a ≡ cellOf x) (c : Callee) (found : calleeDoes c g p cells ≡ callDoes fs g p a cells) where
-  pub call-is : calleeDoes c g p cells ≡ executeWith fs g p (statement op x y z) cells
-  call-is = found ∙ (rw here) ∙ does-is fs g p op x y z cells shape Call told is
+  module _ (shape s : code.Shape) (told : shape ≡ s) (is : shapeAs shape op ≡ shapeOf op) where
+    pub does-is : does (shapeAs s op) ≡ executeIn k p st e cells
+    does-is = rw (← told) (ap does is)
 
-  pub called : (r : Executed) (cells′ : List ℕ) → executed r cells′ ≡ execution (calleeDoes c g p cells) cells
-      → executed r cells′ ≡ execution (executeWith fs g p (statement op x y z) cells) cells
-  called r cells′ e = e ∙ ap (λ (d : Does). execution d cells) call-is
+    pub transferred : (r : Executed) → doesOf r cells ≡ does (shapeAs s op) → Executes r cells (e .cells)
+    transferred r q = kept r cells (e .cells) ∙ ap (λ (d : Does). execution d cells (e .cells)) (q ∙ does-is)
 
-pub called-known : (c known : Callee) (g : Typing) (p : ℤ) (cells cells′ : List ℕ) (r : Executed) → c ≡ known
-    → executed r cells′ ≡ execution (calleeDoes known g p cells) cells
-    → executed r cells′ ≡ execution (calleeDoes c g p cells) cells
-called-known c known g p cells cells′ r e h = rw e h
+  -- a Call, of which c is what it calls
+  module _ (shape : code.Shape) (told : shape ≡ Call) (is : shapeAs shape op ≡ shapeOf op) (a : ℕ) (here : a ≡ cellOf x) (c : Callee) (found : calleeDoes c (k .globals) p cells ≡ callDoes (k .functions) (k .globals) p a cells) where
+    pub call-is : calleeDoes c (k .globals) p cells ≡ executeIn k p st e cells
+    call-is = found ∙ (rw here) ∙ does-is shape Call told is
 
--- the cells' shapes are effects
-pub effect-does : (what : CellOp) (fs : List FunctionDef) (g : Typing) (p : ℤ) (op x y z : ℕ) (cells : List ℕ)
-    → executeAs (cellShape what op) (onlyFunctions fs) g p (statement op x y z) (cellOf x) (cellOf y) (cellOf z) cells
-    ≡ effectDoes p (effectAs what op g (cellOf x) (cellOf y) (cellOf z) cells)
-unfolding effectAs
-effect-does (Values t) fs g p op x y z cells = refl
-effect-does (Vectors ta tb) fs g p op x y z cells = refl
-effect-does VectorsToFloat fs g p op x y z cells = refl
-effect-does Strings fs g p op x y z cells = refl
-effect-does (Nots t) fs g p op x y z cells = refl
-effect-does NotV fs g p op x y z cells = refl
-effect-does NotS fs g p op x y z cells = refl
-effect-does (Stores t) fs g p op x y z cells = refl
-effect-does StoreV fs g p op x y z cells = refl
+    pub called : (r : Executed) (cells′ : List ℕ) → executed r cells′ (e .cells) ≡ execution (calleeDoes c (k .globals) p cells) cells (e .cells)
+        → Executes r cells′ (e .cells)
+    called r cells′ q = q ∙ ap (λ (d : Does). execution d cells (e .cells)) call-is
 
-module _ (fs : List FunctionDef) (g : Typing) (p : ℤ) (op x y z : ℕ) (cells : List ℕ) (shape : code.Shape) (what : CellOp) (told : shape ≡ Cells what) (is : shapeAs shape op ≡ shapeOf op) where
-  pub written : (i j k : ℕ) → i ≡ cellOf x → j ≡ cellOf y → k ≡ cellOf z → (a : Answer) (cells′ : List ℕ) (r : Executed)
-      → after a cells′ ≡ effectOn (effectAs what op g i j k cells) cells
-      → r ≡ completedAs p a
-      → executed r cells′ ≡ execution (executeWith fs g p (statement op x y z) cells) cells
-  written i j k ei ej ek a cells′ r e h =
-      let e′ = rw (ei, ej, ek) at e in
-      rw (h, ← does-is fs g p op x y z cells shape (Cells what) told is, effect-does what fs g p op x y z cells) (completed-is p _ cells cells′ a e′)
+  -- the cells' shapes are effects
+  effect-does : (what : CellOp) → does (cellShape what op) ≡ effectDoes p (effectAs what op (k .globals) (cellOf x) (cellOf y) (cellOf z) cells)
+  unfolding effectAs
+  effect-does (Values t) = refl
+  effect-does (Vectors ta tb) = refl
+  effect-does VectorsToFloat = refl
+  effect-does Strings = refl
+  effect-does (Nots t) = refl
+  effect-does NotV = refl
+  effect-does NotS = refl
+  effect-does (Stores t) = refl
+  effect-does StoreV = refl
 
--- ---- two floats to a float
+  module _ (shape : code.Shape) (what : CellOp) (told : shape ≡ Cells what) (is : shapeAs shape op ≡ shapeOf op) where
+    pub written : (i j l : ℕ) → i ≡ cellOf x → j ≡ cellOf y → l ≡ cellOf z → (a : Answer) (cells′ : List ℕ) (r : Executed)
+        → after a cells′ ≡ effectOn (effectAs what op (k .globals) i j l cells) cells
+        → r ≡ completedAs p a
+        → Executes r cells′ (e .cells)
+    written i j l ei ej el a cells′ r q h =
+        let q′ = rw (ei, ej, el) at q in
+        rw h (completed-is p _ a cells (e .cells) cells′ q′ ∙ ap (λ (d : Does). execution d cells (e .cells)) (sym (effect-does what) ∙ does-is shape (Cells what) told is))
 
-module _ (fs : List FunctionDef) (g : Typing) (p : ℤ) (op x y z : ℕ) (cells : List ℕ) (is : isFloats (shapeOf op) ≡ true) where
-  pub floats-does : effectDoes p (floatsEffect (floatOp op) g (cellOf x) (cellOf y) (cellOf z) cells) ≡ executeWith fs g p (statement op x y z) cells
-  unfolding executeWith
-  floats-does = ap (λ (t : Shape). executeAs t (onlyFunctions fs) g p (statement op x y z) (cellOf x) (cellOf y) (cellOf z) cells) (floats-are op is)
+  -- the statements of entity fields
+  field-does : (what : FieldOp) → does (fieldShape what) ≡ fieldDoes what (k .globals) (k .fields) p e (cellOf x) (cellOf y) (cellOf z) cells
+  field-does (Loads t) = refl
+  field-does Address = refl
+  field-does (StoresP t) = refl
 
-  pub floats-written : (a : Answer) (cells′ : List ℕ) (r : Executed)
-      → after a cells′ ≡ effectOn (floatsEffect (floatOp op) g (cellOf x) (cellOf y) (cellOf z) cells) cells
-      → r ≡ completedAs p a
-      → executed r cells′ ≡ execution (executeWith fs g p (statement op x y z) cells) cells
-  floats-written a cells′ r e h = rw (h, ← floats-does) (completed-is p _ cells cells′ a e)
+  module _ (shape : code.Shape) (what : FieldOp) (told : shape ≡ Fields what) (is : shapeAs shape op ≡ shapeOf op) where
+    pub fielded : (i j l : ℕ) → i ≡ cellOf x → j ≡ cellOf y → l ≡ cellOf z → (r : Executed) (cells′ entities′ : List ℕ)
+        → executed r cells′ entities′ ≡ execution (fieldDoes what (k .globals) (k .fields) p e i j l cells) cells (e .cells)
+        → Executes r cells′ entities′
+    fielded i j l ei ej el r cells′ entities′ q =
+        let q′ = rw (ei, ej, el) at q in
+        q′ ∙ ap (λ (d : Does). execution d cells (e .cells)) (sym (field-does what) ∙ does-is shape (Fields what) told is)
+
+  -- ---- two floats to a float
+
+  module _ (is : isFloats (shapeOf op) ≡ true) where
+    floats-does : effectDoes p (floatsEffect (floatOp op) (k .globals) (cellOf x) (cellOf y) (cellOf z) cells) ≡ executeIn k p st e cells
+    floats-does = ap does (floats-are op is)
+
+    pub floats-written : (a : Answer) (cells′ : List ℕ) (r : Executed)
+        → after a cells′ ≡ effectOn (floatsEffect (floatOp op) (k .globals) (cellOf x) (cellOf y) (cellOf z) cells) cells
+        → r ≡ completedAs p a
+        → Executes r cells′ (e .cells)
+    floats-written a cells′ r q h = rw h (completed-is p _ a cells (e .cells) cells′ q ∙ ap (λ (d : Does). execution d cells (e .cells)) floats-does)
+
+pub called-known : (c known : Callee) (g : Typing) (p : ℤ) (cells cells′ entities : List ℕ) (r : Executed) → c ≡ known
+    → executed r cells′ entities ≡ execution (calleeDoes known g p cells) cells entities
+    → executed r cells′ entities ≡ execution (calleeDoes c g p cells) cells entities
+called-known c known g p cells cells′ entities r e h = rw e h
+
+-- a statement of entity fields that is known
+pub field-known : (what known : FieldOp) (g h : Typing) (p : ℤ) (e : Entities) (a b c : ℕ) (cells cells′ entities′ : List ℕ) (r : Executed) → what ≡ known
+    → executed r cells′ entities′ ≡ execution (fieldDoes known g h p e a b c cells) cells (e .cells)
+    → executed r cells′ entities′ ≡ execution (fieldDoes what g h p e a b c cells) cells (e .cells)
+field-known what known g h p e a b c cells cells′ entities′ r q k = rw q k

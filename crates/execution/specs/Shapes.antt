@@ -1,54 +1,51 @@
 -- THE SHAPES OF OPCODES: what the code's shape of an opcode is in the definition.
 use Prim.Native.Nat.{ℕ}
 use mathlib.Core.List.{List}
+use lib.IntN.{ℤ}
 use mathlib.Core.Bool.{Bool, true, false}
 use Rattle.definition.specs.Cells.{Typing}
-use Rattle.definition.specs.Statements.{Shape, floats, values, vectors, vectorsToFloat, strings, negates, negatesV, negatesS, stores, storesV, branches, jumps, call, return, host}
+use Rattle.definition.specs.Statements.{Shape, floats, values, vectors, vectorsToFloat, strings, negates, negatesV, negatesS, stores, storesV, loads, addresses, storesP, branches, jumps, call, return, host}
+use Rattle.definition.specs.Statements.{Entities, Does, effectDoes, loadsEffect, addressesEffect, storesPEffect, putDoes}
 use Rattle.definition.specs.Statements.{Effect, valuesEffect, vectorsEffect, vectorsToFloatEffect, stringsEffect, negatesEffect, negatesVEffect, negatesSEffect, storesEffect, storesVEffect}
 use Rattle.floats.specs.Opcodes.{byShape, valueOp, componentOp, vectorsToFloatOp, notOp}
 use Rattle.execution.specs.declared.shapes.CellOp.{CellOp}
 use Rattle.execution.specs.declared.shapes.CellOp.the-variants.{Values, Vectors, VectorsToFloat, Strings, Nots, NotV, NotS, Stores, StoreV}
+use Rattle.execution.specs.declared.shapes.FieldOp.{FieldOp}
+use Rattle.execution.specs.declared.shapes.FieldOp.the-variants.{Loads, Address, StoresP}
 use Rattle.execution.specs.declared.shapes.Shape as code
-use Rattle.execution.specs.declared.shapes.Shape.the-variants.{Cells, Branch, Goto, Call, Return, Host}
+use Rattle.execution.specs.declared.shapes.Shape.the-variants.{Cells, Fields, Branch, Goto, Call, Return, Host}
 
 abbrev pub isFloats : Shape → Bool
 isFloats = byShape (λ g. true) (λ g. false) (λ g. false) (λ g. false) (λ g. false) false
 
+-- one choice for a Call, one for what goes to the host, and one for the rest
+abbrev transfer : Bool → Bool → Bool → Shape → Bool
+transfer c h z (floats f) = z
+transfer c h z (values t f) = z
+transfer c h z (vectors ta tb f) = z
+transfer c h z (vectorsToFloat f) = z
+transfer c h z (strings f) = z
+transfer c h z (negates t f) = z
+transfer c h z negatesV = z
+transfer c h z negatesS = z
+transfer c h z (stores t) = z
+transfer c h z storesV = z
+transfer c h z (loads t) = z
+transfer c h z addresses = z
+transfer c h z (storesP t) = z
+transfer c h z (branches when) = z
+transfer c h z jumps = z
+transfer c h z call = c
+transfer c h z return = z
+transfer c h z host = h
+
 -- Call0 to Call8
 abbrev pub isCall : Shape → Bool
-isCall (floats f) = false
-isCall (values t f) = false
-isCall (vectors ta tb f) = false
-isCall (vectorsToFloat f) = false
-isCall (strings f) = false
-isCall (negates t f) = false
-isCall negatesV = false
-isCall negatesS = false
-isCall (stores t) = false
-isCall storesV = false
-isCall (branches when) = false
-isCall jumps = false
-isCall call = true
-isCall return = false
-isCall host = false
+isCall = transfer true false false
 
 -- "go to the host"
 abbrev pub isHost : Shape → Bool
-isHost (floats f) = false
-isHost (values t f) = false
-isHost (vectors ta tb f) = false
-isHost (vectorsToFloat f) = false
-isHost (strings f) = false
-isHost (negates t f) = false
-isHost negatesV = false
-isHost negatesS = false
-isHost (stores t) = false
-isHost storesV = false
-isHost (branches when) = false
-isHost jumps = false
-isHost call = false
-isHost return = false
-isHost host = true
+isHost = transfer false true false
 
 abbrev pub cellShape : CellOp → ℕ → Shape
 cellShape (Values t) op = values t (valueOp op)
@@ -61,8 +58,14 @@ cellShape NotS op = negatesS
 cellShape (Stores t) op = stores t
 cellShape StoreV op = storesV
 
+abbrev pub fieldShape : FieldOp → Shape
+fieldShape (Loads t) = loads t
+fieldShape Address = addresses
+fieldShape (StoresP t) = storesP t
+
 abbrev pub shapeAs : code.Shape → ℕ → Shape
 shapeAs (Cells what) op = cellShape what op
+shapeAs (Fields what) op = fieldShape what
 shapeAs (Branch when) op = branches when
 shapeAs Goto op = jumps
 shapeAs Call op = call
@@ -80,3 +83,9 @@ effectAs NotV op = negatesVEffect
 effectAs NotS op = negatesSEffect
 effectAs (Stores t) op = storesEffect t
 effectAs StoreV op = storesVEffect
+
+-- what a statement of entity fields does at the position p, whose operands name the cells a, b and c
+abbrev pub fieldDoes : FieldOp → Typing → Typing → ℤ → Entities → ℕ → ℕ → ℕ → List ℕ → Does
+fieldDoes (Loads t) g h p e a b c cells = effectDoes p (loadsEffect t g h e a b c cells)
+fieldDoes Address g h p e a b c cells = effectDoes p (addressesEffect g h e a b c cells)
+fieldDoes (StoresP t) g h p e a b c cells = putDoes p (storesPEffect t g h e a b c cells)

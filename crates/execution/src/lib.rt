@@ -1,5 +1,6 @@
 // Execution of a fetched statement, over typed cells and the statements that write them.
 use crate::shapes::CellOp;
+use crate::shapes::FieldOp;
 use crate::shapes::Shape;
 use definition::Answer;
 use definition::DEFINITION_SIZE;
@@ -8,6 +9,8 @@ use definition::FileRecord;
 use definition::Handover;
 use definition::STATEMENT_SIZE;
 use definition::Statement;
+use entities::EntityTable;
+use entities::Operands;
 use floats::rounding;
 use functions::fetch;
 use functions::fetch::Fetched;
@@ -20,13 +23,14 @@ ghost use lib.ListN.{length};
 ghost use Rattle.definition.specs.File.{contentsAt};
 ghost use Rattle.definition.specs.Floats.{roundingOf};
 ghost use Rattle.definition.specs.Cells.{signed, cellOf, Typing};
-ghost use Rattle.definition.specs.Statements.{branchesDo, builtinDoes, callOf, callDoes, execute, doesAt};
+ghost use Rattle.definition.specs.Statements.{Entities, branchesDo, builtinDoes, callOf, callDoes, execute, doesAt};
 ghost use Rattle.definition.specs.Operations.{isHandedOver};
 ghost use Rattle.functions.specs.Parts.{functionsIn};
-ghost use Rattle.typed.specs.Typing.{typing};
+ghost use Rattle.typed.specs.Typing.{typing, fieldTyping};
+ghost use Rattle.entities.specs.Lent.{Lent, entitiesIn};
 ghost use Rattle.globals.specs.Effects.{after, effectOn};
-ghost use Rattle.execution.specs.Shapes.{effectAs};
-ghost use Rattle.execution.specs.Execution.{completedAs, doesOf, calleeDoes, executed, execution, Usable};
+ghost use Rattle.execution.specs.Shapes.{effectAs, fieldDoes};
+ghost use Rattle.execution.specs.Execution.{completedAs, doesOf, calleeDoes, executed, execution, Usable, UsableFields, entitiesAt};
 
 pub mod shapes;
 
@@ -83,6 +87,38 @@ fn completed(k: usize, answer: Answer) -> Executed
     match answer {
         Answer::Accepted => return Executed::Next(fetch::after(k)),
         Answer::Refused(n) => return Executed::Refused(n),
+    }
+}
+
+// A statement of entity fields (document 02, R-3).
+fn field(
+    defs: &[u8],
+    count: usize,
+    fields: &[u8],
+    table: EntityTable,
+    cells: &mut [u32],
+    entities: &mut [u32],
+    k: usize,
+    what: FieldOp,
+    at: Operands,
+) -> Executed
+    requires { ⌜ (count ≤ length (now cells)) × (k < 2147483648) ⌝ }
+    requires { ⌜ Lent table (length (now entities)) ⌝ }
+    ensures { λ r. ⌜ executed r (now (cells .exit)) (now (entities .exit)) ≡ execution (fieldDoes what (typing (now (defs .entry)) count) (fieldTyping (now (fields .entry)) (table .size)) (pos k) (entitiesIn table (now (entities .entry))) (at .a) (at .b) (at .c) (now (cells .entry))) (now (cells .entry)) (now (entities .entry)) ⌝ }
+{
+    match what {
+        FieldOp::Loads(t) => {
+            let read = entities::op_loads(defs, count, fields, table, cells, entities, t, at);
+            return completed(k, read);
+        }
+        FieldOp::Address => {
+            let made = entities::op_address(defs, count, table, cells, at);
+            return completed(k, made);
+        }
+        FieldOp::StoresP(t) => {
+            let put = entities::op_stores_p(defs, count, fields, table, cells, entities, t, at);
+            return completed(k, put);
+        }
     }
 }
 
@@ -164,7 +200,7 @@ fn callee_at(defs: &[u8], functions: &[u8], count: usize, cells: &[u32], a: usiz
 // A Call, by what it calls.
 fn call(defs: &[u8], count: usize, cells: &mut [u32], k: usize, callee: Callee) -> Executed
     requires { ⌜ (count ≤ length (now cells)) × (k < 2147483648) ⌝ }
-    ensures { λ r. ⌜ executed r (now (cells .exit)) ≡ execution (calleeDoes callee (typing (now (defs .entry)) count) (pos k) (now (cells .entry))) (now (cells .entry)) ⌝ }
+    ensures { λ r. ⌜ ((entities : List ℕ) → executed r (now (cells .exit)) entities ≡ execution (calleeDoes callee (typing (now (defs .entry)) count) (pos k) (now (cells .entry))) (now (cells .entry)) entities) ⌝ }
 {
     match callee {
         Callee::Function(f) => return Executed::Calls(f),
@@ -177,17 +213,20 @@ fn call(defs: &[u8], count: usize, cells: &mut [u32], k: usize, callee: Callee) 
     }
 }
 
-// The statement k.
+// The statement k, beside so many entities.
 pub fn execute(
     file: &[u8],
     recorded: FileRecord,
+    number: usize,
     cells: &mut [u32],
+    entities: &mut [u32],
     k: usize,
     s: Statement,
 ) -> Executed
     requires { ⌜ Usable (length (now file)) recorded (length (now cells)) ⌝ }
+    requires { ⌜ UsableFields recorded number (length (now entities)) ⌝ }
     requires { ⌜ (k < 2147483648) × (s .opcode < 66) ⌝ }
-    ensures { λ r. ⌜ executed r (now (cells .exit)) ≡ execution (execute (contentsAt recorded (now (file .entry))) (pos k) s (now (cells .entry))) (now (cells .entry)) ⌝ }
+    ensures { λ r. ⌜ executed r (now (cells .exit)) (now (entities .exit)) ≡ execution (execute (contentsAt recorded (now (file .entry))) (pos k) s (entitiesAt number (now (entities .entry))) (now (cells .entry))) (now (cells .entry)) (now (entities .entry)) ⌝ }
 {
     let defs = parts::part(file, DEFINITION_SIZE, recorded.globaldefs);
     let count = recorded.globals.count;
@@ -204,6 +243,19 @@ pub fn execute(
             let answer = write(defs, count, cells, what, s.opcode, a, b, c);
             return completed(k, answer);
         }
+        Shape::Fields(what) => {
+            let fields = parts::part(file, DEFINITION_SIZE, recorded.fielddefs);
+            let at = Operands {
+                a,
+                b: fetch::cell_of(s.arg2),
+                c: fetch::cell_of(s.arg3),
+            };
+            let table = EntityTable {
+                number,
+                size: recorded.entityfields,
+            };
+            return field(defs, count, fields, table, cells, entities, k, what, at);
+        }
         Shape::Branch(when) => return branch(defs, count, cells, k, when, a, s.arg2),
         Shape::Goto => return Executed::Next(fetch::jump(k, s.arg1)),
         Shape::Call => {
@@ -216,15 +268,28 @@ pub fn execute(
     }
 }
 
-fn is_hosts(callee: Callee) -> bool
-    ensures { λ r. ⌜ ((g : Typing) (p : ℤ) (cells : List ℕ) → r ≡ isHandedOver (calleeDoes callee g p cells)) ⌝ }
+// Whether a Call of the function with a number is handed over. (What `callee_of` finds is more than carrying on needs: with one caller it is part of the
+// run's loop.)
+fn calls_host(functions: &[u8], value: u32) -> bool
+    ensures { λ r. ⌜ ((g : Typing) (p : ℤ) (cells : List ℕ) → r ≡ isHandedOver (callOf (functionsIn (now (functions .entry))) g p value cells)) ⌝ }
 {
-    match callee {
-        Callee::Function(_f) => return false,
-        Callee::Rounding(_n) => return false,
-        Callee::Host(_n) => return true,
-        Callee::Refused(_r) => return false,
+    if value == 0 {
+        return false;
     }
+    let functions::FunctionId::Id(f) = functions::id_from_i32(
+        value,
+        functions.len() / FUNCTION_SIZE,
+    ) else {
+        return false;
+    };
+    let def = functions::get_def(functions, f);
+    if !functions::is_builtin(def) {
+        return false;
+    }
+    if !functions::builtin_known(def) {
+        return false;
+    }
+    !rounding::is_rounding(functions::builtin_of(def))
 }
 
 // Whether a statement, with the cells as they are, would be handed over: only a Call and what is the host's can be. (It doesn't ask for
@@ -232,26 +297,38 @@ fn is_hosts(callee: Callee) -> bool
 pub fn hands_over(file: &[u8], recorded: FileRecord, cells: &[u32], s: Statement) -> bool
     requires { ⌜ Usable (length (now file)) recorded (length (now cells)) ⌝ }
     requires { ⌜ s .opcode < 66 ⌝ }
-    ensures { λ r. ⌜ ((p : ℤ) → r ≡ isHandedOver (execute (contentsAt recorded (now (file .entry))) p s (now (cells .entry)))) ⌝ }
+    ensures { λ r. ⌜ ((p : ℤ) (e : Entities) → r ≡ isHandedOver (execute (contentsAt recorded (now (file .entry))) p s e (now (cells .entry)))) ⌝ }
 {
     if !shapes::is_call(s.opcode) {
         return shapes::is_host(s.opcode);
     }
     let defs = parts::part(file, DEFINITION_SIZE, recorded.globaldefs);
-    let functions = parts::part(file, FUNCTION_SIZE, recorded.functions);
-    let count = recorded.globals.count;
-    let callee = callee_at(defs, functions, count, cells, fetch::cell_of(s.arg1));
-    is_hosts(callee)
+    let a = fetch::cell_of(s.arg1);
+    if typed::check_cell(defs, recorded.globals.count, typed::FUNCTION, a) != 0 {
+        return false;
+    }
+    calls_host(
+        parts::part(file, FUNCTION_SIZE, recorded.functions),
+        cells[a],
+    )
 }
 
-// What the statement at a position does; one that writes cells has done so.
-pub fn does(file: &[u8], recorded: FileRecord, cells: &mut [u32], pc: i64) -> Executed
+// What the statement at a position does; one that writes cells or entity cells has done so.
+pub fn does(
+    file: &[u8],
+    recorded: FileRecord,
+    number: usize,
+    cells: &mut [u32],
+    entities: &mut [u32],
+    pc: i64,
+) -> Executed
     requires { ⌜ Usable (length (now file)) recorded (length (now cells)) ⌝ }
-    ensures { λ r. ⌜ executed r (now (cells .exit)) ≡ execution (doesAt (contentsAt recorded (now (file .entry))) pc (now (cells .entry))) (now (cells .entry)) ⌝ }
+    requires { ⌜ UsableFields recorded number (length (now entities)) ⌝ }
+    ensures { λ r. ⌜ executed r (now (cells .exit)) (now (entities .exit)) ≡ execution (doesAt (contentsAt recorded (now (file .entry))) pc (entitiesAt number (now (entities .entry))) (now (cells .entry))) (now (cells .entry)) (now (entities .entry)) ⌝ }
 {
     let fetched = fetch::fetch(parts::part(file, STATEMENT_SIZE, recorded.statements), pc);
     match fetched {
         Fetched::Refused(n) => return Executed::Refused(n),
-        Fetched::At(k, s) => return execute(file, recorded, cells, k, s),
+        Fetched::At(k, s) => return execute(file, recorded, number, cells, entities, k, s),
     }
 }

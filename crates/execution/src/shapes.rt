@@ -25,9 +25,17 @@ pub enum CellOp {
     StoreV,
 }
 
+// The statements of entity fields (document 02, R-3), with the type of what is moved.
+pub enum FieldOp {
+    Loads(u16),
+    Address,
+    StoresP(u16),
+}
+
 // IfNot is the branch that jumps when the float is zero.
 pub enum Shape {
     Cells(CellOp),
+    Fields(FieldOp),
     Branch(bool),
     Goto,
     Call,
@@ -56,24 +64,18 @@ pub fn is_call(op: u16) -> bool
     (ops::CALL_0 <= op) & (op <= ops::CALL_8)
 }
 
-// Bit k is that of opcode k: whether it goes to the host.
-const HOST: u64 = 0x1000_07e0_7f00_0000;
-
 pub fn is_host(op: u16) -> bool
     requires { ⌜ op < 66 ⌝ }
     ensures { λ r. ⌜ r ≡ isHost (shapeOf op) ⌝ }
 {
-    (HOST >> (op % 64)) % 2 == 1
+    op == ops::STATE
 }
 
-// The shape of any other opcode. One number to an arm and a `return` in each: the prover reads consecutive numbers in one arm as ranges.
-pub fn shape_of(op: u16) -> Shape
-    requires { ⌜ (op < 66) × (isFloats (shapeOf op) ≡ false) ⌝ }
+// The shape of an opcode before the Stores. One number to an arm and a `return` in each: the prover reads consecutive numbers in one arm as ranges.
+fn shape_before_stores(op: u16) -> Shape
+    requires { ⌜ (op < 31) × (isFloats (shapeOf op) ≡ false) ⌝ }
     ensures { λ r. ⌜ shapeAs r op ≡ shapeOf op ⌝ }
 {
-    if (ops::CALL_0 <= op) & (op <= ops::CALL_8) {
-        return Shape::Call;
-    }
     match op {
         ops::DONE => return Shape::Return,
         ops::MUL_V => return Shape::Cells(CellOp::VectorsToFloat),
@@ -89,12 +91,41 @@ pub fn shape_of(op: u16) -> Shape
         ops::NE_S => return Shape::Cells(CellOp::Strings),
         ops::NE_ENT => return Shape::Cells(CellOp::Values(ENTITY)),
         ops::NE_FNC => return Shape::Cells(CellOp::Values(FUNCTION)),
+        ops::LOAD_F => return Shape::Fields(FieldOp::Loads(FLOAT)),
+        ops::LOAD_V => return Shape::Fields(FieldOp::Loads(VECTOR)),
+        ops::LOAD_S => return Shape::Fields(FieldOp::Loads(STRING)),
+        ops::LOAD_ENT => return Shape::Fields(FieldOp::Loads(ENTITY)),
+        ops::LOAD_FLD => return Shape::Fields(FieldOp::Loads(FIELD)),
+        ops::LOAD_FNC => return Shape::Fields(FieldOp::Loads(FUNCTION)),
+        ops::ADDRESS => return Shape::Fields(FieldOp::Address),
+        _ => return Shape::Host,
+    }
+}
+
+// The shape of any opcode that doesn't make a float of two floats.
+pub fn shape_of(op: u16) -> Shape
+    requires { ⌜ (op < 66) × (isFloats (shapeOf op) ≡ false) ⌝ }
+    ensures { λ r. ⌜ shapeAs r op ≡ shapeOf op ⌝ }
+{
+    if (ops::CALL_0 <= op) & (op <= ops::CALL_8) {
+        return Shape::Call;
+    }
+    if op < ops::STORE_F {
+        return shape_before_stores(op);
+    }
+    match op {
         ops::STORE_F => return Shape::Cells(CellOp::Stores(FLOAT)),
         ops::STORE_V => return Shape::Cells(CellOp::StoreV),
         ops::STORE_S => return Shape::Cells(CellOp::Stores(STRING)),
         ops::STORE_ENT => return Shape::Cells(CellOp::Stores(ENTITY)),
         ops::STORE_FLD => return Shape::Cells(CellOp::Stores(FIELD)),
         ops::STORE_FNC => return Shape::Cells(CellOp::Stores(FUNCTION)),
+        ops::STORE_PF => return Shape::Fields(FieldOp::StoresP(FLOAT)),
+        ops::STORE_PV => return Shape::Fields(FieldOp::StoresP(VECTOR)),
+        ops::STORE_PS => return Shape::Fields(FieldOp::StoresP(STRING)),
+        ops::STORE_PENT => return Shape::Fields(FieldOp::StoresP(ENTITY)),
+        ops::STORE_PFLD => return Shape::Fields(FieldOp::StoresP(FIELD)),
+        ops::STORE_PFNC => return Shape::Fields(FieldOp::StoresP(FUNCTION)),
         ops::RETURN => return Shape::Return,
         ops::NOT_F => return Shape::Cells(CellOp::Nots(FLOAT)),
         ops::NOT_V => return Shape::Cells(CellOp::NotV),

@@ -15,6 +15,7 @@ fn show_case(
     file: &mut [u8],
     cells: &mut [u32],
     store: &mut [u32],
+    entities: &mut [u32],
     line: &mut [u8],
 )
     requires { ⌜ at ≤ length (now text) ⌝ }
@@ -22,27 +23,43 @@ fn show_case(
 {
     let size = cases::next_word(text, at);
     let n = cases::file(text, size, file);
-    let end = shown::show(&file[..n], cells, store, line);
+    let end = shown::show(&file[..n], cells, store, entities, line);
     io::write_all(STDOUT_FILENO, &text[at..size]);
     io::write_all(STDOUT_FILENO, &line[..end]);
 }
 
-fn show_cases(text: &[u8], file: &mut [u8], cells: &mut [u32], store: &mut [u32], line: &mut [u8])
+fn show_cases(
+    text: &[u8],
+    file: &mut [u8],
+    cells: &mut [u32],
+    store: &mut [u32],
+    entities: &mut [u32],
+    line: &mut [u8],
+)
     requires { ⌜ 160 ≤ length (now line) ⌝ }
 {
     let mut at = 0;
     while at < text.len() {
-        show_case(text, at, file, cells, store, line);
+        show_case(text, at, file, cells, store, entities, line);
         at = cases::next_line(text, at);
     }
 }
 
 fn main() {
-    let mut text = [0u8; 262144];
+    let mut text = [0u8; 524288];
     let mut file = [0u8; LONGEST_INPUT + 1];
     let mut cells = [0u32; MOST_CELLS];
     let mut store = [0u32; SAVED_STORE];
+    // Show has no entities, so that none of these is looked at.
+    let mut entities = [0u32; 1];
     let mut line = [0u8; LINE_ROOM];
     let n = io::read_full(STDIN_FILENO, &mut text);
-    show_cases(&text[..n], &mut file, &mut cells, &mut store, &mut line);
+    show_cases(
+        &text[..n],
+        &mut file,
+        &mut cells,
+        &mut store,
+        &mut entities,
+        &mut line,
+    );
 }

@@ -2,7 +2,7 @@
 use Prim.Native.Nat.{ℕ}
 use mathlib.Core.Path.{_≡_, ap}
 use mathlib.Core.Option.{Option, none, some, Option·getD}
-use Rattle.definition.specs.Statements.{Shape, floats, values, vectors, vectorsToFloat, strings, negates, negatesV, negatesS, stores, storesV, branches, jumps, call, return, host, shapeOf}
+use Rattle.definition.specs.Statements.{Shape, floats, values, vectors, vectorsToFloat, strings, negates, negatesV, negatesS, stores, storesV, loads, addresses, storesP, branches, jumps, call, return, host, shapeOf}
 
 abbrev pub Unary : Type 0
 Unary = ℕ → ℕ
@@ -26,6 +26,9 @@ byShape f v c d n z negatesV = z
 byShape f v c d n z negatesS = z
 byShape f v c d n z (stores t) = z
 byShape f v c d n z storesV = z
+byShape f v c d n z (loads t) = z
+byShape f v c d n z addresses = z
+byShape f v c d n z (storesP t) = z
 byShape f v c d n z (branches w) = z
 byShape f v c d n z jumps = z
 byShape f v c d n z call = z

@@ -15,3 +15,7 @@ statement-known d e = rw e
 -- a lump's size in bytes can't wrap
 pub short-product : (size count : ℕ) → size ≤ 36 → count < 2147483648 → size * count ≤ 36 * 2147483648
 short-product size count h g = mul-le-mul h (le-of-lt g)
+
+-- nor can the number of cells of all entities
+pub entity-product : (number size : ℕ) → number ≤ 600 → size < 2147483648 → number * size ≤ 600 * 2147483648
+entity-product number size h g = mul-le-mul h (le-of-lt g)

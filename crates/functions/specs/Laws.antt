@@ -17,8 +17,8 @@ use Rattle.definition.specs.File.{recordsIn, readFunction, noFunction, negative
 use Rattle.definition.specs.File.{fileOf, lengthFits, lumpFits, lumpsFit, leastCells, cellsFit, entityFits}
 use Rattle.definition.specs.RecordLaws.{length-records}
 use Rattle.definition.specs.Load.{sameLump, sameFile, recordedIn, programAt, programOf}
-use Rattle.definition.specs.Machine.{functionOf}
-use Rattle.definition.specs.Statements.{Does, refuses, orRefused, placeOf, statementAt, fetchConditions, execute, doesAt}
+use Rattle.definition.specs.Machine.{functionOf, entitiesFit}
+use Rattle.definition.specs.Statements.{Does, Entities, refuses, orRefused, placeOf, statementAt, fetchConditions, execute, doesAt}
 use Rattle.functions.specs.declared.FunctionId.the-variants as function
 use Rattle.functions.specs.declared.string_table.StringId.the-variants as string
 use Rattle.functions.specs.declared.fetch.Fetched.the-variants.{At, Refused}
@@ -131,6 +131,27 @@ same-file a b e =
     let fields : fieldsOfFile a ≡ fieldsOfFile b = cc in
     fields
 
+-- what it is for the cells per entity to fit
+pub record EntitySize (r : FileRecord) : Type 0 where
+  pub least : 105 ≤ r .entityfields
+  pub most : r .entityfields < 2147483648
+
+pub entity-size : (r : FileRecord) → entityFits r ≡ true → EntitySize r
+entity-size r e =
+    let t = both (leb 105 (r .entityfields)) _ e in
+    record { least = leb-true _ _ (t .0); most = leb-false _ _ (not-true _ (t .1)) }
+
+-- what it is for so many entities to have room in the lent cells (document 02, R-3)
+pub record Room (number size lent : ℕ) : Type 0 where
+  pub number-most : number ≤ 600
+  pub cells : number * size ≤ lent
+
+pub entities-room : (number size lent : ℕ) → entitiesFit number size lent ≡ true → Room number size lent
+unfolding entitiesFit
+entities-room number size lent e =
+    let t = both (leb number 600) _ e in
+    record { number-most = leb-true _ _ (t .0); cells = leb-true _ _ (t .1) }
+
 -- what it is for a file to be as a state records, the first of 13's conditions
 pub record Recorded (file : List ℕ) (r : FileRecord) (lent : ℕ) : Type 0 where
   pub same : r ≡ fileOf file
@@ -139,6 +160,7 @@ pub record Recorded (file : List ℕ) (r : FileRecord) (lent : ℕ) : Type 0 whe
   pub least : 36 ≤ r .globals .count
   pub most : r .globals .count ≤ 32768
   pub lends : r .globals .count ≤ lent
+  pub size : EntitySize r
 
 pub recorded : (file : List ℕ) (r : FileRecord) (lent : ℕ) → recordedIn file r lent ≡ true → Recorded file r lent
 unfolding recordedIn fileOf
@@ -149,16 +171,17 @@ recorded file r lent e =
     let e2 = both _ _ (e3 .0) in
     let e1 = both _ _ (e2 .0) in
     let same = same-file _ _ (e1 .0) in
-    let size : r .length ≡ length file = ap (λ (x : FileRecord). x .length) same in
+    let bytes : r .length ≡ length file = ap (λ (x : FileRecord). x .length) same in
     let lengths = both (leb 60 (r .length)) (leb (r .length) 1048576) (e1 .1) in
     let counts = both (leb leastCells (r .globals .count)) (leb (r .globals .count) 32768) (e3 .1) in
     record {
       same = same;
-      longest = rw (← size) (leb-true _ _ (lengths .1));
-      lumps = rw (← size) (all-fit r (e2 .1));
+      longest = rw (← bytes) (leb-true _ _ (lengths .1));
+      lumps = rw (← bytes) (all-fit r (e2 .1));
       least = leb-true _ _ (counts .0);
       most = leb-true _ _ (counts .1);
       lends = leb-true _ _ (e5 .1);
+      size = entity-size r (e4 .1);
     }
 
 -- a file that is too short for a header is as no state records
@@ -271,9 +294,9 @@ fetch-refuses statements p n e = by (judge (fetchConditions statements p)) e
     by (suc j) f = let h : n ≡ suc j = cc in (h, omega arith)
 
 -- what the statement at a position does is what the fetched one does
-pub does-fetched : (k : Contents) (p : ℤ) (i : ℕ) (st : Statement) (cells : List ℕ) → At i st ≡ fetched (k .statements) p → execute k p st cells ≡ doesAt k p cells
+pub does-fetched : (k : Contents) (p : ℤ) (i : ℕ) (st : Statement) (x : Entities) (cells : List ℕ) → At i st ≡ fetched (k .statements) p → execute k p st x cells ≡ doesAt k p x cells
 unfolding doesAt
-does-fetched k p i st cells e =
+does-fetched k p i st x cells e =
     let f = fetch-accepts _ _ _ _ e in
     rw (f .conditions, f .statement)
 
@@ -281,8 +304,8 @@ refuses-it : (n : ℕ) (d : Does) → 0 < n → refuses n ≡ orRefused n d
 refuses-it zero d h = absurd (omega arith)
 refuses-it (suc n) d h = refl
 
-pub does-refused : (k : Contents) (p : ℤ) (n : ℕ) (cells : List ℕ) → Refused n ≡ fetched (k .statements) p → refuses n ≡ doesAt k p cells
+pub does-refused : (k : Contents) (p : ℤ) (n : ℕ) (x : Entities) (cells : List ℕ) → Refused n ≡ fetched (k .statements) p → refuses n ≡ doesAt k p x cells
 unfolding doesAt
-does-refused k p n cells e =
+does-refused k p n x cells e =
     let f = fetch-refuses _ _ _ e in
     rw (← f .0) (refuses-it n _ (f .1))

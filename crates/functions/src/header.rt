@@ -1,9 +1,10 @@
 // The header, and what it may say: the conditions of refusals 1, 4, 10, 11 and 13.
 ghost use mathlib.Core.Path.{_≡_};
-ghost use Prim.Native.Nat.{_+_, _≤_};
+ghost use Prim.Native.Nat.{_+_, _≤_, _<_};
 ghost use lib.ListN.{length};
 ghost use Rattle.definition.specs.File.{lumpAt, fileOf, lengthFits, lumpFits, lumpsFit, cellsFit, entityFits};
 ghost use Rattle.definition.specs.Load.{sameLump, sameFile, recordedIn};
+ghost use Rattle.definition.specs.Machine.{entitiesFit};
 use crate::reads;
 use definition::CELL_SIZE;
 use definition::DEFINITION_SIZE;
@@ -15,6 +16,7 @@ use definition::LEAST_ENTITY_CELLS;
 use definition::LONGEST_FILE;
 use definition::Lump;
 use definition::MOST_CELLS;
+use definition::MOST_ENTITIES;
 use definition::STATEMENT_SIZE;
 
 fn lump_at(file: &[u8], at: usize) -> Lump
@@ -93,6 +95,18 @@ pub fn entity_fits(r: FileRecord) -> bool
     ensures { λ b. ⌜ b ≡ entityFits r ⌝ }
 {
     (LEAST_ENTITY_CELLS <= r.entityfields) & !(2147483648 <= r.entityfields)
+}
+
+// So many entities of so many cells each have room in the lent entity cells (document 02, R-3). The product can't wrap: where it is made the number is
+// at most 600, and refusal 11 keeps the size below 2^31.
+pub fn entities_fit(number: usize, size: usize, lent: usize) -> bool
+    requires { ⌜ size < 2147483648 ⌝ }
+    ensures { λ r. ⌜ r ≡ entitiesFit number size lent ⌝ }
+{
+    if MOST_ENTITIES < number {
+        return false;
+    }
+    number * size <= lent
 }
 
 fn same_lump(a: Lump, b: Lump) -> bool

@@ -29,7 +29,7 @@ numberedFile n =
     }
 
 abbrev pub numberedFrame : ℕ → StackFrame
-numberedFrame i = record { «instr_id» = pos (19 + 2 * i); «func_id» = 20 + 2 * i }
+numberedFrame i = record { «instr_id» = pos (20 + 2 * i); «func_id» = 21 + 2 * i }
 
 -- the first k of the 31 frames have their numbers
 unfoldable pub numberedFrames : ℕ → List StackFrame
@@ -44,36 +44,37 @@ numberedContext =
       «current_function» = 16;
       depth = 17;
       saved = 18;
+      «entity_count» = 19;
       frames = numberedFrames 31;
     }
 
 abbrev pub numberedStatement : StatementReply
 numberedStatement =
-    record { found = 100; refusal = 101; statement = record { opcode = 102; arg1 = 103; arg2 = 104; arg3 = 105 } }
+    record { found = 101; refusal = 102; statement = record { opcode = 103; arg1 = 104; arg2 = 105; arg3 = 106 } }
 
 abbrev pub numberedFunction : FunctionReply
 numberedFunction =
     record {
-      found = 106;
-      refusal = 107;
+      found = 107;
+      refusal = 108;
       function =
           record {
-            first = 108;
-            start = 109;
-            locals = 110;
-            name = 111;
-            srcfile = 112;
-            argc = 113;
-            argsz = 114 ∷ 115 ∷ 116 ∷ 117 ∷ 118 ∷ 119 ∷ 120 ∷ 121 ∷ [];
+            first = 109;
+            start = 110;
+            locals = 111;
+            name = 112;
+            srcfile = 113;
+            argc = 114;
+            argsz = 115 ∷ 116 ∷ 117 ∷ 118 ∷ 119 ∷ 120 ∷ 121 ∷ 122 ∷ [];
           };
     }
 
 abbrev pub numberedStructs : Structs
 numberedStructs =
     record {
-      reply = record { context = numberedContext; word = 81; detail = 82; count = 83 };
-      header = record { found = 84; refusal = 85; recorded = numberedFile 86 };
+      reply = record { context = numberedContext; word = 82; detail = 83; count = 84 };
+      header = record { found = 85; refusal = 86; recorded = numberedFile 87 };
       statement = numberedStatement;
       function = numberedFunction;
-      definition = record { found = 122; refusal = 123; definition = record { kind = 124; offset = 125; name = 126 } };
+      definition = record { found = 123; refusal = 124; definition = record { kind = 125; offset = 126; name = 127 } };
     }

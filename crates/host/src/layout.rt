@@ -27,7 +27,7 @@ pub struct Structs {
 }
 
 fn numbered_file(n: usize) -> FileRecord
-    requires { ⌜ n ≤ 86 ⌝ }
+    requires { ⌜ n ≤ 87 ⌝ }
     ensures { λ r. ⌜ r ≡ numberedFile n ⌝ }
 {
     FileRecord {
@@ -71,8 +71,8 @@ fn numbered_context() -> ExecutionContext
     let mut i: usize = 0;
     while i < GREATEST_DEPTH {
         let frame = StackFrame {
-            instr_id: (19 + 2 * i) as i64,
-            func_id: 20 + 2 * i,
+            instr_id: (20 + 2 * i) as i64,
+            func_id: 21 + 2 * i,
         };
         frames[i] = frame;
         i += 1;
@@ -84,6 +84,7 @@ fn numbered_context() -> ExecutionContext
         current_function: 16,
         depth: 17,
         saved: 18,
+        entity_count: 19,
         frames,
     }
 }
@@ -92,13 +93,13 @@ fn numbered_statement() -> StatementReply
     ensures { λ r. ⌜ r ≡ numberedStatement ⌝ }
 {
     StatementReply {
-        found: 100,
-        refusal: 101,
+        found: 101,
+        refusal: 102,
         statement: Statement {
-            opcode: 102,
-            arg1: 103,
-            arg2: 104,
-            arg3: 105,
+            opcode: 103,
+            arg1: 104,
+            arg2: 105,
+            arg3: 106,
         },
     }
 }
@@ -106,17 +107,17 @@ fn numbered_statement() -> StatementReply
 fn numbered_function() -> FunctionReply
     ensures { λ r. ⌜ r ≡ numberedFunction ⌝ }
 {
-    let argsz = [114, 115, 116, 117, 118, 119, 120, 121];
+    let argsz = [115, 116, 117, 118, 119, 120, 121, 122];
     FunctionReply {
-        found: 106,
-        refusal: 107,
+        found: 107,
+        refusal: 108,
         function: FunctionDef {
-            first: 108,
-            start: 109,
-            locals: 110,
-            name: 111,
-            srcfile: 112,
-            argc: 113,
+            first: 109,
+            start: 110,
+            locals: 111,
+            name: 112,
+            srcfile: 113,
+            argc: 114,
             argsz,
         },
     }
@@ -127,30 +128,30 @@ pub extern "C" fn host_layout() -> Structs
     ensures { λ r. ⌜ r ≡ numberedStructs ⌝ }
 {
     let context = numbered_context();
-    let recorded = numbered_file(86);
+    let recorded = numbered_file(87);
     let statement = numbered_statement();
     let function = numbered_function();
     Structs {
         reply: Replied {
             context,
-            word: 81,
-            detail: 82,
-            count: 83,
+            word: 82,
+            detail: 83,
+            count: 84,
         },
         header: HeaderReply {
-            found: 84,
-            refusal: 85,
+            found: 85,
+            refusal: 86,
             recorded,
         },
         statement,
         function,
         definition: DefinitionReply {
-            found: 122,
-            refusal: 123,
+            found: 123,
+            refusal: 124,
             definition: Definition {
-                kind: 124,
-                offset: 125,
-                name: 126,
+                kind: 125,
+                offset: 126,
+                name: 127,
             },
         },
     }

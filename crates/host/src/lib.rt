@@ -16,10 +16,16 @@ mod records;
 
 // A refused load gives a context of zeros, which every operation refuses 13.
 #[no_mangle]
-pub extern "C" fn host_load(file: &[u8], cells: &mut [u32], store: &[u32]) -> Replied
-    ensures { λ r. ⌜ repliedOf r (now (cells .exit)) (now (store .entry)) ≡ afterLoad (now (file .entry)) (now (cells .entry)) (now (store .entry)) ⌝ }
+pub extern "C" fn host_load(
+    file: &[u8],
+    number: i64,
+    cells: &mut [u32],
+    store: &[u32],
+    entities: &[u32],
+) -> Replied
+    ensures { λ r. ⌜ repliedOf r (now (cells .exit)) (now (store .entry)) (now (entities .entry)) ≡ afterLoad (now (file .entry)) number (now (cells .entry)) (now (store .entry)) (now (entities .entry)) ⌝ }
 {
-    let loaded = load::load(file, cells, store);
+    let loaded = load::load(file, number, cells, store, entities);
     call_list::reply_answer(loaded)
 }
 
@@ -30,10 +36,11 @@ pub extern "C" fn host_enter(
     function: i64,
     cells: &mut [u32],
     store: &mut [u32],
+    entities: &[u32],
 ) -> Replied
-    ensures { λ r. ⌜ repliedOf r (now (cells .exit)) (now (store .exit)) ≡ afterCall (programOf (now (file .entry))) (enters function) (config context (now (cells .entry)) (now (store .entry))) ⌝ }
+    ensures { λ r. ⌜ repliedOf r (now (cells .exit)) (now (store .exit)) (now (entities .entry)) ≡ afterCall (programOf (now (file .entry))) (enters function) (config context (now (cells .entry)) (now (store .entry)) (now (entities .entry))) ⌝ }
 {
-    let entered = context.enter(file, function, cells, store);
+    let entered = context.enter(file, function, cells, store, entities);
     call_list::reply_answer(entered)
 }
 
@@ -43,10 +50,11 @@ pub extern "C" fn host_statement(
     file: &[u8],
     cells: &mut [u32],
     store: &mut [u32],
+    entities: &mut [u32],
 ) -> Replied
-    ensures { λ r. ⌜ repliedOf r (now (cells .exit)) (now (store .exit)) ≡ afterCall (programOf (now (file .entry))) steps (config context (now (cells .entry)) (now (store .entry))) ⌝ }
+    ensures { λ r. ⌜ repliedOf r (now (cells .exit)) (now (store .exit)) (now (entities .exit)) ≡ afterCall (programOf (now (file .entry))) steps (config context (now (cells .entry)) (now (store .entry)) (now (entities .entry))) ⌝ }
 {
-    let stepped = stepping::step_once(context, file, cells, store);
+    let stepped = stepping::step_once(context, file, cells, store, entities);
     call_list::reply_statement(stepped)
 }
 
@@ -58,10 +66,11 @@ pub extern "C" fn host_run(
     limit: i64,
     cells: &mut [u32],
     store: &mut [u32],
+    entities: &mut [u32],
 ) -> Replied
-    ensures { λ r. ⌜ repliedOf r (now (cells .exit)) (now (store .exit)) ≡ afterCall (programOf (now (file .entry))) (runs target limit) (config context (now (cells .entry)) (now (store .entry))) ⌝ }
+    ensures { λ r. ⌜ repliedOf r (now (cells .exit)) (now (store .exit)) (now (entities .exit)) ≡ afterCall (programOf (now (file .entry))) (runs target limit) (config context (now (cells .entry)) (now (store .entry)) (now (entities .entry))) ⌝ }
 {
-    let ran = server::run(context, file, target, limit, cells, store);
+    let ran = server::run(context, file, target, limit, cells, store, entities);
     call_list::reply_run(ran)
 }
 
@@ -71,10 +80,11 @@ pub extern "C" fn host_carry_on(
     file: &[u8],
     cells: &[u32],
     store: &[u32],
+    entities: &[u32],
 ) -> Replied
-    ensures { λ r. ⌜ repliedOf r (now (cells .entry)) (now (store .entry)) ≡ afterCall (programOf (now (file .entry))) carries (config context (now (cells .entry)) (now (store .entry))) ⌝ }
+    ensures { λ r. ⌜ repliedOf r (now (cells .entry)) (now (store .entry)) (now (entities .entry)) ≡ afterCall (programOf (now (file .entry))) carries (config context (now (cells .entry)) (now (store .entry)) (now (entities .entry))) ⌝ }
 {
-    let carried = context.carry_on(file, cells, store);
+    let carried = context.carry_on(file, cells, store, entities);
     call_list::reply_answer(carried)
 }
 
@@ -85,10 +95,11 @@ pub extern "C" fn host_abandon(
     target: i64,
     cells: &mut [u32],
     store: &[u32],
+    entities: &[u32],
 ) -> Replied
-    ensures { λ r. ⌜ repliedOf r (now (cells .exit)) (now (store .entry)) ≡ afterCall (programOf (now (file .entry))) (abandons target) (config context (now (cells .entry)) (now (store .entry))) ⌝ }
+    ensures { λ r. ⌜ repliedOf r (now (cells .exit)) (now (store .entry)) (now (entities .entry)) ≡ afterCall (programOf (now (file .entry))) (abandons target) (config context (now (cells .entry)) (now (store .entry)) (now (entities .entry))) ⌝ }
 {
-    let abandoned = context.abandon(file, target, cells, store);
+    let abandoned = context.abandon(file, target, cells, store, entities);
     call_list::reply_answer(abandoned)
 }
 
@@ -100,10 +111,11 @@ pub extern "C" fn host_read(
     address: i64,
     cells: &[u32],
     store: &[u32],
+    entities: &[u32],
 ) -> Replied
-    ensures { λ r. ⌜ repliedOf r (now (cells .entry)) (now (store .entry)) ≡ afterCall (programOf (now (file .entry))) (reads address) (config context (now (cells .entry)) (now (store .entry))) ⌝ }
+    ensures { λ r. ⌜ repliedOf r (now (cells .entry)) (now (store .entry)) (now (entities .entry)) ≡ afterCall (programOf (now (file .entry))) (reads address) (config context (now (cells .entry)) (now (store .entry)) (now (entities .entry))) ⌝ }
 {
-    let read = context.read(file, address, cells, store);
+    let read = context.read(file, address, cells, store, entities);
     call_list::reply_read(context, read)
 }
 
@@ -115,9 +127,10 @@ pub extern "C" fn host_write(
     value: u32,
     cells: &mut [u32],
     store: &[u32],
+    entities: &[u32],
 ) -> Replied
-    ensures { λ r. ⌜ repliedOf r (now (cells .exit)) (now (store .entry)) ≡ afterCall (programOf (now (file .entry))) (writes address value) (config context (now (cells .entry)) (now (store .entry))) ⌝ }
+    ensures { λ r. ⌜ repliedOf r (now (cells .exit)) (now (store .entry)) (now (entities .entry)) ≡ afterCall (programOf (now (file .entry))) (writes address value) (config context (now (cells .entry)) (now (store .entry)) (now (entities .entry))) ⌝ }
 {
-    let written = context.write(file, address, value, cells, store);
+    let written = context.write(file, address, value, cells, store, entities);
     call_list::reply_answer(written)
 }

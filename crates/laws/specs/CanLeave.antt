@@ -1,4 +1,5 @@
--- After an accepted load, leaving is never refused above depth 0: so an abandonment to any depth from 0 up to the present one is accepted.
+-- After an accepted load, leaving is never refused above depth 0: so an abandonment to any depth from 0 up to the present one is accepted, as long as the
+-- host lends entity cells enough.
 use Prim.Native.Nat.{ℕ, zero, suc, _+_, _-_, _≤_, _<_}
 use mathlib.Core.Path.{_≡_, refl, sym, _∙_, ap, subst}
 use mathlib.Core.List.{List, [], _∷_, _++_}
@@ -21,8 +22,9 @@ use Rattle.definition.specs.Trace.{StepProperty, Always}
 use Rattle.definition.specs.CheckLaws.{All, all-both, WhenAccepted, guarded, guard-accepts}
 use Rattle.definition.specs.Parts.{length-copied}
 use Rattle.definition.specs.StatementLaws.{Keeps}
-use Rattle.definition.specs.Invariant.{Preserves, Inductive, always}
-use Rattle.laws.specs.Sound.{StackConsistent, Consistent, consistent-sound, entered-more, entered-less, suffice, advanced-consistent, entered-consistent, left-consistent, returned-consistent, loaded-consistent, AnyStep}
+use Rattle.definition.specs.Invariant.{Preserves, Inductive, always, roomIn}
+use Rattle.laws.specs.Entities.{Suffice, LendEnough, while-enough}
+use Rattle.laws.specs.Sound.{StackConsistent, Consistent, consistent-sound, entered-more, entered-less, suffice, advanced-consistent, entered-consistent, left-consistent, returned-consistent, loaded-consistent, load-suffices, AnyStep}
 
 -- the local cells of these functions are below the count
 abbrev Ranges : Program → ℕ → List ℕ → Type 0
@@ -38,9 +40,9 @@ module _ (file : List ℕ) where
   abbrev P : Program
   P = programOf file
 
-  advanced-ranges : (c : Config) (p : ℤ) (cells : List ℕ) → length cells ≡ length (c .cells) → RangesPresent file c → RangesPresent file (advanced c p cells)
+  advanced-ranges : (c : Config) (p : ℤ) (cells entities : List ℕ) → length cells ≡ length (c .cells) → RangesPresent file c → RangesPresent file (advanced c p cells entities)
   unfolding enteredFunctions
-  advanced-ranges c p cells e k = record { consistent = advanced-consistent file c p cells e (k .consistent); ranges = k .ranges }
+  advanced-ranges c p cells entities e k = record { consistent = advanced-consistent file c p cells entities e (k .consistent); ranges = k .ranges }
 
   entered-ranges : (c : Config) (f : ℕ) (back : ℤ) → RangesPresent file c → All (entryConditions P f c) → RangesPresent file (entered P f back c)
   unfolding entryConditions entered limits enteredFunctions
@@ -80,13 +82,14 @@ module _ (file : List ℕ) where
   unfolding leaveConditions
   returned-ranges c a k h =
       left-ranges (withCells c (copied (successive 3 a 1) (c .cells)))
-      (advanced-ranges c (c .state .pc) (copied (successive 3 a 1) (c .cells)) (length-copied (successive 3 a 1) (c .cells)) k) (h .1)
+      (advanced-ranges c (c .state .pc) (copied (successive 3 a 1) (c .cells)) (c .entities) (length-copied (successive 3 a 1) (c .cells)) k) (h .1)
 
   ranges-inductive : Inductive file (λ c l. RangesPresent file c) AnyStep
   ranges-inductive =
       record {
-        plain = λ c l p cells k keeps. (tt, advanced-ranges c p cells (keeps .same-length) k);
-        writing = λ c l a v k h. (tt, advanced-ranges c (c .state .pc) (set (c .cells) a v) (length-set (c .cells) a v) k);
+        plain = λ c l p cells entities k keeps puts. (tt, advanced-ranges c p cells entities (keeps .same-length) k);
+        writing = λ c l a v k h. (tt, advanced-ranges c (c .state .pc) (set (c .cells) a v) (c .entities) (length-set (c .cells) a v) k);
+        lending = λ c l entities k. (tt, advanced-ranges c (c .state .pc) (c .cells) entities refl k);
         entering = λ c l f back k h. (tt, entered-ranges c f back k h);
         returning = λ c l a k h. (tt, returned-ranges c a k h);
         leave-one = λ c l k h. (tt, left-ranges c k h);
@@ -100,30 +103,39 @@ module _ (file : List ℕ) where
       all-both (leaveConditions P c) (leavingsConditions P n (left P c)) here
       (leavings-accepted n (left P c) (left-ranges c k here) (omega arith))
 
-  abandons : (c : Config) → RangesPresent file c → (target : ℕ) → target ≤ c .state .depth → (c′ : Config) × (abandon P (pos target) c ≡ accepted c′)
+  abandons : (c : Config) → RangesPresent file c → Suffice file c → (target : ℕ) → target ≤ c .state .depth → (c′ : Config) × (abandon P (pos target) c ≡ accepted c′)
   unfolding abandon abandonConditions
-  abandons c k t h = (
+  abandons c k lent t h = (
     leftTimes P (c .state .depth - t) c,
     guard-accepts (abandonConditions P (pos t) c) _
-        (consistent-sound file c (k .consistent), (lt-ltb t (c .state .depth + 1) (omega arith), leavings-accepted (c .state .depth - t) c k (omega arith))),
+        (consistent-sound file c (k .consistent) lent, (lt-ltb t (c .state .depth + 1) (omega arith), leavings-accepted (c .state .depth - t) c k (omega arith))),
   )
 
-  loaded-ranges : (cells saved : List ℕ) → WhenAccepted (RangesPresent file) (load file cells saved)
+  loaded-ranges : (n : ℤ) (cells saved entities : List ℕ) → WhenAccepted (RangesPresent file) (load file n cells saved entities)
   unfolding load loaded enteredFunctions
-  loaded-ranges cells saved = with-none (load file cells saved) (loaded-consistent file cells saved) (guarded (λ (c : Config). c .state .depth ≡ 0) _ _ λ h. refl)
+  loaded-ranges n cells saved entities = with-none (load file n cells saved entities) (loaded-consistent file n cells saved entities) (guarded (λ (c : Config). c .state .depth ≡ 0) _ _ λ h. refl)
     where
       with-none : (x : Checked Config) → WhenAccepted (Consistent file) x → WhenAccepted (λ (c : Config). c .state .depth ≡ 0) x → WhenAccepted (RangesPresent file) x
       with-none (refused n) s z = tt
       with-none (accepted c) s z = record { consistent = s; ranges = rw z tt }
 
--- what holds of every state that a list of calls reaches: above depth 0 leaving is accepted, and so is an abandonment to any depth up to the present one
+-- what holds of every state that a list of calls reaches: above depth 0 leaving is accepted, and so is an abandonment to any depth up to the present one,
+-- where the lent entity cells suffice
 pub record CanLeave (file : List ℕ) (c : Config) (l : Log) : Type 0 where
   pub leaves : 0 < c .state .depth → All (leaveConditions (programOf file) c)
-  pub abandons-to : (target : ℕ) → target ≤ c .state .depth → (c′ : Config) × (abandon (programOf file) (pos target) c ≡ accepted c′)
+  pub abandons-to : Suffice file c → (target : ℕ) → target ≤ c .state .depth → (c′ : Config) × (abandon (programOf file) (pos target) c ≡ accepted c′)
 
-pub always-can-leave : (file cells saved : List ℕ) (c : Config) → load file cells saved ≡ accepted c → (calls : List Call) → Always file AnyStep (CanLeave file) c [] calls
-always-can-leave file cells saved c accepts calls =
+pub always-can-leave : (file : List ℕ) (n : ℤ) (cells saved entities : List ℕ) (c : Config) → load file n cells saved entities ≡ accepted c → (calls : List Call) → Always file AnyStep (CanLeave file) c [] calls
+always-can-leave file n cells saved entities c accepts calls =
     always file (λ c′ l. RangesPresent file c′) AnyStep (ranges-inductive file) (CanLeave file)
-    (λ c′ l k. record { leaves = can-leave file c′ k; abandons-to = λ t h. abandons file c′ k t h })
+    (λ c′ l k. record { leaves = can-leave file c′ k; abandons-to = λ lent t h. abandons file c′ k lent t h })
     c [] calls
-    (subst (WhenAccepted (RangesPresent file)) accepts (loaded-ranges file cells saved))
+    (subst (WhenAccepted (RangesPresent file)) accepts (loaded-ranges file n cells saved entities))
+
+-- so in a list in which every lending is of entity cells enough, or in one without lendings, an abandonment is accepted at any time
+pub always-abandons : (file : List ℕ) (n : ℤ) (cells saved entities : List ℕ) (c : Config) → load file n cells saved entities ≡ accepted c
+    → (calls : List Call) → LendEnough (roomIn file c) calls
+    → Always file AnyStep (λ c′ l. (target : ℕ) → target ≤ c′ .state .depth → (c″ : Config) × (abandon (programOf file) (pos target) c′ ≡ accepted c″)) c [] calls
+always-abandons file n cells saved entities c accepts calls lent =
+    while-enough file AnyStep (CanLeave file) _ (λ c′ l k enough. k .abandons-to enough)
+    c [] calls (load-suffices file n cells saved entities c accepts) lent (always-can-leave file n cells saved entities c accepts calls)

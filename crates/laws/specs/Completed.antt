@@ -9,20 +9,20 @@ use lib.ListN.{length}
 use Rattle.definition.specs.declared.Handover.{Handover}
 use Rattle.definition.specs.Checks.{Condition, Conditions, judge, Checked, refused, accepted, decided, guard}
 use Rattle.definition.specs.File.{contentsOf}
-use Rattle.definition.specs.Statements.{Does, next, calls, returns, refuses, handsOver}
-use Rattle.definition.specs.Machine.{Program, Config, advanced, entryConditions, entered, returnConditions, returned, Stepped, completed, refusedStep, handedStep, asStep, stepAs, step, Ran, runAs, runFor}
+use Rattle.definition.specs.Statements.{Does, next, puts, calls, returns, refuses, handsOver}
+use Rattle.definition.specs.Machine.{Program, Config, entitiesOf, advanced, entryConditions, entered, returnConditions, returned, Stepped, completed, refusedStep, handedStep, asStep, stepAs, step, Ran, runAs, runFor}
 use Rattle.definition.specs.Load.{programOf}
 use Rattle.definition.specs.Operations.{natural, hostEnter, statement, runConditions, runAfter, run, carryOn, abandon, rawRead, rawWrite}
 use Rattle.definition.specs.Answers.{statementOutcome}
-use Rattle.definition.specs.Calls.{Call, enters, steps, runs, carries, abandons, reads, writes, after}
+use Rattle.definition.specs.Calls.{Call, enters, steps, runs, carries, abandons, reads, writes, lends, after}
 use Rattle.definition.specs.Log.{Kind, entry, leaving, other, statementKind}
-use Rattle.definition.specs.StatementLaws.{HasKind, statement-has-kind}
+use Rattle.definition.specs.StatementLaws.{HasKind, beforeIn, statement-has-kind}
 
 -- c′ is the result of a completed statement of that kind from c
 abbrev pub ResultOf : List ℕ → Config → Config → Kind → Type 0
 ResultOf file c c′ (entry f back) = c′ ≡ entered (programOf file) f back c
 ResultOf file c c′ leaving = (a : ℕ) × (c′ ≡ returned (programOf file) a c)
-ResultOf file c c′ other = c′ ≡ advanced c (c′ .state .pc) (c′ .cells)
+ResultOf file c c′ other = c′ ≡ advanced c (c′ .state .pc) (c′ .cells) (c′ .entities)
 
 accepted-result : (cs : Conditions) (a c′ : Config) → asStep (guard cs a) ≡ completed c′ → c′ ≡ a
 unfolding guard
@@ -32,10 +32,13 @@ accepted-result cs a c′ = go (judge cs)
     go zero e = cc
     go (suc n) e = absurd (let z : _≡_ {A = ℕ} 0 1 = cc in omega arith)
 
-result-of : (file : List ℕ) (c c′ : Config) (κ : Kind) (x : Does) → HasKind (length (contentsOf file .globals)) (c .state .pc) (c .cells) κ x
+result-of : (file : List ℕ) (c c′ : Config) (κ : Kind) (x : Does) → HasKind (beforeIn file (c .state .pc) (entitiesOf c) (c .cells)) κ x
     → stepAs (programOf file) x c ≡ completed c′ → ResultOf file c c′ κ
 unfolding stepAs
-result-of file c c′ κ (next p cells) (o, keeps) e = rw o (let s : advanced c p cells ≡ c′ = cc in sym s ∙ ap (λ (y : Config). advanced c (y .state .pc) (y .cells)) s)
+result-of file c c′ κ (next p cells) (o, keeps) e =
+    rw o (let s : advanced c p cells (c .entities) ≡ c′ = cc in sym s ∙ ap (λ (y : Config). advanced c (y .state .pc) (y .cells) (y .entities)) s)
+result-of file c c′ κ (puts p entities) (o, keeps) e =
+    rw o (let s : advanced c p (c .cells) entities ≡ c′ = cc in sym s ∙ ap (λ (y : Config). advanced c (y .state .pc) (y .cells) (y .entities)) s)
 result-of file c c′ κ (calls f) is e = rw is (accepted-result (entryConditions (programOf file) f c) (entered (programOf file) f (c .state .pc +ℤ pos 1) c) c′ e)
 result-of file c c′ κ (returns a) is e = rw is (a, accepted-result (returnConditions (programOf file) a c) (returned (programOf file) a c) c′ e)
 result-of file c c′ κ (refuses n) is e = absurd (let z : _≡_ {A = ℕ} 0 1 = cc in omega arith)
@@ -44,7 +47,8 @@ result-of file c c′ κ (handsOver h) is e = absurd (let z : _≡_ {A = ℕ} 0 
 pub completed-is : (file : List ℕ) (c c′ : Config) → step (programOf file) c ≡ completed c′ → ResultOf file c c′ (statementKind file (c .state .pc) (c .cells))
 unfolding step
 completed-is file c c′ e =
-    result-of file c c′ (statementKind file (c .state .pc) (c .cells)) (programOf file .does (c .state .pc) (c .cells)) (statement-has-kind file (c .state .pc) (c .cells)) e
+    result-of file c c′ (statementKind file (c .state .pc) (c .cells)) (programOf file .does (c .state .pc) (entitiesOf c) (c .cells))
+    (statement-has-kind file (c .state .pc) (entitiesOf c) (c .cells)) e
 
 -- ---- what calls leave
 
@@ -57,6 +61,8 @@ RefusedCall P carries c = (n : ℕ) × (carryOn P c ≡ refused n)
 RefusedCall P (abandons target) c = (n : ℕ) × (abandon P target c ≡ refused n)
 RefusedCall P (reads a) c = Unit {0}
 RefusedCall P (writes a v) c = (n : ℕ) × (rawWrite P a v c ≡ refused n)
+-- a lending is never refused
+RefusedCall P (lends entities) c = ⊥
 
 -- a run that completed no statement changed nothing
 none-step : (s : Stepped) (target : ℕ) (c : Config) (rest : Config → Ran) → runAs s target c rest .count ≡ 0 → runAs s target c rest .config ≡ c
@@ -73,7 +79,7 @@ none-after : (m : ℕ) (P : Program) (target limit : ℕ) (c : Config) → runAf
 none-after zero P target limit c e = none-run P limit target c e
 none-after (suc m) P target limit c e = refl
 
--- a refusal leaves state, cells and saved store; of a run, those after its last completed statement, which are the last of its trace
+-- a refusal leaves state, cells, saved store and entity cells; of a run, those after its last completed statement, which are the last of its trace
 pub refusal-leaves : (P : Program) (k : Call) (c : Config) → RefusedCall P k c → after P k c ≡ c
 unfolding after run
 refusal-leaves P (enters f) c (n, e) = rw e
@@ -83,6 +89,7 @@ refusal-leaves P carries c (n, e) = rw e
 refusal-leaves P (abandons target) c (n, e) = rw e
 refusal-leaves P (reads a) c u = refl
 refusal-leaves P (writes a v) c (n, e) = rw e
+refusal-leaves P (lends entities) c e = absurd e
 
 pub handover-leaves : (P : Program) (c : Config) (h : Handover) → statement P c ≡ handedStep h → after P steps c ≡ c
 unfolding after

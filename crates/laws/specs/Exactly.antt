@@ -12,9 +12,9 @@ use lib.Dec.{ltb}
 use Rattle.definition.specs.declared.RunAnswer.the-variants.{Refused}
 use Rattle.definition.specs.Checks.{Condition, Conditions, _otherwise_, judge, Checked, refused, accepted, guard}
 use Rattle.definition.specs.File.{leastCells}
-use Rattle.definition.specs.Statements.{Does, next, calls, returns, refuses, handsOver, placeOf}
-use Rattle.definition.specs.Machine.{Program, Config, countOf, withCells, advanced, entryConditions, entered, leaveConditions, left, returnConditions, returned, asStep, stepAs, completed, refusedStep, handedStep, step, Ran, runFor}
-use Rattle.definition.specs.Load.{loadConditions, loaded, load}
+use Rattle.definition.specs.Statements.{Does, next, puts, calls, returns, refuses, handsOver, placeOf}
+use Rattle.definition.specs.Machine.{Program, Config, entitiesOf, countOf, withCells, advanced, entryConditions, entered, leaveConditions, left, returnConditions, returned, asStep, stepAs, completed, refusedStep, handedStep, step, Ran, runFor}
+use Rattle.definition.specs.Load.{loadConditions, loaded, entitiesGiven, load}
 use Rattle.definition.specs.Operations.{sound, natural, below, hostEnter, statement, runConditions, runAfter, run, carryOnConditions, carryOn, leftTimes, leavingsConditions, leavingsTo, abandonConditions, abandon, rawConditions, rawRead, rawWrite}
 use Rattle.definition.specs.CheckLaws.{All, FailsFirst, all-front, all-back, judge-all, judge-first, guard-accepts, accepted-all, guard-refuses, refused-first, WhenAccepted, guarded}
 
@@ -34,16 +34,18 @@ exactly cs a =
       refuses-only = refused-first cs a;
     }
 
-pub load-exactly : (file cells saved : List ℕ) → Exactly (loadConditions leastCells file (length cells) (length saved)) (loaded file cells saved) (load file cells saved)
+pub load-exactly : (file : List ℕ) (n : ℤ) (cells saved entities : List ℕ)
+    → Exactly (loadConditions leastCells file (entitiesGiven n) (length cells) (length saved) (length entities)) (loaded file (entitiesGiven n) cells saved entities)
+    (load file n cells saved entities)
 unfolding load
-load-exactly file cells saved = exactly _ _
+load-exactly file n cells saved entities = exactly _ _
 
 pub entry-exactly : (P : Program) (f : ℤ) (c : Config)
     → Exactly ((sound P c otherwise 13) ∷ entryConditions P (placeOf (length (P .functions)) f) c) (entered P (placeOf (length (P .functions)) f) (c .state .pc) c) (hostEnter P f c)
 unfolding hostEnter
 entry-exactly P f c = exactly _ _
 
-pub carry-on-exactly : (P : Program) (c : Config) → Exactly (carryOnConditions P c) (advanced c (c .state .pc +ℤ pos 1) (c .cells)) (carryOn P c)
+pub carry-on-exactly : (P : Program) (c : Config) → Exactly (carryOnConditions P c) (advanced c (c .state .pc +ℤ pos 1) (c .cells) (c .entities)) (carryOn P c)
 unfolding carryOn
 carry-on-exactly P c = exactly _ _
 
@@ -66,7 +68,8 @@ statement-exactly P c = (λ e. rw e, λ e. rw e)
 
 -- "A Call records the position after itself"
 abbrev pub Done : Program → Config → Does → Type 0
-Done P c (next p cells) = step P c ≡ completed (advanced c p cells)
+Done P c (next p cells) = step P c ≡ completed (advanced c p cells (c .entities))
+Done P c (puts p entities) = step P c ≡ completed (advanced c p (c .cells) entities)
 Done P c (calls f) =
     (All (entryConditions P f c) → step P c ≡ completed (entered P f (c .state .pc +ℤ pos 1) c))
     × ((n : ℕ) → FailsFirst (suc n) (entryConditions P f c) → step P c ≡ refusedStep (suc n))
@@ -75,9 +78,10 @@ Done P c (returns a) =
 Done P c (refuses n) = step P c ≡ refusedStep n
 Done P c (handsOver h) = step P c ≡ handedStep h
 
-pub step-exactly : (P : Program) (c : Config) (x : Does) → P .does (c .state .pc) (c .cells) ≡ x → Done P c x
+pub step-exactly : (P : Program) (c : Config) (x : Does) → P .does (c .state .pc) (entitiesOf c) (c .cells) ≡ x → Done P c x
 unfolding step stepAs
 step-exactly P c (next p cells) is = rw is
+step-exactly P c (puts p entities) is = rw is
 step-exactly P c (calls f) is = (
   λ h. rw is (ap asStep (guard-accepts (entryConditions P f c) (entered P f (c .state .pc +ℤ pos 1) c) h)),
   λ n x. rw is (ap asStep (guard-refuses (entryConditions P f c) (entered P f (c .state .pc +ℤ pos 1) c) n x)),

@@ -102,17 +102,18 @@ module _ (file : List ℕ) where
   frames-inductive : Inductive file (λ c l. ZeroAbove c) FramesBy
   frames-inductive =
       record {
-        plain = λ c l p cells k keeps. (refl, record { number = k .number; zeros = k .zeros });
+        plain = λ c l p cells entities k keeps puts. (refl, record { number = k .number; zeros = k .zeros });
         writing = λ c l a v k h. (refl, record { number = k .number; zeros = k .zeros });
+        lending = λ c l entities k. (refl, record { number = k .number; zeros = k .zeros });
         entering = entered-frames;
         returning = λ c l a k h. left-frames (withCells c (copied (successive 3 a 1) (c .cells))) l (record { number = k .number; zeros = k .zeros });
         leave-one = λ c l k h. left-frames c l k;
       }
 
-pub frames-by : (file cells saved : List ℕ) (c : Config) → load file cells saved ≡ accepted c → (calls : List Call)
+pub frames-by : (file : List ℕ) (n : ℤ) (cells saved entities : List ℕ) (c : Config) → load file n cells saved entities ≡ accepted c → (calls : List Call)
     → Always file FramesBy (λ c′ l. ZeroAbove c′) c [] calls
-frames-by file cells saved c accepts calls =
-    let started = load-starts file cells saved c accepts in
+frames-by file n cells saved entities c accepts calls =
+    let started = load-starts file n cells saved entities c accepts in
     always file (λ c′ l. ZeroAbove c′) FramesBy (frames-inductive file) (λ c′ l. ZeroAbove c′) (λ c′ l k. k) c [] calls
     (record {
       number = ap length (started .frames) ∙ length-replicate greatestDepth zeroFrame;

@@ -1,4 +1,5 @@
 -- Laws of the definition beside demand 3: what holds of every state, or of every state that calls reach after an accepted load.
+pub mod Entities
 pub mod Starts
 pub mod Frames
 pub mod Sound
@@ -10,5 +11,6 @@ pub mod RowDecides
 pub mod Completed
 pub mod Runs
 pub mod Untouched
+pub mod RoundTrip
 pub mod Opcodes
 pub mod Refusals

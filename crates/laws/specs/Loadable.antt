@@ -1,9 +1,10 @@
 -- What a load must accept, in words: no condition beyond these can be asked of a file.
-use Prim.Native.Nat.{ℕ, _≤_, _<_}
+use Prim.Native.Nat.{ℕ, _*_, _≤_, _<_}
 use mathlib.Core.Path.{_≡_, refl}
 use mathlib.Core.List.{List, [], _∷_, _++_}
 use mathlib.Core.Bool.{true, not}
 use borrow.Author.Tests.{le-leb, lt-ltb, eq-eqb}
+use lib.IntN.{pos}
 use lib.ListN.{length}
 use Rattle.definition.specs.declared.Statement.{Statement}
 use Rattle.definition.specs.declared.Definition.{Definition}
@@ -11,7 +12,8 @@ use Rattle.definition.specs.declared.FunctionDef.{FunctionDef}
 use Rattle.definition.specs.Checks.{Conditions, accepted}
 use Rattle.definition.specs.File.{negative, versionOf, checkNumberOf, fileOf, lumpsFit, leastCells, contentsOf, builtinKnown}
 use Rattle.definition.specs.Cells.{typeOf}
-use Rattle.definition.specs.Load.{functionConditions, statementConditions, globaldefConditions, fielddefConditions, each, headerConditions, recordConditions, cellConditions, loadConditions, loaded, load}
+use Rattle.definition.specs.Load.{functionConditions, statementConditions, globaldefConditions, fielddefConditions, each, headerConditions, recordConditions, cellConditions, entityConditions, loadConditions, loaded, load}
+use Rattle.definition.specs.Machine.{entitiesFit}
 use Rattle.definition.specs.CheckLaws.{All, all-both, and-both, guard-accepts}
 
 -- of each record of a list
@@ -31,7 +33,8 @@ GlobaldefIs strings d = (d .name < strings) × (typeOf d ≤ 7)
 abbrev pub FielddefIs : ℕ → Definition → Type 0
 FielddefIs strings d = (d .name < strings) × (d .kind < 32768) × (typeOf d ≤ 7)
 
-pub record Loadable (file : List ℕ) (lent store : ℕ) : Type 0 where
+-- with n entities, beside so many lent cells, a saved store of so many, and so many lent entity cells
+pub record Loadable (file : List ℕ) (n lent store entities : ℕ) : Type 0 where
   pub shortest : 60 ≤ length file
   pub longest : length file ≤ 1048576
   pub version : versionOf file ≡ 6
@@ -47,13 +50,15 @@ pub record Loadable (file : List ℕ) (lent store : ℕ) : Type 0 where
   pub signed : not (negative (fileOf file .entityfields)) ≡ true
   pub enough : fileOf file .globals .count ≤ lent
   pub store-enough : 2048 ≤ store
+  pub few : n ≤ 600
+  pub entities-enough : n * fileOf file .entityfields ≤ entities
 
 every-each : {A : Type 0} (Q : A → Type 0) (conditions : A → Conditions) → ((x : A) → Q x → All (conditions x)) → (xs : List A) → Every Q xs → All (each conditions xs)
 unfolding each
 every-each Q conditions holds [] h = tt
 every-each Q conditions holds (x ∷ xs) h = all-both (conditions x) (each conditions xs) (holds x (h .0)) (every-each Q conditions holds xs (h .1))
 
-module _ (file cells saved : List ℕ) (h : Loadable file (length cells) (length saved)) where
+module _ (file : List ℕ) (n : ℕ) (cells saved entities : List ℕ) (h : Loadable file n (length cells) (length saved) (length entities)) where
   header : All (headerConditions file)
   unfolding headerConditions fileOf
   header = (
@@ -64,18 +69,18 @@ module _ (file cells saved : List ℕ) (h : Loadable file (length cells) (length
   recorded : All (recordConditions (fileOf file .strings .count) (contentsOf file))
   unfolding recordConditions
   recorded =
-      let n = fileOf file .strings .count in
+      let strings = fileOf file .strings .count in
       let k = contentsOf file in
-      let fs = each (functionConditions n) (k .functions) in
+      let fs = each (functionConditions strings) (k .functions) in
       let ss = each statementConditions (k .statements) in
-      let gs = each (globaldefConditions n) (k .globaldefs) in
-      all-both (fs ++ ss ++ gs) (each (fielddefConditions n) (k .fielddefs))
+      let gs = each (globaldefConditions strings) (k .globaldefs) in
+      all-both (fs ++ ss ++ gs) (each (fielddefConditions strings) (k .fielddefs))
       (all-both (fs ++ ss) gs
       (all-both fs ss
-      (every-each (FunctionIs n) (functionConditions n) (λ d q. (q .0, (lt-ltb _ _ (q .1), (lt-ltb _ _ (q .2), tt)))) (k .functions) (h .functions))
+      (every-each (FunctionIs strings) (functionConditions strings) (λ d q. (q .0, (lt-ltb _ _ (q .1), (lt-ltb _ _ (q .2), tt)))) (k .functions) (h .functions))
       (every-each StatementIs statementConditions (λ st q. (lt-ltb _ _ q, tt)) (k .statements) (h .statements)))
-      (every-each (GlobaldefIs n) (globaldefConditions n) (λ d q. (lt-ltb _ _ (q .0), (le-leb _ _ (q .1), tt))) (k .globaldefs) (h .globaldefs)))
-      (every-each (FielddefIs n) (fielddefConditions n) (λ d q. (lt-ltb _ _ (q .0), (lt-ltb _ _ (q .1), (le-leb _ _ (q .2), tt)))) (k .fielddefs) (h .fielddefs))
+      (every-each (GlobaldefIs strings) (globaldefConditions strings) (λ d q. (lt-ltb _ _ (q .0), (le-leb _ _ (q .1), tt))) (k .globaldefs) (h .globaldefs)))
+      (every-each (FielddefIs strings) (fielddefConditions strings) (λ d q. (lt-ltb _ _ (q .0), (lt-ltb _ _ (q .1), (le-leb _ _ (q .2), tt)))) (k .fielddefs) (h .fielddefs))
 
   lent-fit : All (cellConditions leastCells (fileOf file) (length cells) (length saved))
   unfolding cellConditions
@@ -87,10 +92,16 @@ module _ (file cells saved : List ℕ) (h : Loadable file (length cells) (length
     ),
   )
 
-  pub loadable : load file cells saved ≡ accepted (loaded file cells saved)
+  entities-fit : All (entityConditions (fileOf file) n (length entities))
+  unfolding entitiesFit
+  entities-fit = (and-both _ _ (le-leb n 600 (h .few)) (le-leb _ _ (h .entities-enough)), tt)
+
+  pub loadable : load file (pos n) cells saved entities ≡ accepted (loaded file n cells saved entities)
   unfolding load
   loadable =
       let hs = headerConditions file in
       let rs = recordConditions (fileOf file .strings .count) (contentsOf file) in
       let cs = cellConditions leastCells (fileOf file) (length cells) (length saved) in
-      guard-accepts (hs ++ rs ++ cs) (loaded file cells saved) (all-both (hs ++ rs) cs (all-both hs rs header recorded) lent-fit)
+      let es = entityConditions (fileOf file) n (length entities) in
+      guard-accepts (hs ++ rs ++ cs ++ es) (loaded file n cells saved entities)
+      (all-both (hs ++ rs ++ cs) es (all-both (hs ++ rs) cs (all-both hs rs header recorded) lent-fit) entities-fit)

@@ -1,8 +1,8 @@
 -- SINGLE STATEMENTS, as rows of one table that is computed from the definition: what each opcode does with operands that tell it from its neighbours, and
--- what it refuses, in which order. A row is a statement at position 2 over 64 cells, and what it does: all cells are compared, not only those it names.
--- What a row says was worked out by hand from document 01's words and IEEE 754's arithmetic, not taken from the definition. The model in tests/model,
+-- what it refuses, in which order. A row is a statement at position 2 over 64 cells and two entities, and what it does: all cells are compared, not only
+-- those it names. What a row says was worked out by hand from document 01's words, 02's and IEEE 754's arithmetic, not taken from the definition. The model in tests/model,
 -- which was made without reading the definition, gives the same.
-use Prim.Native.Nat.{ℕ, zero, suc, _+_}
+use Prim.Native.Nat.{ℕ, zero, suc, _+_, _*_}
 use Prim.Native.String.{String}
 use mathlib.Core.List.{List, [], _∷_, _++_}
 use mathlib.Core.Bool.{Bool, true, false, _&&_}
@@ -17,10 +17,11 @@ use Rattle.definition.specs.declared.Handover.the-variants.{Builtin, Opcode}
 use Rattle.definition.specs.Checks.{judge}
 use Rattle.definition.specs.File.{Contents, builtinNumber}
 use Rattle.definition.specs.Floats.{rounded, absolute, roundingOf}
-use Rattle.definition.specs.Cells.{lookup, scalar, passes, signed, cellOf, cellAccess, vectorAccess, access, readAccess}
-use Rattle.definition.specs.Statements.{Does, next, calls, returns, refuses, handsOver, shapeOf, fetchConditions, execute, doesAt}
+use Rattle.definition.specs.Cells.{lookup, scalar, passes, signed, cellOf, cellAccess, vectorAccess, access, readAccess, withoutVoid, fieldCellAccess, fieldAccess}
+use Rattle.definition.specs.Statements.{Does, next, puts, calls, returns, refuses, handsOver, shapeOf, fetchConditions, execute, doesAt}
 use Rattle.definition.specs.Statements.{floatsEffect, valuesEffect, vectorResult, vectorsEffect, vectorsToFloatEffect, stringsEffect}
 use Rattle.definition.specs.Statements.{negatesEffect, negatesVEffect, negatesSEffect, storesEffect, storesVEffect, branchesDo, roundingEffect, callOf, callDoes}
+use Rattle.definition.specs.Statements.{valueMoved, loadsEffect, addressesEffect, storesPEffect}
 use Rattle.definition.specs.Starred.{sameNumbers}
 
 -- ---- the program and its cells
@@ -53,19 +54,23 @@ define kind cell = record { kind = kind; offset = cell; name = 0 }
 abbrev fn : ℕ → FunctionDef
 fn first = record { first = first; start = 0; locals = 0; name = 0; srcfile = 0; argc = 0; argsz = replicate 8 0 }
 
--- Function 2 is the builtin 35, function 3 is minus 5, which is none, function 4 is the builtin 1, function 5 is the builtin 36, rint. The field definition
--- of cell 30 binds no cell.
+-- Function 2 is the builtin 35, function 3 is minus 5, which is none, function 4 is the builtin 1, function 5 is the builtin 36, rint. The field definitions
+-- bind fields and no cells: 30 is a string, 31 a float, 32 an entity, 33 a field, 34 a function, 35 a pointer, 36 a vector; 40 is void and then a string.
 abbrev program : List Definition → Statement → Contents
 program definitions st =
     record {
       statements = op 0 0 0 0 ∷ op 0 0 0 0 ∷ st ∷ [];
       globaldefs = definitions;
-      fielddefs = define 1 30 ∷ [];
+      fielddefs = define 1 30 ∷ define 2 31 ∷ define 4 32 ∷ define 5 33 ∷ define 6 34 ∷ define 7 35 ∷ define 3 36 ∷ define 0 40 ∷ define 1 40 ∷ [];
       functions = fn 0 ∷ fn 1 ∷ fn 0xffffffdd ∷ fn 0xfffffffb ∷ fn 0xffffffff ∷ fn 0xffffffdc ∷ [];
       strings = 0 ∷ [];
       globals = numbers 64 0;
       entityfields = 105;
     }
+
+-- two entities of 105 cells, and two lent cells more, each with 1,000 and its own number in it
+abbrev lentEntities : List ℕ
+lentEntities = numbers 212 1000
 
 abbrev untyped : List Definition
 untyped = []
@@ -85,19 +90,22 @@ cellsOfTypes = 30 ∷ 36 ∷ 39 ∷ 42 ∷ 45 ∷ 48 ∷ 51 ∷ 54 ∷ 57 ∷ 60
 
 -- ---- what is seen
 
--- 0 completes, 1 enters, 2 leaves, 3 is refused, 4 hands a builtin over, 5 hands an opcode over; position, function, cell or number; the cells after it
+-- 0 completes, 1 enters, 2 leaves, 3 is refused, 4 hands a builtin over, 5 hands an opcode over, 6 completes and writes a field; position, function, cell or
+-- number; the cells after it; the entity cells after it, none where it does not write them
 pub record Seen : Type 0 where
   kind : ℕ
   number : ℤ
   cells : List ℕ
+  entities : List ℕ
 
 abbrev seen : Does → List ℕ → Seen
-seen (next p after) cells = record { kind = 0; number = p; cells = after }
-seen (calls f) cells = record { kind = 1; number = pos f; cells = cells }
-seen (returns a) cells = record { kind = 2; number = pos a; cells = cells }
-seen (refuses n) cells = record { kind = 3; number = pos n; cells = cells }
-seen (handsOver (Builtin n)) cells = record { kind = 4; number = pos n; cells = cells }
-seen (handsOver (Opcode n)) cells = record { kind = 5; number = pos n; cells = cells }
+seen (next p after) cells = record { kind = 0; number = p; cells = after; entities = [] }
+seen (puts p entities) cells = record { kind = 6; number = p; cells = cells; entities = entities }
+seen (calls f) cells = record { kind = 1; number = pos f; cells = cells; entities = [] }
+seen (returns a) cells = record { kind = 2; number = pos a; cells = cells; entities = [] }
+seen (refuses n) cells = record { kind = 3; number = pos n; cells = cells; entities = [] }
+seen (handsOver (Builtin n)) cells = record { kind = 4; number = pos n; cells = cells; entities = [] }
+seen (handsOver (Opcode n)) cells = record { kind = 5; number = pos n; cells = cells; entities = [] }
 
 -- over the cells before it
 abbrev Outcome : Type 0
@@ -106,6 +114,10 @@ Outcome = List ℕ → Seen
 -- the position after it, and the cells that it writes
 abbrev completes : ℤ → List Cell → Outcome
 completes p written cells = seen (next p (with written cells)) cells
+
+-- the entity cells that it writes: "other statements .. add 1"
+abbrev writesFields : List Cell → Outcome
+writesFields written cells = seen (puts (pos 3) (with written lentEntities)) cells
 
 -- the function that a Call enters
 abbrev enters : ℕ → Outcome
@@ -133,11 +145,12 @@ pub data Row : Type 0 where
   types : String → List ℕ → (ℕ → ℕ → Statement) → List ℕ → Row
 
 abbrev does : List Definition → Statement → List ℕ → Does
-does definitions st cells = doesAt (program definitions st) (pos 2) cells
+does definitions st cells = doesAt (program definitions st) (pos 2) (record { count = 2; cells = lentEntities }) cells
 
 -- the number of the refusal, 0 where there is none
 abbrev pub refusalOf : Does → ℕ
 refusalOf (next p cells) = 0
+refusalOf (puts p entities) = 0
 refusalOf (calls f) = 0
 refusalOf (returns a) = 0
 refusalOf (refuses n) = n
@@ -154,7 +167,7 @@ sameInteger (negsuc m) (pos n) = false
 sameInteger (negsuc m) (negsuc n) = eqb m n
 
 abbrev same : Seen → Seen → Bool
-same a b = eqb (a .kind) (b .kind) && sameInteger (a .number) (b .number) && sameNumbers (a .cells) (b .cells)
+same a b = eqb (a .kind) (b .kind) && sameInteger (a .number) (b .number) && sameNumbers (a .cells) (b .cells) && sameNumbers (a .entities) (b .entities)
 
 abbrev each : List ℕ → (ℕ → Bool) → Bool
 each [] test = true
@@ -391,13 +404,11 @@ entering =
     ∷ row "Call, 16 before 19" typed (op 51 39 0 0) (39 holds 0 ∷ []) (refused 16)
     ∷ [])
 
--- "opcode with its number: 24 to 30, 37 to 42 and 60 go to the host", with operands that are not looked at; "7: opcode"
+-- R-3: "Only opcode 60 and the other builtins still go to the host", with operands that are not looked at; "7: opcode"
 abbrev host : List Row
 host =
-    of
-    (24 ∷ 25 ∷ 26 ∷ 27 ∷ 28 ∷ 29 ∷ 30 ∷ 37 ∷ 38 ∷ 39 ∷ 40 ∷ 41 ∷ 42 ∷ 60 ∷ [])
-    (λ o. row "go to the host" typed (op o 36 64 0xffff) [] (opcode o))
-    ++ of (66 ∷ 67 ∷ 0x8000 ∷ 0xffff ∷ []) (λ o. row "again at fetch, 7: opcode" typed (op o 0 0 0) [] (refused 7))
+    row "goes to the host" typed (op 60 36 64 0xffff) [] (opcode 60)
+    ∷ of (66 ∷ 67 ∷ 0x8000 ∷ 0xffff ∷ []) (λ o. row "again at fetch, 7: opcode" typed (op o 0 0 0) [] (refused 7))
 
 -- ---- "rounded once per operation; a NaN made by arithmetic is stored as 7fc00000"; "MulV starts from +0 and adds three products in order"
 
@@ -532,6 +543,96 @@ accesses =
     ∷ types "StoreFnc, destination" (36 ∷ []) destination asFunction
     ∷ types "If, IfNot" (49 ∷ 50 ∷ []) source asFloat
     ∷ types "Call" callOpcodes first asCalled
+    ∷ [])
+
+-- ---- R-3: "Opcodes 24 to 29 read the field in the second operand of the entity in the first; 30 makes a pointer; 37 to 42 write the first operand through
+-- the pointer in the second"
+
+abbrev loadOpcodes : List ℕ
+loadOpcodes = 24 ∷ 25 ∷ 26 ∷ 27 ∷ 28 ∷ 29 ∷ []
+
+abbrev pointerStores : List ℕ
+pointerStores = 37 ∷ 38 ∷ 39 ∷ 40 ∷ 41 ∷ 42 ∷ []
+
+-- entity 1 in cell 40, this field in cell 41
+abbrev ofEntity1 : ℕ → List Cell
+ofEntity1 f = 40 holds 1 ∷ 41 holds f ∷ []
+
+-- the last field is 104; field 104 of entity 1 is entity cell 209, its pointer 836
+abbrev fieldStatements : List Row
+fieldStatements =
+    of (24 ∷ 26 ∷ 27 ∷ 28 ∷ 29 ∷ []) (λ o. row "Load: one cell" untyped (op o 40 41 50) (ofEntity1 10) (writes (50 holds 1115 ∷ [])))
+    ++ of (24 ∷ 26 ∷ 27 ∷ 28 ∷ 29 ∷ []) (λ o. row "Load: the last field of the last entity" untyped (op o 40 41 63) (ofEntity1 104) (writes (63 holds 1209 ∷ [])))
+    ++ of (24 ∷ 26 ∷ 27 ∷ 28 ∷ 29 ∷ []) (λ o. row "Load: over its own operand" untyped (op o 40 41 40) (ofEntity1 10) (writes (40 holds 1115 ∷ [])))
+    ++ of loadOpcodes (λ o. row "Load: entity 2 of 2" untyped (op o 40 41 50) (40 holds 2 ∷ 41 holds 0 ∷ []) (refused 30))
+    ++ of loadOpcodes (λ o. row "Load: field 105 of 105" untyped (op o 40 41 50) (ofEntity1 105) (refused 31))
+    ++ of (37 ∷ 39 ∷ 40 ∷ 41 ∷ 42 ∷ []) (λ o. row "StoreP: one cell" untyped (op o 30 31 0) (31 holds 460 ∷ []) (writesFields (115 holds 30 ∷ [])))
+    ++ of (37 ∷ 39 ∷ 40 ∷ 41 ∷ 42 ∷ []) (λ o. row "StoreP: the last field of the last entity" untyped (op o 63 31 0) (31 holds 836 ∷ []) (writesFields (209 holds 63 ∷ [])))
+    ++ of (37 ∷ 39 ∷ 40 ∷ 41 ∷ 42 ∷ []) (λ o. row "StoreP: the pointer itself" untyped (op o 31 31 0) (31 holds 0 ∷ []) (writesFields (0 holds 0 ∷ [])))
+    ++ of pointerStores (λ o. row "StoreP: past the last entity" untyped (op o 30 31 0) (31 holds 840 ∷ []) (refused 32))
+    ++ of pointerStores (λ o. row "StoreP: no multiple of 4" untyped (op o 30 31 0) (31 holds 462 ∷ []) (refused 32))
+    ++ of pointerStores (λ o. row "StoreP: a negative pointer" untyped (op o 30 31 0) (31 holds minusZero ∷ []) (refused 32))
+    ++ (row "LoadV: three cells" untyped (op 25 40 41 50) (ofEntity1 10) (writes (vector 50 1115 1116 1117))
+    ∷ row "LoadV: the last three" untyped (op 25 40 41 61) (ofEntity1 102) (writes (vector 61 1207 1208 1209))
+    ∷ row "LoadV: over its own operands" untyped (op 25 40 41 40) (ofEntity1 10) (writes (vector 40 1115 1116 1117))
+    ∷ row "LoadV: its third cell is the next entity's" untyped (op 25 40 41 50) (40 holds 0 ∷ 41 holds 103 ∷ []) (refused 31)
+    ∷ row "StorePV: three cells" untyped (op 38 30 33 0) (33 holds 460 ∷ []) (writesFields (vector 115 30 31 32))
+    ∷ row "StorePV: the last three" untyped (op 38 61 33 0) (33 holds 828 ∷ []) (writesFields (vector 207 61 62 63))
+    ∷ row "StorePV: its third cell is the next entity's" untyped (op 38 30 33 0) (33 holds 412 ∷ []) (refused 31)
+    ∷ row "Address: (entity times cells per entity, plus field) times 4" untyped (op 30 40 41 50) (ofEntity1 10) (writes (50 holds 460 ∷ []))
+    ∷ row "Address: entity 0, field 0" untyped (op 30 40 41 50) (40 holds 0 ∷ 41 holds 0 ∷ []) (writes (50 holds 0 ∷ []))
+    ∷ row "Address: the last" untyped (op 30 40 41 50) (ofEntity1 104) (writes (50 holds 836 ∷ []))
+    ∷ row "Address: entity 2 of 2" untyped (op 30 40 41 50) (40 holds 2 ∷ 41 holds 105 ∷ []) (refused 30)
+    ∷ row "Address: field 105 of 105" untyped (op 30 40 41 50) (ofEntity1 105) (refused 31)
+    ∷ [])
+    ++ of loadOpcodes (λ o. row "no longer handed over: Load" typed (op o 36 64 0xffff) [] (refused 16))
+    ++ (row "no longer handed over: Address" typed (op 30 36 64 0xffff) [] (refused 16) ∷ [])
+    ++ of pointerStores (λ o. row "no longer handed over: StoreP" typed (op o 36 64 0xffff) [] (refused 18))
+
+-- the same, where an access that passes leads to this refusal
+abbrev passing : ℕ → List ℕ → List ℕ
+passing n [] = []
+passing n (zero ∷ xs) = n ∷ passing n xs
+passing n (suc m ∷ xs) = suc m ∷ passing n xs
+
+abbrev asPointer : List ℕ
+asPointer = 0 ∷ 16 ∷ 16 ∷ 16 ∷ 16 ∷ 16 ∷ 16 ∷ 16 ∷ 0 ∷ 16 ∷ []
+
+-- a Load and a StoreP of fields of entity 1: those that pass, and those that are refused 16
+abbrev fieldTypes : ℕ → ℕ → List ℕ → List ℕ → List Row
+fieldTypes load store pass fail =
+    of pass (λ f. row "Load of a field of its type" untyped (op load 40 41 50) (ofEntity1 f) (writes (50 holds (1105 + f) ∷ [])))
+    ++ of pass (λ f. row "StoreP of a field of its type" untyped (op store 30 33 0) (33 holds ((105 + f) * 4) ∷ []) (writesFields ((105 + f) holds 30 ∷ [])))
+    ++ of fail (λ f. row "Load of a field of another type" untyped (op load 40 41 50) (ofEntity1 f) (refused 16))
+    ++ of fail (λ f. row "StoreP of a field of another type" untyped (op store 30 33 0) (33 holds ((105 + f) * 4) ∷ []) (refused 16))
+
+-- "Typed accesses look up field definitions as `Entity::type_check` does, void ones passed over". An operand that passes leads to 30, since there is no
+-- entity 33, or to 32, since 33, 30 and 57 are no multiples of 4.
+abbrev fieldAccesses : List Row
+fieldAccesses =
+    types "Load, Address, entity" (30 ∷ loadOpcodes) first (passing 30 asEntity)
+    ∷ types "Load, Address, field" (30 ∷ loadOpcodes) second (passing 30 asField)
+    ∷ types "LoadF, LoadV, destination" (24 ∷ 25 ∷ []) third (passing 30 asFloat)
+    ∷ types "LoadS, destination" (26 ∷ []) third (passing 30 asString)
+    ∷ types "LoadEnt, destination" (27 ∷ []) third (passing 30 asEntity)
+    ∷ types "LoadFld, destination" (28 ∷ []) third (passing 30 asField)
+    ∷ types "LoadFnc, destination" (29 ∷ []) third (passing 30 asFunction)
+    ∷ types "Address, destination" (30 ∷ []) third (passing 30 asPointer)
+    ∷ types "StorePF, StorePV, source" (37 ∷ 38 ∷ []) source (passing 32 asFloat)
+    ∷ types "StorePS, source" (39 ∷ []) source (passing 32 asString)
+    ∷ types "StorePEnt, source" (40 ∷ []) source (passing 32 asEntity)
+    ∷ types "StorePFld, source" (41 ∷ []) source (passing 32 asField)
+    ∷ types "StorePFnc, source" (42 ∷ []) source (passing 32 asFunction)
+    ∷ types "StoreP, pointer" pointerStores destination (passing 32 asPointer)
+    ∷ fieldTypes 24 37 (31 ∷ 36 ∷ []) (30 ∷ 32 ∷ 33 ∷ 34 ∷ 35 ∷ 40 ∷ [])
+    ++ fieldTypes 25 38 [] (28 ∷ 29 ∷ 30 ∷ 31 ∷ 32 ∷ 33 ∷ 34 ∷ 35 ∷ 38 ∷ 39 ∷ 40 ∷ [])
+    ++ fieldTypes 26 39 (30 ∷ 40 ∷ []) (31 ∷ 32 ∷ 33 ∷ 34 ∷ 35 ∷ 36 ∷ [])
+    ++ fieldTypes 27 40 (32 ∷ []) (30 ∷ 31 ∷ 33 ∷ 34 ∷ 35 ∷ 36 ∷ 40 ∷ [])
+    ++ fieldTypes 28 41 (33 ∷ []) (30 ∷ 31 ∷ 32 ∷ 34 ∷ 35 ∷ 36 ∷ 40 ∷ [])
+    ++ fieldTypes 29 42 (34 ∷ []) (30 ∷ 31 ∷ 32 ∷ 33 ∷ 35 ∷ 36 ∷ 40 ∷ [])
+    ++ (row "LoadV of a vector" untyped (op 25 40 41 50) (ofEntity1 36) (writes (vector 50 1141 1142 1143))
+    ∷ row "StorePV of a vector" untyped (op 38 30 33 0) (33 holds 564 ∷ []) (writesFields (vector 141 30 31 32))
+    ∷ row "Address: of a field of any type" untyped (op 30 40 41 50) (ofEntity1 30) (writes (50 holds 540 ∷ []))
     ∷ [])
 
 -- "A vector checks its first cell as vector, then each of its three as float": 38 has a string for its second cell, 37 for its third; NotV and StoreV too
@@ -719,6 +820,7 @@ rows =
     (arithmetic ++ comparisons ++ nots ++ stores ++ jumps ++ entering ++ host)
     ++ (rounding ++ nans)
     ++ accesses
+    ++ (fieldStatements ++ fieldAccesses)
     ++ vectorCells
     ++ orders
     ++ (ordersOfTwo ++ unusedOperands ++ negatives ++ strings ++ vectorStores)
@@ -728,6 +830,7 @@ unfoldable computing : Unit {0}
 unfolding judge builtinNumber
     Ieee.ofBits Ieee.toBits Ieee.add Ieee.sub Ieee.mul Ieee.div Ieee.eq Ieee.ne Ieee.le Ieee.lt Ieee.round Ieee.toSigned Ieee.ofInt
     lookup scalar passes signed cellOf cellAccess vectorAccess access readAccess
+    withoutVoid fieldCellAccess fieldAccess valueMoved loadsEffect addressesEffect storesPEffect
     shapeOf floatsEffect valuesEffect vectorResult vectorsEffect vectorsToFloatEffect stringsEffect negatesEffect negatesVEffect negatesSEffect
     storesEffect storesVEffect branchesDo rounded absolute roundingOf roundingEffect callOf callDoes fetchConditions execute doesAt
 computing = tt
@@ -759,6 +862,10 @@ accesses-stand : Stand accesses
 unfolding computing
 accesses-stand = record { all-stand = tt }
 
+fields-stand : Stand (fieldStatements ++ fieldAccesses)
+unfolding computing
+fields-stand = record { all-stand = tt }
+
 vectors-stand : Stand vectorCells
 unfolding computing
 vectors-stand = record { all-stand = tt }
@@ -772,7 +879,7 @@ unfolding computing
 operands-stand = record { all-stand = tt }
 
 rows-stand : Stand rows
-rows-stand = opcodes-stand before floats-stand before accesses-stand before vectors-stand before orders-stand before operands-stand
+rows-stand = opcodes-stand before floats-stand before accesses-stand before fields-stand before vectors-stand before orders-stand before operands-stand
 
 pub statements-stand : T (all rows)
 statements-stand = rows-stand .all-stand

@@ -15,7 +15,7 @@ use Rattle.definition.specs.Checks.{judge, refused, accepted}
 use Rattle.definition.specs.File.{builtinNumber}
 use Rattle.definition.specs.Cells.{cellOf}
 use Rattle.definition.specs.Statements.{Does, next, calls, returns, refuses, handsOver, callOf}
-use Rattle.definition.specs.Machine.{Program, State, Config, limits, zeroFrame, present, copied, successive, arguments, copiesPresent}
+use Rattle.definition.specs.Machine.{Program, State, Config, entitiesFit, limits, zeroFrame, present, copied, successive, arguments, copiesPresent}
 use Rattle.definition.specs.Machine.{entryConditions, entered, leaveConditions, returnConditions, Stepped, completed, refusedStep, handedStep}
 use Rattle.definition.specs.Load.{each, recordConditions}
 use Rattle.definition.specs.Operations.{frameFunctions, enteredFunctions, allPresent, localsOf, sound, runConditions}
@@ -107,7 +107,7 @@ records =
 
 -- nothing of a program but its functions
 abbrev program : List FunctionDef → Program
-program functions = record { functions = functions; fetching = λ p. []; does = λ p cells. refuses 1; recorded = λ file lent. true }
+program functions = record { functions = functions; fetching = λ p. []; does = λ p e cells. refuses 1; recorded = λ file lent. true }
 
 -- in function 0, at this depth, with so many saved
 abbrev at : ℕ → ℕ → Config
@@ -120,10 +120,12 @@ at depth saved =
             function = 0;
             depth = depth;
             saved = saved;
+            entityCount = 0;
             frames = replicate 31 zeroFrame;
           };
       cells = numbers 64 0;
       saved = replicate 2048 0;
+      entities = [];
     }
 
 abbrev entering : FunctionDef → Config → ℕ
@@ -213,12 +215,12 @@ abbrev said : Stepped → List ℕ
 said s = let o = statementOutcome (at 1 0) s in letters (statementWord (o .answer)) ++ (statementDetail (o .answer) ∷ length (o .config .cells) ∷ [])
 
 abbrev stateNumbers : State → List ℕ
-stateNumbers s = s .file .length ∷ s .file .globals .count ∷ s .file .entityfields ∷ s .function ∷ s .depth ∷ s .saved ∷ length (s .frames) ∷ []
+stateNumbers s = s .file .length ∷ s .file .globals .count ∷ s .file .entityfields ∷ s .function ∷ s .depth ∷ s .saved ∷ s .entityCount ∷ length (s .frames) ∷ []
 
 abbrev refusedLoad : List ℕ
 refusedLoad =
-    let o = loadOutcome (7 ∷ 8 ∷ []) (9 ∷ []) (refused 4) in
-    refusalNumber (o .answer) ∷ o .config .cells ++ o .config .saved ++ stateNumbers (o .config .state)
+    let o = loadOutcome (7 ∷ 8 ∷ []) (9 ∷ []) (5 ∷ 6 ∷ []) (refused 4) in
+    refusalNumber (o .answer) ∷ o .config .cells ++ o .config .saved ++ o .config .entities ++ stateNumbers (o .config .state)
 
 -- "A refusal gives its number and leaves state and buffers"; "a handed-over answer says builtin with its number, or opcode with its number". The words are
 -- "refused", "builtin", "opcode" and "completed" in ASCII; a refused load leaves a state of zeros (docs/DECISIONS.md 4).
@@ -230,7 +232,7 @@ answers =
     ∷ row "a completed statement" (said (completed (at 1 0))) (99 ∷ 111 ∷ 109 ∷ 112 ∷ 108 ∷ 101 ∷ 116 ∷ 101 ∷ 100 ∷ 0 ∷ 64 ∷ [])
     ∷ row "a raw read" (readRefusal (readAnswer (accepted 7)) ∷ readValue (readAnswer (accepted 7)) ∷ []) (0 ∷ 7 ∷ [])
     ∷ row "a refused raw read" (readRefusal (readAnswer (refused 15)) ∷ readValue (readAnswer (refused 15)) ∷ []) (15 ∷ 0 ∷ [])
-    ∷ row "a refused load" refusedLoad (4 ∷ 7 ∷ 8 ∷ 9 ∷ 0 ∷ 0 ∷ 0 ∷ 0 ∷ 0 ∷ 0 ∷ 31 ∷ [])
+    ∷ row "a refused load" refusedLoad (4 ∷ 7 ∷ 8 ∷ 9 ∷ 5 ∷ 6 ∷ 0 ∷ 0 ∷ 0 ∷ 0 ∷ 0 ∷ 0 ∷ 0 ∷ 31 ∷ [])
     ∷ []
 
 abbrev pub rows : List Row
@@ -238,5 +240,5 @@ rows = records ++ entries ++ copies ++ called ++ leavings ++ runs ++ answers
 
 pub refusals-stand : T (all rows)
 unfolding judge builtinNumber cellOf callOf limits present copied successive arguments copiesPresent entryConditions entered leaveConditions
-    each recordConditions frameFunctions enteredFunctions allPresent localsOf sound runConditions
+    each recordConditions entitiesFit frameFunctions enteredFunctions allPresent localsOf sound runConditions
 refusals-stand = tt

@@ -1,5 +1,6 @@
--- After an accepted load the row of an operation alone decides whether it is refused: so 13 takes no acceptance away, and a run is begun, a cell read or
--- written, a function entered and a handed-over statement carried on from wherever the row's conditions hold.
+-- After an accepted load the row of an operation alone decides whether it is refused, as long as the host lends entity cells enough: so 13 takes no
+-- acceptance away, and a run is begun, a cell read or written, a function entered and a handed-over statement carried on from wherever the row's
+-- conditions hold.
 use Prim.Native.Nat.{ℕ, suc, _+_}
 use mathlib.Core.Path.{_≡_, subst}
 use mathlib.Core.Logic.{inr}
@@ -12,14 +13,15 @@ use Rattle.definition.specs.declared.RunAnswer.the-variants.{Refused}
 use Rattle.definition.specs.Checks.{Condition, Conditions, _otherwise_, judge, Checked, accepted, guard}
 use Rattle.definition.specs.File.{greatestLimit, fileOf}
 use Rattle.definition.specs.Statements.{placeOf}
-use Rattle.definition.specs.Machine.{Program, Config, countOf, limits, withCells, advanced, entryConditions, entered, step, Ran, runFor}
+use Rattle.definition.specs.Machine.{Program, Config, entitiesOf, countOf, limits, withCells, advanced, entryConditions, entered, step, Ran, runFor}
 use Rattle.definition.specs.Load.{load, programOf}
 use Rattle.definition.specs.Operations.{sound, natural, below, permitted, isHandedOver, hostEnter, statement, runConditions, run, carryOnConditions, carryOn, rawRead, rawWrite}
 use Rattle.definition.specs.Calls.{Call}
 use Rattle.definition.specs.Trace.{Always}
 use Rattle.definition.specs.CheckLaws.{All, FailsFirst, judge-all, judge-first, WhenAccepted}
-use Rattle.definition.specs.Invariant.{always}
-use Rattle.laws.specs.Sound.{Consistent, consistent-sound, consistent-inductive, loaded-consistent, AnyStep}
+use Rattle.definition.specs.Invariant.{always, roomIn}
+use Rattle.laws.specs.Entities.{Suffice, LendEnough, while-enough}
+use Rattle.laws.specs.Sound.{Consistent, consistent-sound, consistent-inductive, loaded-consistent, load-suffices, AnyStep}
 use Rattle.laws.specs.Exactly.{Exactly, exactly}
 
 -- what a run gives, exactly by these conditions
@@ -41,7 +43,7 @@ module _ (file : List ℕ) (c : Config) where
 
   -- "14, 7, then 27: that statement, with the cells as they now are, would not be handed over"
   abbrev pub carryOnRow : Conditions
-  carryOnRow = P .fetching (c .state .pc) ++ ((isHandedOver (P .does (c .state .pc) (c .cells)) otherwise 27) ∷ [])
+  carryOnRow = P .fetching (c .state .pc) ++ ((isHandedOver (P .does (c .state .pc) (entitiesOf c) (c .cells)) otherwise 27) ∷ [])
 
   abbrev place : ℤ → ℕ
   place f = placeOf (length (P .functions)) f
@@ -51,13 +53,13 @@ module _ (file : List ℕ) (c : Config) where
     pub enters : (f : ℤ) → Exactly (entryConditions P (place f) c) (entered P (place f) (c .state .pc) c) (hostEnter P f c)
     pub steps : statement P c ≡ step P c
     pub runs : (target limit : ℤ) → RunExactly (runRow target limit) c (runFor P (natural limit) (natural target) c) (run P target limit c)
-    pub carries : Exactly carryOnRow (advanced c (c .state .pc +ℤ pos 1) (c .cells)) (carryOn P c)
+    pub carries : Exactly carryOnRow (advanced c (c .state .pc +ℤ pos 1) (c .cells) (c .entities)) (carryOn P c)
     pub reads : (a : ℤ) → Exactly (rawRow a) (getD (c .cells) (natural a) 0) (rawRead P a c)
     pub writes : (a : ℤ) (v : ℕ) → Exactly (rawRow a) (withCells c (set (c .cells) (natural a) v)) (rawWrite P a v c)
 
-  module _ (k : Consistent file c) where
+  module _ (k : Consistent file c) (lent : Suffice file c) where
     passes : sound P c ≡ true
-    passes = consistent-sound file c k
+    passes = consistent-sound file c k lent
 
     without-13 : {A : Type 0} (cs : Conditions) (a : A) → Exactly cs a (guard ((sound P c otherwise 13) ∷ cs) a)
     unfolding guard judge
@@ -87,8 +89,17 @@ module _ (file : List ℕ) (c : Config) where
           writes = λ a v. by-count a _ _ (without-13 _ _);
         }
 
-pub row-always-decides : (file cells saved : List ℕ) (c : Config) → load file cells saved ≡ accepted c → (calls : List Call)
+pub row-always-decides : (file : List ℕ) (n : ℤ) (cells saved entities : List ℕ) (c : Config) → load file n cells saved entities ≡ accepted c
+    → (calls : List Call)
+    → Always file AnyStep (λ c′ l. Suffice file c′ → RowDecides file c′) c [] calls
+row-always-decides file n cells saved entities c accepts calls =
+    always file (λ c′ l. Consistent file c′) AnyStep (consistent-inductive file) (λ c′ l. Suffice file c′ → RowDecides file c′) (λ c′ l k lent. decides file c′ k lent)
+    c [] calls (subst (WhenAccepted (Consistent file)) accepts (loaded-consistent file n cells saved entities))
+
+-- so in a list in which every lending is of entity cells enough, or in one without lendings, it always decides
+pub row-decides-lent : (file : List ℕ) (n : ℤ) (cells saved entities : List ℕ) (c : Config) → load file n cells saved entities ≡ accepted c
+    → (calls : List Call) → LendEnough (roomIn file c) calls
     → Always file AnyStep (λ c′ l. RowDecides file c′) c [] calls
-row-always-decides file cells saved c accepts calls =
-    always file (λ c′ l. Consistent file c′) AnyStep (consistent-inductive file) (λ c′ l. RowDecides file c′) (λ c′ l k. decides file c′ k)
-    c [] calls (subst (WhenAccepted (Consistent file)) accepts (loaded-consistent file cells saved))
+row-decides-lent file n cells saved entities c accepts calls lent =
+    while-enough file AnyStep (λ c′ l. Suffice file c′ → RowDecides file c′) (λ c′ l. RowDecides file c′) (λ c′ l decides enough. decides enough)
+    c [] calls (load-suffices file n cells saved entities c accepts) lent (row-always-decides file n cells saved entities c accepts calls)

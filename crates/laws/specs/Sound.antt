@@ -1,5 +1,6 @@
--- After an accepted load check 13 refuses no call of any list, and what the load records stays. So demand 3 does not hold merely because calls are refused.
-use Prim.Native.Nat.{ℕ, zero, suc, _+_, _-_, _≤_, _<_}
+-- After an accepted load check 13 refuses no call of any list, as long as the host lends entity cells enough, and what the load records stays. So demand 3
+-- does not hold merely because calls are refused.
+use Prim.Native.Nat.{ℕ, zero, suc, _+_, _-_, _*_, _≤_, _<_}
 use mathlib.Core.Path.{_≡_, refl, sym, _∙_, ap, subst}
 use mathlib.Core.List.{List, [], _∷_, _++_}
 use mathlib.Core.Bool.{Bool, true, false, not, _&&_}
@@ -14,20 +15,22 @@ use Rattle.definition.specs.declared.FileRecord.{FileRecord}
 use Rattle.definition.specs.declared.FunctionDef.{FunctionDef}
 use Rattle.definition.specs.declared.StackFrame.{StackFrame}
 use Rattle.definition.specs.Checks.{Condition, Conditions, Checked, refused, accepted, guard}
-use Rattle.definition.specs.File.{leastCells, savedStore, greatestDepth, negative, fileOf, contentsOf, lengthFits, lumpsFit, cellsFit, entityFits}
-use Rattle.definition.specs.Machine.{Program, functionOf, State, Config, countOf, limits, zeroFrame, startState, present, copied, successive, argumentsOf, withCells, advanced}
+use Rattle.definition.specs.File.{leastCells, savedStore, mostEntities, greatestDepth, negative, fileOf, contentsOf, lengthFits, lumpsFit, cellsFit, entityFits, contentsAt}
+use Rattle.definition.specs.Machine.{Program, functionOf, State, Config, countOf, limits, zeroFrame, startState, entitiesFit, present, copied, successive, argumentsOf, withCells, advanced}
 use Rattle.definition.specs.Machine.{entryConditions, entered, leaveConditions, left, returnConditions, returned}
-use Rattle.definition.specs.Load.{headerConditions, recordConditions, cellConditions, loadConditions, loaded, load, sameLump, sameFile, recordedIn, programAt, programOf}
+use Rattle.definition.specs.Load.{headerConditions, recordConditions, cellConditions, loadConditions, loaded, entitiesGiven, load, sameLump, sameFile, recordedIn, programAt, programOf}
 use Rattle.definition.specs.Operations.{frameFunctions, enteredAt, enteredFunctions, allPresent, localsOf, sound}
 use Rattle.definition.specs.Calls.{Call}
 use Rattle.definition.specs.Log.{Log, Kind, entry, leaving, other}
-use Rattle.definition.specs.Trace.{StepProperty, Always}
+use Rattle.definition.specs.Trace.{StepProperty, StateProperty, Always}
 use Rattle.definition.specs.CheckLaws.{All, and-left, and-right, and-both, WhenAccepted, guarded}
 use Rattle.definition.specs.Parts.{Present, present-true, present-more, present-source, length-pasted, length-copied}
 use Rattle.definition.specs.RecordLaws.{length-globals}
 use Rattle.definition.specs.LoadLaws.{load-rows}
 use Rattle.definition.specs.StatementLaws.{Keeps}
-use Rattle.definition.specs.Invariant.{Preserves, Inductive, always}
+use Rattle.definition.specs.Invariant.{Preserves, Inductive, always, roomIn}
+use Rattle.laws.specs.Starts.{load-starts}
+use Rattle.laws.specs.Entities.{Suffice, LendEnough, while-enough}
 
 -- ---- the entered functions, after an entry and after a leaving
 
@@ -66,6 +69,7 @@ pub record Consistent (file : List ℕ) (c : Config) : Type 0 where
   pub long : savedStore ≤ length (c .saved)
   pub recorded : c .state .file ≡ fileOf file
   pub enough : countOf c ≤ length (c .cells)
+  pub few : c .state .entityCount ≤ mostEntities
   pub in-range : (lengthFits (fileOf file) && lumpsFit (fileOf file) && cellsFit leastCells (fileOf file) && entityFits (fileOf file)) ≡ true
 
 same-number : (n : ℕ) → eqb n n ≡ true
@@ -95,12 +99,19 @@ consistent-recorded file c k =
     let lent : leb (r .globals .count) (length (c .cells)) ≡ true = le-leb _ _ (rw (k .recorded) at (k .enough)) in
     rw (k .recorded, same-file r, lent) (and-both _ true (k .in-range) refl)
 
-pub consistent-sound : (file : List ℕ) (c : Config) → Consistent file c → sound (programOf file) c ≡ true
+consistent-entities : (file : List ℕ) (c : Config) → Consistent file c → Suffice file c
+    → entitiesFit (c .state .entityCount) (c .state .file .entityfields) (length (c .entities)) ≡ true
+unfolding entitiesFit contentsAt
+consistent-entities file c k lent =
+    rw (k .recorded, le-leb (c .state .entityCount) mostEntities (k .few)) (le-leb _ _ lent)
+
+pub consistent-sound : (file : List ℕ) (c : Config) → Consistent file c → Suffice file c → sound (programOf file) c ≡ true
 unfolding sound limits programAt
-consistent-sound file c k =
+consistent-sound file c k lent =
     rw (
       consistent-recorded file c k,
       le-leb savedStore (length (c .saved)) (k .long),
+      consistent-entities file c k lent,
       le-leb (c .state .depth) greatestDepth (k .stack .depth-most),
       k .stack .all,
       le-leb (c .state .saved) savedStore (k .stack .saved-most),
@@ -109,10 +120,11 @@ consistent-sound file c k =
 
 -- ---- preserved by every small step
 
--- only the position and cells of the same number change
-pub advanced-consistent : (file : List ℕ) (c : Config) (p : ℤ) (cells : List ℕ) → length cells ≡ length (c .cells) → Consistent file c → Consistent file (advanced c p cells)
+-- only the position, cells of the same number and entity cells change
+pub advanced-consistent : (file : List ℕ) (c : Config) (p : ℤ) (cells entities : List ℕ) → length cells ≡ length (c .cells) → Consistent file c
+    → Consistent file (advanced c p cells entities)
 unfolding enteredFunctions
-advanced-consistent file c p cells e k =
+advanced-consistent file c p cells entities e k =
     record {
       stack =
           record {
@@ -125,6 +137,7 @@ advanced-consistent file c p cells e k =
       long = k .long;
       recorded = k .recorded;
       enough = omega (arith, e, k .enough);
+      few = k .few;
       in-range = k .in-range;
     }
 
@@ -160,6 +173,7 @@ entered-consistent file c f back k h =
       long = omega (arith, same, k .long);
       recorded = k .recorded;
       enough = omega (arith, length-copied (argumentsOf d) (c .cells), k .enough);
+      few = k .few;
       in-range = k .in-range;
     }
 
@@ -205,6 +219,7 @@ left-consistent file c k h =
       long = k .long;
       recorded = k .recorded;
       enough = omega (arith, k .enough, length-pasted (c .cells) (d .start) (drop (s .saved - d .locals) (c .saved)) (d .locals) there source);
+      few = k .few;
       in-range = k .in-range;
     }
 
@@ -216,13 +231,14 @@ pub returned-consistent : (file : List ℕ) (c : Config) (a : ℕ) → Consisten
 unfolding leaveConditions
 returned-consistent file c a k h =
     let cells = copied (successive 3 a 1) (c .cells) in
-    left-consistent file (withCells c cells) (advanced-consistent file c (c .state .pc) cells (length-copied (successive 3 a 1) (c .cells)) k) (h .1)
+    left-consistent file (withCells c cells) (advanced-consistent file c (c .state .pc) cells (c .entities) (length-copied (successive 3 a 1) (c .cells)) k) (h .1)
 
 pub consistent-inductive : (file : List ℕ) → Inductive file (λ c l. Consistent file c) AnyStep
 consistent-inductive file =
     record {
-      plain = λ c l p cells k keeps. (tt, advanced-consistent file c p cells (keeps .same-length) k);
-      writing = λ c l a v k h. (tt, advanced-consistent file c (c .state .pc) (set (c .cells) a v) (length-set (c .cells) a v) k);
+      plain = λ c l p cells entities k keeps puts. (tt, advanced-consistent file c p cells entities (keeps .same-length) k);
+      writing = λ c l a v k h. (tt, advanced-consistent file c (c .state .pc) (set (c .cells) a v) (c .entities) (length-set (c .cells) a v) k);
+      lending = λ c l entities k. (tt, advanced-consistent file c (c .state .pc) (c .cells) entities refl k);
       entering = λ c l f back k h. (tt, entered-consistent file c f back k h);
       returning = λ c l a k h. (tt, returned-consistent file c a k h);
       leave-one = λ c l k h. (tt, left-consistent file c k h);
@@ -230,18 +246,19 @@ consistent-inductive file =
 
 -- ---- the load
 
-pub loaded-consistent : (file cells saved : List ℕ) → WhenAccepted (Consistent file) (load file cells saved)
-unfolding load loaded headerConditions cellConditions enteredFunctions allPresent localsOf
-loaded-consistent file cells saved =
+pub loaded-consistent : (file : List ℕ) (n : ℤ) (cells saved entities : List ℕ) → WhenAccepted (Consistent file) (load file n cells saved entities)
+unfolding load loaded headerConditions cellConditions entitiesFit enteredFunctions allPresent localsOf
+loaded-consistent file n cells saved entities =
     guarded (Consistent file) _ _ λ h.
     let r = fileOf file in
     let k = contentsOf file in
-    let rows = load-rows file (length cells) (length saved) h in
+    let rows = load-rows file (entitiesGiven n) (length cells) (length saved) (length entities) h in
     record {
       stack = record { room = omega (arith, length-replicate greatestDepth zeroFrame); depth-most = omega arith; all = refl; sum = refl; saved-most = omega arith };
       long = leb-true savedStore (length saved) (and-right (leb (r .globals .count) (length cells)) (leb savedStore (length saved)) (rows .cells .1 .1 .0));
       recorded = refl;
       enough = omega (arith, length-append (k .globals) (drop (r .globals .count) cells), length-globals file);
+      few = leb-true _ _ (and-left (leb (entitiesGiven n) mostEntities) _ (rows .fields .0));
       in-range =
           and-both (lengthFits r && lumpsFit r && cellsFit leastCells r) (entityFits r)
           (and-both (lengthFits r && lumpsFit r) (cellsFit leastCells r) (and-both (lengthFits r) (lumpsFit r) (rows .header .0) (rows .header .1 .1 .1 .0)) (rows .cells .0))
@@ -250,13 +267,52 @@ loaded-consistent file cells saved =
 
 -- what holds of every state that a list of calls reaches
 pub record AsLoaded (file : List ℕ) (c : Config) (l : Log) : Type 0 where
-  -- check 13 does not refuse
-  pub passes : sound (programOf file) c ≡ true
+  -- check 13 does not refuse, where the lent entity cells suffice
+  pub passes : Suffice file c → sound (programOf file) c ≡ true
   -- what the load records stays
   pub recorded : c .state .file ≡ fileOf file
 
-pub never-13 : (file cells saved : List ℕ) (c : Config) → load file cells saved ≡ accepted c → (calls : List Call) → Always file AnyStep (AsLoaded file) c [] calls
-never-13 file cells saved c accepts calls =
+pub never-13 : (file : List ℕ) (n : ℤ) (cells saved entities : List ℕ) (c : Config) → load file n cells saved entities ≡ accepted c → (calls : List Call)
+    → Always file AnyStep (AsLoaded file) c [] calls
+never-13 file n cells saved entities c accepts calls =
     always file (λ c′ l. Consistent file c′) AnyStep (consistent-inductive file) (AsLoaded file)
     (λ c′ l k. record { passes = consistent-sound file c′ k; recorded = k .recorded })
-    c [] calls (subst (WhenAccepted (Consistent file)) accepts (loaded-consistent file cells saved))
+    c [] calls (subst (WhenAccepted (Consistent file)) accepts (loaded-consistent file n cells saved entities))
+
+loaded-suffices : (file : List ℕ) (n : ℤ) (cells saved entities : List ℕ) → WhenAccepted (Suffice file) (load file n cells saved entities)
+unfolding load loaded entitiesFit contentsAt
+loaded-suffices file n cells saved entities =
+    guarded (Suffice file) _ _ λ h.
+    let rows = load-rows file (entitiesGiven n) (length cells) (length saved) (length entities) h in
+    leb-true _ _ (and-right (leb (entitiesGiven n) mostEntities) (leb (entitiesGiven n * fileOf file .entityfields) (length entities)) (rows .fields .0))
+
+-- the lent entity cells of an accepted load suffice
+pub load-suffices : (file : List ℕ) (n : ℤ) (cells saved entities : List ℕ) (c : Config) → load file n cells saved entities ≡ accepted c → Suffice file c
+load-suffices file n cells saved entities c accepts = subst (WhenAccepted (Suffice file)) accepts (loaded-suffices file n cells saved entities)
+
+-- "their number given at load and kept in the state"
+number-inductive : (file : List ℕ) (n : ℤ) → Inductive file (λ c l. pos (c .state .entityCount) ≡ n) AnyStep
+unfolding entered left
+number-inductive file n =
+    record {
+      plain = λ c l p cells entities k keeps puts. (tt, k);
+      writing = λ c l a v k h. (tt, k);
+      lending = λ c l entities k. (tt, k);
+      entering = λ c l f back k h. (tt, k);
+      returning = λ c l a k h. (tt, k);
+      leave-one = λ c l k h. (tt, k);
+    }
+
+pub number-kept : (file : List ℕ) (n : ℤ) (cells saved entities : List ℕ) (c : Config) → load file n cells saved entities ≡ accepted c → (calls : List Call)
+    → Always file AnyStep (λ c′ l. pos (c′ .state .entityCount) ≡ n) c [] calls
+number-kept file n cells saved entities c accepts calls =
+    let same-number : StateProperty = λ c′ l. pos (c′ .state .entityCount) ≡ n in
+    always file same-number AnyStep (number-inductive file n) same-number (λ c′ l k. k) c [] calls (load-starts file n cells saved entities c accepts .entity-count)
+
+-- so 13 refuses no call of a list in which every lending is of entity cells enough, nor of one without lendings
+pub never-13-lent : (file : List ℕ) (n : ℤ) (cells saved entities : List ℕ) (c : Config) → load file n cells saved entities ≡ accepted c
+    → (calls : List Call) → LendEnough (roomIn file c) calls
+    → Always file AnyStep (λ c′ l. sound (programOf file) c′ ≡ true) c [] calls
+never-13-lent file n cells saved entities c accepts calls lent =
+    while-enough file AnyStep (AsLoaded file) (λ c′ l. sound (programOf file) c′ ≡ true) (λ c′ l k enough. k .passes enough)
+    c [] calls (load-suffices file n cells saved entities c accepts) lent (never-13 file n cells saved entities c accepts calls)

@@ -1,25 +1,26 @@
 -- What an accepted load leaves, field by field, and the sizes that it takes: those too that no row of the table can compute with. Limits are written
 -- here, in Loadable and in Thirteen as the numbers of 01, not by the definition's names: a name with another value would be refused here.
-use Prim.Native.Nat.{ℕ, _≤_, _<_}
+use Prim.Native.Nat.{ℕ, _*_, _≤_, _<_}
 use mathlib.Core.Path.{_≡_, refl, subst}
 use mathlib.Core.List.{List, _++_}
-use mathlib.Core.Bool.{true}
+use mathlib.Core.Bool.{true, false}
 use native.Mathlib.Omega.{arith}
 use borrow.Author.Tests.{leb-true, le-leb, lt-leb}
-use lib.IntN.{pos}
+use lib.IntN.{ℤ, pos, negsuc}
 use lib.ListN.{length, take, drop, replicate}
 use lib.Seq.{take-at, drop-at}
 use lib.Dec.{leb}
 use Rattle.definition.specs.Checks.{Condition, Conditions, judge, refused, accepted, guard}
 use Rattle.definition.specs.File.{fileOf, contentsOf, lengthFits, leastCells, cellsFit}
-use Rattle.definition.specs.Machine.{Config}
-use Rattle.definition.specs.Load.{headerConditions, recordConditions, cellConditions, loaded, load}
+use Rattle.definition.specs.Machine.{Config, entitiesFit}
+use Rattle.definition.specs.Load.{headerConditions, recordConditions, cellConditions, loaded, entitiesGiven, load}
 use Rattle.definition.specs.CheckLaws.{All, and-left, and-right, WhenAccepted, guarded}
 use Rattle.definition.specs.RecordLaws.{length-globals}
 use Rattle.definition.specs.LoadLaws.{load-rows}
 
--- "A load fills the lent cells from 0 and leaves those past the file's count. Position, function and depths start at 0. Frames start as zeros"
-pub record Started (file cells saved : List ℕ) (c : Config) : Type 0 where
+-- "A load fills the lent cells from 0 and leaves those past the file's count. Position, function and depths start at 0. Frames start as zeros"; R-3: the
+-- entities' "number given at load and kept in the state", and the entity cells "are untouched, by a load too"
+pub record Started (file : List ℕ) (n : ℤ) (cells saved entities : List ℕ) (c : Config) : Type 0 where
   pub recorded : c .state .file ≡ fileOf file
   pub position : c .state .pc ≡ pos 0
   pub function : c .state .function ≡ 0
@@ -29,12 +30,20 @@ pub record Started (file cells saved : List ℕ) (c : Config) : Type 0 where
   pub filled : take (fileOf file .globals .count) (c .cells) ≡ contentsOf file .globals
   pub past : drop (fileOf file .globals .count) (c .cells) ≡ drop (fileOf file .globals .count) cells
   pub store : c .saved ≡ saved
+  pub entity-count : pos (c .state .entityCount) ≡ n
+  pub entity-cells : c .entities ≡ entities
 
-when-accepted-starts : (file cells saved : List ℕ) → WhenAccepted (Started file cells saved) (load file cells saved)
-unfolding load loaded
-when-accepted-starts file cells saved =
-    guarded (Started file cells saved) _ _ λ h.
-    let n = fileOf file .globals .count in
+-- a negative number of entities is not accepted
+given : (n : ℤ) → entitiesGiven n ≤ 600 → pos (entitiesGiven n) ≡ n
+given (pos i) h = refl
+given (negsuc i) h = absurd (omega arith)
+
+when-accepted-starts : (file : List ℕ) (n : ℤ) (cells saved entities : List ℕ) → WhenAccepted (Started file n cells saved entities) (load file n cells saved entities)
+unfolding load loaded entitiesFit
+when-accepted-starts file n cells saved entities =
+    guarded (Started file n cells saved entities) _ _ λ h.
+    let count = fileOf file .globals .count in
+    let rows = load-rows file (entitiesGiven n) (length cells) (length saved) (length entities) h in
     record {
       recorded = refl;
       position = refl;
@@ -42,24 +51,26 @@ when-accepted-starts file cells saved =
       depth = refl;
       saved-count = refl;
       frames = refl;
-      filled = take-at (contentsOf file .globals) (drop n cells) n (length-globals file);
-      past = drop-at (contentsOf file .globals) (drop n cells) n (length-globals file);
+      filled = take-at (contentsOf file .globals) (drop count cells) count (length-globals file);
+      past = drop-at (contentsOf file .globals) (drop count cells) count (length-globals file);
       store = refl;
+      entity-count = given n (leb-true _ _ (and-left (leb (entitiesGiven n) 600) _ (rows .fields .0)));
+      entity-cells = refl;
     }
 
-pub load-starts : (file cells saved : List ℕ) (c : Config) → load file cells saved ≡ accepted c → Started file cells saved c
-load-starts file cells saved c accepts = subst (WhenAccepted (Started file cells saved)) accepts (when-accepted-starts file cells saved)
+pub load-starts : (file : List ℕ) (n : ℤ) (cells saved entities : List ℕ) (c : Config) → load file n cells saved entities ≡ accepted c → Started file n cells saved entities c
+load-starts file n cells saved entities c accepts = subst (WhenAccepted (Started file n cells saved entities)) accepts (when-accepted-starts file n cells saved entities)
 
 -- ---- sizes
 
 -- "1: length under 60 or over 1,048,576"
-pub too-short : (file cells saved : List ℕ) → length file < 60 → load file cells saved ≡ refused 1
+pub too-short : (file : List ℕ) (n : ℤ) (cells saved entities : List ℕ) → length file < 60 → load file n cells saved entities ≡ refused 1
 unfolding load guard judge headerConditions fileOf
-too-short file cells saved h = rw (lt-leb 60 (length file) h)
+too-short file n cells saved entities h = rw (lt-leb 60 (length file) h)
 
-pub too-long : (file cells saved : List ℕ) → 1048576 < length file → load file cells saved ≡ refused 1
+pub too-long : (file : List ℕ) (n : ℤ) (cells saved entities : List ℕ) → 1048576 < length file → load file n cells saved entities ≡ refused 1
 unfolding load guard judge headerConditions fileOf
-too-long file cells saved h = rw (le-leb 60 (length file) (omega arith), lt-leb (length file) 1048576 h)
+too-long file n cells saved entities h = rw (le-leb 60 (length file) (omega arith), lt-leb (length file) 1048576 h)
 
 -- and no other length is refused 1
 pub length-fits : (file : List ℕ) → 60 ≤ length file → length file ≤ 1048576 → lengthFits (fileOf file) ≡ true
@@ -70,8 +81,13 @@ length-fits file low high = rw (le-leb 60 (length file) low, le-leb (length file
 pub cells-fit : (file : List ℕ) → 36 ≤ fileOf file .globals .count → fileOf file .globals .count ≤ 32768 → cellsFit leastCells (fileOf file) ≡ true
 cells-fit file low high = rw (le-leb 36 (fileOf file .globals .count) low, le-leb (fileOf file .globals .count) 32768 high)
 
+-- R-3: "More than 600 entities .. are refused 13", however many entity cells are lent
+pub too-many-entities : (n size lent : ℕ) → 600 < n → entitiesFit n size lent ≡ false
+unfolding entitiesFit
+too-many-entities n size lent h = rw (lt-leb n 600 h)
+
 -- the sizes of what an accepted load was given
-pub record Sizes (file cells saved : List ℕ) : Type 0 where
+pub record Sizes (file : List ℕ) (n : ℤ) (cells saved entities : List ℕ) : Type 0 where
   pub length-least : 60 ≤ length file
   pub length-most : length file ≤ 1048576
   pub cells-least : 36 ≤ fileOf file .globals .count
@@ -79,23 +95,27 @@ pub record Sizes (file cells saved : List ℕ) : Type 0 where
   pub entity-least : 105 ≤ fileOf file .entityfields
   pub lent : fileOf file .globals .count ≤ length cells
   pub store : 2048 ≤ length saved
+  pub entities-most : entitiesGiven n ≤ 600
+  pub entities-lent : entitiesGiven n * fileOf file .entityfields ≤ length entities
 
-when-accepted-sizes : (file cells saved : List ℕ) → WhenAccepted (λ (c : Config). Sizes file cells saved) (load file cells saved)
-unfolding load headerConditions cellConditions fileOf
-when-accepted-sizes file cells saved =
-    guarded (λ (c : Config). Sizes file cells saved) _ _ λ h.
+when-accepted-sizes : (file : List ℕ) (n : ℤ) (cells saved entities : List ℕ) → WhenAccepted (λ (c : Config). Sizes file n cells saved entities) (load file n cells saved entities)
+unfolding load headerConditions cellConditions entitiesFit fileOf
+when-accepted-sizes file n cells saved entities =
+    guarded (λ (c : Config). Sizes file n cells saved entities) _ _ λ h.
     let r = fileOf file in
-    let n = r .globals .count in
-    let rows = load-rows file (length cells) (length saved) h in
+    let count = r .globals .count in
+    let rows = load-rows file (entitiesGiven n) (length cells) (length saved) (length entities) h in
     record {
       length-least = leb-true 60 (length file) (and-left (leb 60 (length file)) (leb (length file) 1048576) (rows .header .0));
       length-most = leb-true (length file) 1048576 (and-right (leb 60 (length file)) (leb (length file) 1048576) (rows .header .0));
-      cells-least = leb-true 36 n (and-left (leb 36 n) (leb n 32768) (rows .cells .0));
-      cells-most = leb-true n 32768 (and-right (leb 36 n) (leb n 32768) (rows .cells .0));
+      cells-least = leb-true 36 count (and-left (leb 36 count) (leb count 32768) (rows .cells .0));
+      cells-most = leb-true count 32768 (and-right (leb 36 count) (leb count 32768) (rows .cells .0));
       entity-least = leb-true 105 (r .entityfields) (and-left (leb 105 (r .entityfields)) _ (rows .cells .1 .0));
-      lent = leb-true n (length cells) (and-left (leb n (length cells)) (leb 2048 (length saved)) (rows .cells .1 .1 .0));
-      store = leb-true 2048 (length saved) (and-right (leb n (length cells)) (leb 2048 (length saved)) (rows .cells .1 .1 .0));
+      lent = leb-true count (length cells) (and-left (leb count (length cells)) (leb 2048 (length saved)) (rows .cells .1 .1 .0));
+      store = leb-true 2048 (length saved) (and-right (leb count (length cells)) (leb 2048 (length saved)) (rows .cells .1 .1 .0));
+      entities-most = leb-true _ _ (and-left (leb (entitiesGiven n) 600) (leb (entitiesGiven n * r .entityfields) (length entities)) (rows .fields .0));
+      entities-lent = leb-true _ _ (and-right (leb (entitiesGiven n) 600) (leb (entitiesGiven n * r .entityfields) (length entities)) (rows .fields .0));
     }
 
-pub load-sizes : (file cells saved : List ℕ) (c : Config) → load file cells saved ≡ accepted c → Sizes file cells saved
-load-sizes file cells saved c accepts = subst (WhenAccepted (λ (c : Config). Sizes file cells saved)) accepts (when-accepted-sizes file cells saved)
+pub load-sizes : (file : List ℕ) (n : ℤ) (cells saved entities : List ℕ) (c : Config) → load file n cells saved entities ≡ accepted c → Sizes file n cells saved entities
+load-sizes file n cells saved entities c accepts = subst (WhenAccepted (λ (c : Config). Sizes file n cells saved entities)) accepts (when-accepted-sizes file n cells saved entities)

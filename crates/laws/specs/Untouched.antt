@@ -13,9 +13,9 @@ use lib.Seq.{paste, length-paste, drop-paste, take-at, drop-at, length-take-le, 
 use lib.Dec.{leb, ltb}
 use Rattle.definition.specs.Checks.{Condition, Conditions, Checked, refused, accepted, guard}
 use Rattle.definition.specs.File.{leastCells, mostCells, savedStore, negative, fileOf, contentsOf, lengthFits, lumpsFit, cellsFit, entityFits}
-use Rattle.definition.specs.Machine.{Program, functionOf, Config, countOf, limits, present, Copy, copied, successive, argumentsOf, copiesPresent, withCells, advanced}
+use Rattle.definition.specs.Machine.{Program, functionOf, Config, countOf, limits, present, Copy, copied, successive, argumentsOf, copiesPresent, withCells, withEntities, advanced}
 use Rattle.definition.specs.Machine.{entryConditions, entered, leaveConditions, left, returnConditions, returned}
-use Rattle.definition.specs.Load.{headerConditions, recordConditions, cellConditions, loadConditions, loaded, load, programOf}
+use Rattle.definition.specs.Load.{headerConditions, recordConditions, cellConditions, loadConditions, loaded, entitiesGiven, load, programOf}
 use Rattle.definition.specs.Calls.{Call}
 use Rattle.definition.specs.Log.{Log, Kind, entry, leaving, other}
 use Rattle.definition.specs.Trace.{StepProperty, Always}
@@ -23,7 +23,7 @@ use Rattle.definition.specs.CheckLaws.{All, and-left, and-right, WhenAccepted, 
 use Rattle.definition.specs.Parts.{Present, present-true, present-more, present-source, paste-none, length-pasted, drop-pasted, length-copied, drop-copied}
 use Rattle.definition.specs.RecordLaws.{length-globals}
 use Rattle.definition.specs.LoadLaws.{load-rows}
-use Rattle.definition.specs.StatementLaws.{Keeps}
+use Rattle.definition.specs.StatementLaws.{Keeps, keeps-all}
 use Rattle.definition.specs.Invariant.{Preserves, Inductive, always}
 use Rattle.laws.specs.Sound.{StackConsistent, Consistent, advanced-consistent, entered-consistent, left-consistent, returned-consistent, loaded-consistent}
 
@@ -178,14 +178,17 @@ module _ (file lent : List ℕ) where
   touches-inductive : Inductive file (λ c l. SinceLoad file lent c) (Touches file)
   touches-inductive =
       record {
-        plain = λ c l p cells k keeps.
-            keeps-preserves other c l (advanced c p cells) k (subst (λ (n : ℕ). Keeps n (c .cells) cells) (length-globals file) keeps) refl
-            (advanced-consistent file c p cells (keeps .same-length) (k .consistent));
+        plain = λ c l p cells entities k keeps puts.
+            keeps-preserves other c l (advanced c p cells entities) k (subst (λ (n : ℕ). Keeps n (c .cells) cells) (length-globals file) keeps) refl
+            (advanced-consistent file c p cells entities (keeps .same-length) (k .consistent));
         writing = λ c l a v k h.
             keeps-preserves other c l (withCells c (set (c .cells) a v)) k
             (record { same-length = length-set (c .cells) a v; same-above = drop-set-lt count (c .cells) a v (omega (arith, count-is c (k .consistent), h)) })
             refl
-            (advanced-consistent file c (c .state .pc) (set (c .cells) a v) (length-set (c .cells) a v) (k .consistent));
+            (advanced-consistent file c (c .state .pc) (set (c .cells) a v) (c .entities) (length-set (c .cells) a v) (k .consistent));
+        lending = λ c l entities k.
+            keeps-preserves other c l (withEntities c entities) k (keeps-all count (c .cells)) refl
+            (advanced-consistent file c (c .state .pc) (c .cells) entities refl (k .consistent));
         entering = entered-touches;
         returning = returned-touches;
         leave-one = left-touches;
@@ -212,18 +215,18 @@ returned-only P a c =
     }
 
 -- a load fills the lent cells from 0 and leaves those past the file's count
-loaded-keeps : (file cells saved : List ℕ) → WhenAccepted (λ (c : Config). Keeps (fileOf file .globals .count) cells (c .cells)) (load file cells saved)
+loaded-keeps : (file : List ℕ) (n : ℤ) (cells saved entities : List ℕ) → WhenAccepted (λ (c : Config). Keeps (fileOf file .globals .count) cells (c .cells)) (load file n cells saved entities)
 unfolding load loaded cellConditions
-loaded-keeps file cells saved =
+loaded-keeps file n cells saved entities =
     guarded (λ (c : Config). Keeps (fileOf file .globals .count) cells (c .cells)) _ _ λ h.
     let r = fileOf file in
-    let n = r .globals .count in
+    let count = r .globals .count in
     let k = contentsOf file in
-    let rows = load-rows file (length cells) (length saved) h in
-    let lent : n ≤ length cells = leb-true n (length cells) (and-left (leb n (length cells)) (leb savedStore (length saved)) (rows .cells .1 .1 .0)) in
+    let rows = load-rows file (entitiesGiven n) (length cells) (length saved) (length entities) h in
+    let lent : count ≤ length cells = leb-true count (length cells) (and-left (leb count (length cells)) (leb savedStore (length saved)) (rows .cells .1 .1 .0)) in
     record {
-      same-length = omega (arith, lent, length-append (k .globals) (drop n cells), length-globals file, length-drop n cells);
-      same-above = drop-at (k .globals) (drop n cells) n (length-globals file);
+      same-length = omega (arith, lent, length-append (k .globals) (drop count cells), length-globals file, length-drop count cells);
+      same-above = drop-at (k .globals) (drop count cells) count (length-globals file);
     }
 
 since-load : (file cells : List ℕ) (x : Checked Config) → WhenAccepted (Consistent file) x
@@ -232,10 +235,10 @@ since-load file cells (refused n) s k = tt
 since-load file cells (accepted c) s k = record { consistent = s; kept = k }
 
 -- of the cells lent to the load: their number, and those from the file's count on, stay
-pub untouched : (file cells saved : List ℕ) (c : Config) → load file cells saved ≡ accepted c → (calls : List Call)
+pub untouched : (file : List ℕ) (n : ℤ) (cells saved entities : List ℕ) (c : Config) → load file n cells saved entities ≡ accepted c → (calls : List Call)
     → Always file (Touches file) (λ c′ l. Keeps (fileOf file .globals .count) cells (c′ .cells)) c [] calls
-untouched file cells saved c accepts calls =
+untouched file n cells saved entities c accepts calls =
     always file (λ c′ l. SinceLoad file cells c′) (Touches file) (touches-inductive file cells) (λ c′ l. Keeps (fileOf file .globals .count) cells (c′ .cells))
     (λ c′ l k. k .kept)
     c [] calls
-    (subst (WhenAccepted (SinceLoad file cells)) accepts (since-load file cells (load file cells saved) (loaded-consistent file cells saved) (loaded-keeps file cells saved)))
+    (subst (WhenAccepted (SinceLoad file cells)) accepts (since-load file cells (load file n cells saved entities) (loaded-consistent file n cells saved entities) (loaded-keeps file n cells saved entities)))

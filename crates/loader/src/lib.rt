@@ -61,9 +61,9 @@ fn cells_refusal(r: FileRecord, lent: usize, store: usize) -> u8
     otherwise((globals.count <= lent) & (SAVED_STORE <= store), 12)
 }
 
-// The number of the first condition that a load fails.
-pub fn load_refusal(file: &[u8], lent: usize, store: usize) -> u8
-    ensures { λ r. ⌜ r ≡ judge (loadConditions leastCells (now (file .entry)) lent store) ⌝ }
+// The number of the first condition that a load fails, beside so many entities and so many lent cells of each store.
+pub fn load_refusal(file: &[u8], number: usize, lent: usize, store: usize, entities: usize) -> u8
+    ensures { λ r. ⌜ r ≡ judge (loadConditions leastCells (now (file .entry)) number lent store entities) ⌝ }
 {
     let h = header_refusal(file);
     if h != 0 {
@@ -74,7 +74,11 @@ pub fn load_refusal(file: &[u8], lent: usize, store: usize) -> u8
     if n != 0 {
         return n;
     }
-    cells_refusal(r, lent, store)
+    let c = cells_refusal(r, lent, store);
+    if c != 0 {
+        return c;
+    }
+    otherwise(header::entities_fit(number, r.entityfields, entities), 13)
 }
 
 // The lent cells become the file's starting cells, from 0 on; the rest stay.

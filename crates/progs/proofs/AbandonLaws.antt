@@ -14,7 +14,7 @@ use Rattle.progs.specs.declared.ExecutionContext.{ExecutionContext}
 use Rattle.progs.specs.Contexts.{stateOf, config, bare}
 
 abbrev pub alone : State → Config
-alone s = record { state = s; cells = []; saved = [] }
+alone s = record { state = s; cells = []; saved = []; entities = [] }
 
 -- the conditions depend on no cell
 pub leavings-alone : (P : Program) (n : ℕ) (c : Config) → leavingsConditions P n c ≡ leavingsConditions P n (alone (c .state))
@@ -32,9 +32,9 @@ module _ (P : Program) (target : ℕ) (x : ExecutionContext) where
   unfolding leavingsConditions judge
   leavings-end h = let n : x .depth - target ≡ 0 = omega arith in rw n
 
-  pub times-end : (cells saved : List ℕ) → x .depth ≤ target → config x cells saved ≡ leftTimes P (x .depth - target) (config x cells saved)
+  pub times-end : (cells saved entities : List ℕ) → x .depth ≤ target → config x cells saved entities ≡ leftTimes P (x .depth - target) (config x cells saved entities)
   unfolding leftTimes
-  times-end cells saved h = let n : x .depth - target ≡ 0 = omega arith in rw n
+  times-end cells saved entities h = let n : x .depth - target ≡ 0 = omega arith in rw n
 
   module _ (more : target < x .depth) where
     abbrev others : Conditions
@@ -62,9 +62,9 @@ module _ (P : Program) (target : ℕ) (x : ExecutionContext) where
       leavings-on z = rw (leavings-first, z) (sym others-are)
 
   -- the same of the whole configuration
-  pub times-on : target < x .depth → (cells saved : List ℕ) (y : ExecutionContext) (cells′ : List ℕ) → config y cells′ saved ≡ left P (config x cells saved)
-      → leftTimes P (y .depth - target) (config y cells′ saved) ≡ leftTimes P (x .depth - target) (config x cells saved)
+  pub times-on : target < x .depth → (cells saved entities : List ℕ) (y : ExecutionContext) (cells′ : List ℕ) → config y cells′ saved entities ≡ left P (config x cells saved entities)
+      → leftTimes P (y .depth - target) (config y cells′ saved entities) ≡ leftTimes P (x .depth - target) (config x cells saved entities)
   unfolding leftTimes left
-  times-on more cells saved y cells′ e =
+  times-on more cells saved entities y cells′ e =
       let n : x .depth - target ≡ suc (x .depth - 1 - target) = omega arith in
-      ap (λ (c : Config). leftTimes P (c .state .depth - target) c) e ∙ sym (ap (λ (k : ℕ). leftTimes P k (config x cells saved)) n)
+      ap (λ (c : Config). leftTimes P (c .state .depth - target) c) e ∙ sym (ap (λ (k : ℕ). leftTimes P k (config x cells saved entities)) n)

@@ -103,15 +103,15 @@ module _ (x : ExecutionContext) (d : FunctionDef) where
 
 -- ---- what an entry answers
 
-module _ (P : Program) (f : ℕ) (back : ℤ) (x : ExecutionContext) (cells saved : List ℕ) where
-  pub enter-20 : (r : Answered) → length (P .functions) ≤ f → r ≡ refusing x 20 → outcomeOf r cells saved ≡ after (config x cells saved) (enter P f back)
+module _ (P : Program) (f : ℕ) (back : ℤ) (x : ExecutionContext) (cells saved entities : List ℕ) where
+  pub enter-20 : (r : Answered) → length (P .functions) ≤ f → r ≡ refusing x 20 → outcomeOf r cells saved entities ≡ after (config x cells saved entities) (enter P f back)
   unfolding entryConditions judge
-  enter-20 r h e = refused-outcome x cells saved _ _ 20 r (rw (le-ltb f (length (P .functions)) h)) (λ z. absurd (omega arith)) e
+  enter-20 r h e = refused-outcome x cells saved entities _ _ 20 r (rw (le-ltb f (length (P .functions)) h)) (λ z. absurd (omega arith)) e
 
   pub enter-refused : (n : ℕ) (r : Answered) → n ≡ judge (entryConditions P f (bare x)) → (n ≡ 0 → ⊥) → r ≡ refusing x n
-      → outcomeOf r cells saved ≡ after (config x cells saved) (enter P f back)
+      → outcomeOf r cells saved entities ≡ after (config x cells saved entities) (enter P f back)
   unfolding entryConditions
-  enter-refused n r e z h = refused-outcome x cells saved _ _ n r e z h
+  enter-refused n r e z h = refused-outcome x cells saved entities _ _ n r e z h
 
   pub enter-accepted : (d : FunctionDef) (y : ExecutionContext) (cells′ saved′ : List ℕ)
       → judge (entryConditions P f (bare x)) ≡ 0
@@ -119,6 +119,6 @@ module _ (P : Program) (f : ℕ) (back : ℤ) (x : ExecutionContext) (cells save
       → stateOf y ≡ entered P f back (bare x) .state
       → cells′ ≡ copied (argumentsOf d) cells
       → saved′ ≡ paste saved (x .saved) (drop (d .start) cells) (d .locals)
-      → outcomeOf (accepting y) cells′ saved′ ≡ after (config x cells saved) (enter P f back)
+      → outcomeOf (accepting y) cells′ saved′ entities ≡ after (config x cells saved entities) (enter P f back)
   unfolding entryConditions entered
-  enter-accepted d y cells′ saved′ z e s a b = accepted-outcome x cells saved _ _ y cells′ saved′ z (rw (s, a, b, e))
+  enter-accepted d y cells′ saved′ z e s a b = accepted-outcome x cells saved entities _ _ y cells′ saved′ z (rw (s, a, b, e))

@@ -41,16 +41,16 @@ pub place-natural : (n : ℕ) (a : ℤ) → placeOf n a < n → natural a ≡ pl
 place-natural n (pos i) h = refl
 place-natural n (negsuc i) h = absurd (omega arith)
 
-module _ (P : Program) (x : ExecutionContext) (cells saved : List ℕ) where
+module _ (P : Program) (x : ExecutionContext) (cells saved entities : List ℕ) where
   abbrev here : Config
-  here = config x cells saved
+  here = config x cells saved entities
 
   -- ---- entry
 
   module _ (f : ℤ) where
-    pub enter-13 : (r : Answered) → sound P here ≡ false → r ≡ refusing x 13 → outcomeOf r cells saved ≡ after here (hostEnter P f)
+    pub enter-13 : (r : Answered) → sound P here ≡ false → r ≡ refusing x 13 → outcomeOf r cells saved entities ≡ after here (hostEnter P f)
     unfolding hostEnter judge
-    enter-13 r s h = refused-outcome x cells saved _ _ 13 r (rw s) (λ z. absurd (omega arith)) h
+    enter-13 r s h = refused-outcome x cells saved entities _ _ 13 r (rw s) (λ z. absurd (omega arith)) h
 
     pub enter-host : (o : Outcome) (i : ℕ) → sound P here ≡ true → i ≡ placeOf (length (P .functions)) f → o ≡ after here (enter P i (x .pc)) → o ≡ after here (hostEnter P f)
     unfolding hostEnter
@@ -81,32 +81,32 @@ module _ (P : Program) (x : ExecutionContext) (cells saved : List ℕ) where
     read-refused zero e z = absurd (z refl)
     read-refused (suc n) e z = rw (← e)
 
-    pub write-refused : (v n : ℕ) (r : Answered) → n ≡ judge (rawConditions P a here) → (n ≡ 0 → ⊥) → r ≡ refusing x n → outcomeOf r cells saved ≡ after here (rawWrite P a v)
+    pub write-refused : (v n : ℕ) (r : Answered) → n ≡ judge (rawConditions P a here) → (n ≡ 0 → ⊥) → r ≡ refusing x n → outcomeOf r cells saved entities ≡ after here (rawWrite P a v)
     unfolding rawWrite
-    write-refused v n r e z h = refused-outcome x cells saved _ _ n r e z h
+    write-refused v n r e z h = refused-outcome x cells saved entities _ _ n r e z h
 
     module _ (at : ℕ) (e : at ≡ placeOf 0 a) (z : judge (rawConditions P a here) ≡ 0) where
       pub read-value : read.Value (getD cells at 0) ≡ readAnswer (rawRead P a here)
       unfolding rawRead guard
       read-value = rw (z, e, place-zero a)
 
-      pub write-done : (v : ℕ) → outcomeOf (accepting x) (set cells at v) saved ≡ after here (rawWrite P a v)
+      pub write-done : (v : ℕ) → outcomeOf (accepting x) (set cells at v) saved entities ≡ after here (rawWrite P a v)
       unfolding rawWrite
-      write-done v = accepted-outcome x cells saved _ _ x (set cells at v) saved z (rw (e, place-zero a))
+      write-done v = accepted-outcome x cells saved entities _ _ x (set cells at v) saved z (rw (e, place-zero a))
 
   -- ---- abandonment
 
   module _ (target : ℤ) where
-    pub abandon-13 : (r : Answered) → sound P here ≡ false → r ≡ refusing x 13 → outcomeOf r cells saved ≡ after here (abandon P target)
+    pub abandon-13 : (r : Answered) → sound P here ≡ false → r ≡ refusing x 13 → outcomeOf r cells saved entities ≡ after here (abandon P target)
     unfolding abandon abandonConditions judge
-    abandon-13 r s h = refused-outcome x cells saved _ _ 13 r (rw s) (λ z. absurd (omega arith)) h
+    abandon-13 r s h = refused-outcome x cells saved entities _ _ 13 r (rw s) (λ z. absurd (omega arith)) h
 
     module _ (down : ℕ) (s : sound P here ≡ true) (e : down ≡ placeOf (x .depth + 1) target) where
-      pub abandon-29 : (r : Answered) → x .depth < down → r ≡ refusing x 29 → outcomeOf r cells saved ≡ after here (abandon P target)
+      pub abandon-29 : (r : Answered) → x .depth < down → r ≡ refusing x 29 → outcomeOf r cells saved entities ≡ after here (abandon P target)
       unfolding abandon abandonConditions judge
       abandon-29 r k h =
           let out : below target (x .depth + 1) ≡ false = below-place (x .depth + 1) target ∙ le-ltb _ _ (rw e at (suc-below k)) in
-          refused-outcome x cells saved _ _ 29 r (rw (s, out)) (λ z. absurd (omega arith)) h
+          refused-outcome x cells saved entities _ _ 29 r (rw (s, out)) (λ z. absurd (omega arith)) h
         where
           suc-below : x .depth < down → x .depth + 1 ≤ down
           suc-below k = omega arith
@@ -130,19 +130,19 @@ module _ (P : Program) (x : ExecutionContext) (cells saved : List ℕ) where
         numbers = rw (s, in-reach, same-target, leavings-alone P (x .depth - down) here)
 
         pub abandon-refused : (n : ℕ) (r : Answered) → n ≡ judge (leavingsConditions P (x .depth - down) (bare x)) → (n ≡ 0 → ⊥) → r ≡ refusing x n
-            → outcomeOf r cells saved ≡ after here (abandon P target)
+            → outcomeOf r cells saved entities ≡ after here (abandon P target)
         unfolding abandon
-        abandon-refused n r f z h = refused-outcome x cells saved _ _ n r (f ∙ sym numbers) z h
+        abandon-refused n r f z h = refused-outcome x cells saved entities _ _ n r (f ∙ sym numbers) z h
 
         pub abandon-done : (y : ExecutionContext) (cells′ : List ℕ) → judge (leavingsConditions P (x .depth - down) (bare x)) ≡ 0
-            → config y cells′ saved ≡ leftTimes P (x .depth - down) here
-            → outcomeOf (accepting y) cells′ saved ≡ after here (abandon P target)
+            → config y cells′ saved entities ≡ leftTimes P (x .depth - down) here
+            → outcomeOf (accepting y) cells′ saved entities ≡ after here (abandon P target)
         unfolding abandon
-        abandon-done y cells′ z h = accepted-outcome x cells saved _ _ y cells′ saved (numbers ∙ z) (rw same-target h)
+        abandon-done y cells′ z h = accepted-outcome x cells saved entities _ _ y cells′ saved (numbers ∙ z) (rw same-target h)
 
 -- the cell of an access that is accepted is there
-pub raw-there : (file : List ℕ) (x : ExecutionContext) (cells saved : List ℕ) (a : ℤ) (at : ℕ) → at ≡ placeOf 0 a → judge (rawConditions (programOf file) a (config x cells saved)) ≡ 0 → at < length cells
-raw-there file x cells saved a at e z =
-    let h = raw-passed (programOf file) x cells saved a z in
-    let w = passed file cells saved x (h .0) in
+pub raw-there : (file : List ℕ) (x : ExecutionContext) (cells saved entities : List ℕ) (a : ℤ) (at : ℕ) → at ≡ placeOf 0 a → judge (rawConditions (programOf file) a (config x cells saved entities)) ≡ 0 → at < length cells
+raw-there file x cells saved entities a at e z =
+    let h = raw-passed (programOf file) x cells saved entities a z in
+    let w = passed file cells saved entities x (h .0) in
     omega (arith, e, place-zero a, h .1, w .lent)

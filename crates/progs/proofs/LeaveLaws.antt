@@ -66,46 +66,46 @@ module _ (x : ExecutionContext) (l : Locals) (P : Program) (e : l ≡ rangeOf (f
       }
 
   -- the configuration after it
-  pub left-config : (y : ExecutionContext) (cells cells′ saved : List ℕ) → stateOf y ≡ left P (bare x) .state
+  pub left-config : (y : ExecutionContext) (cells cells′ saved entities : List ℕ) → stateOf y ≡ left P (bare x) .state
       → cells′ ≡ paste cells (l .start) (drop (x .saved - l .count) saved) (l .count)
-      → config y cells′ saved ≡ left P (config x cells saved)
+      → config y cells′ saved entities ≡ left P (config x cells saved entities)
   unfolding left
-  left-config y cells cells′ saved s a = rw (s, a, start-is, count-is)
+  left-config y cells cells′ saved entities s a = rw (s, a, start-is, count-is)
 
 -- the state alone
-pub left-state : (P : Program) (x y : ExecutionContext) (cells cells′ saved : List ℕ) → config y cells′ saved ≡ left P (config x cells saved) → stateOf y ≡ left P (bare x) .state
+pub left-state : (P : Program) (x y : ExecutionContext) (cells cells′ saved entities : List ℕ) → config y cells′ saved entities ≡ left P (config x cells saved entities) → stateOf y ≡ left P (bare x) .state
 unfolding left
-left-state P x y cells cells′ saved e = ap (λ (c : Config). c .state) e
+left-state P x y cells cells′ saved entities e = ap (λ (c : Config). c .state) e
 
 -- ---- what a leaving and a Return answer
 
-module _ (P : Program) (x : ExecutionContext) (cells saved : List ℕ) where
+module _ (P : Program) (x : ExecutionContext) (cells saved entities : List ℕ) where
   pub leave-refused : (n : ℕ) (r : Answered) → n ≡ judge (leaveConditions P (bare x)) → (n ≡ 0 → ⊥) → r ≡ refusing x n
-      → outcomeOf r cells saved ≡ after (config x cells saved) (leave P)
+      → outcomeOf r cells saved entities ≡ after (config x cells saved entities) (leave P)
   unfolding leaveConditions
-  leave-refused n r e z h = refused-outcome x cells saved _ _ n r e z h
+  leave-refused n r e z h = refused-outcome x cells saved entities _ _ n r e z h
 
   pub leave-accepted : (y : ExecutionContext) (cells′ : List ℕ) → judge (leaveConditions P (bare x)) ≡ 0
-      → config y cells′ saved ≡ left P (config x cells saved)
-      → outcomeOf (accepting y) cells′ saved ≡ after (config x cells saved) (leave P)
+      → config y cells′ saved entities ≡ left P (config x cells saved entities)
+      → outcomeOf (accepting y) cells′ saved entities ≡ after (config x cells saved entities) (leave P)
   unfolding leaveConditions
-  leave-accepted y cells′ z h = accepted-outcome x cells saved _ _ y cells′ saved z h
+  leave-accepted y cells′ z h = accepted-outcome x cells saved entities _ _ y cells′ saved z h
 
   module _ (a count : ℕ) (n : count ≡ x .file .globals .count) where
     pub return-15 : (r : Answered) → present a 3 count ≡ false → r ≡ refusing x 15
-        → outcomeOf r cells saved ≡ after (config x cells saved) (return P a)
+        → outcomeOf r cells saved entities ≡ after (config x cells saved entities) (return P a)
     unfolding judge
-    return-15 r p h = refused-outcome x cells saved _ _ 15 r (rw (← n, p)) (λ z. absurd (omega arith)) h
+    return-15 r p h = refused-outcome x cells saved entities _ _ 15 r (rw (← n, p)) (λ z. absurd (omega arith)) h
 
     module _ (p : present a 3 count ≡ true) where
       pub return-refused : (m : ℕ) (r : Answered) → m ≡ judge (leaveConditions P (bare x)) → (m ≡ 0 → ⊥) → r ≡ refusing x m
-          → outcomeOf r cells saved ≡ after (config x cells saved) (return P a)
+          → outcomeOf r cells saved entities ≡ after (config x cells saved entities) (return P a)
       unfolding judge leaveConditions
-      return-refused m r e z h = refused-outcome x cells saved _ _ m r (rw (rw n at p) e) z h
+      return-refused m r e z h = refused-outcome x cells saved entities _ _ m r (rw (rw n at p) e) z h
 
       pub return-accepted : (y : ExecutionContext) (cells₁ cells′ : List ℕ) → judge (leaveConditions P (bare x)) ≡ 0
           → cells₁ ≡ copied (successive 3 a 1) cells
-          → config y cells′ saved ≡ left P (config x cells₁ saved)
-          → outcomeOf (accepting y) cells′ saved ≡ after (config x cells saved) (return P a)
+          → config y cells′ saved entities ≡ left P (config x cells₁ saved entities)
+          → outcomeOf (accepting y) cells′ saved entities ≡ after (config x cells saved entities) (return P a)
       unfolding judge leaveConditions
-      return-accepted y cells₁ cells′ z e h = accepted-outcome x cells saved _ _ y cells′ saved (rw (rw n at p) z) (rw e at h)
+      return-accepted y cells₁ cells′ z e h = accepted-outcome x cells saved entities _ _ y cells′ saved (rw (rw n at p) z) (rw e at h)

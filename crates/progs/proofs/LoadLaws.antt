@@ -4,13 +4,14 @@ use mathlib.Core.Path.{_≡_, refl, sym, _∙_, ap}
 use mathlib.Core.List.{List, _++_}
 use borrow.Author.Tests.{leb-true}
 use lib.ListN.{length, drop}
+use lib.IntN.{ℤ}
 use lib.Dec.{leb}
 use Rattle.definition.specs.declared.FileRecord.{FileRecord}
 use Rattle.definition.specs.declared.Answer.the-variants as answer
 use Rattle.definition.specs.Checks.{judge, guard}
 use Rattle.definition.specs.File.{fileOf, leastCells, u32At, contentsAt}
 use Rattle.definition.specs.Machine.{startState}
-use Rattle.definition.specs.Load.{headerConditions, cellConditions, loadConditions, loaded, load}
+use Rattle.definition.specs.Load.{headerConditions, cellConditions, loadConditions, entitiesGiven, loaded, load}
 use Rattle.definition.specs.Answers.{noState, loadOutcome}
 use Rattle.definition.specs.CheckLaws.{judge-passed, and-left}
 use Rattle.definition.specs.LoadLaws.{load-rows}
@@ -21,19 +22,19 @@ use Rattle.functions.specs.PartLaws.{part-globals}
 use Rattle.progs.specs.declared.ExecutionContext.{ExecutionContext}
 use Rattle.progs.specs.Contexts.{stateOf, outcomeOf, accepting}
 
-module _ (file cells saved : List ℕ) where
+module _ (file cells saved entities : List ℕ) (given : ℤ) where
   abbrev number : ℕ
-  number = judge (loadConditions leastCells file (length cells) (length saved))
+  number = judge (loadConditions leastCells file (entitiesGiven given) (length cells) (length saved) (length entities))
 
   pub load-refused : (n : ℕ) (y : ExecutionContext) → n ≡ number → (n ≡ 0 → ⊥) → stateOf y ≡ noState
-      → outcomeOf (record { context = y; answer = answer.Refused n }) cells saved ≡ loadOutcome cells saved (load file cells saved)
+      → outcomeOf (record { context = y; answer = answer.Refused n }) cells saved entities ≡ loadOutcome cells saved entities (load file given cells saved entities)
   unfolding load guard
   load-refused zero y e z s = absurd (z refl)
   load-refused (suc n) y e z s = rw (← e, s)
 
-  pub load-accepted : (y : ExecutionContext) (r : FileRecord) (cells′ : List ℕ) → number ≡ 0 → r ≡ fileOf file → stateOf y ≡ startState r
+  pub load-accepted : (y : ExecutionContext) (r : FileRecord) (cells′ : List ℕ) → number ≡ 0 → r ≡ fileOf file → stateOf y ≡ startState r (entitiesGiven given)
       → cells′ ≡ contentsAt r file .globals ++ drop (r .globals .count) cells
-      → outcomeOf (accepting y) cells′ saved ≡ loadOutcome cells saved (load file cells saved)
+      → outcomeOf (accepting y) cells′ saved entities ≡ loadOutcome cells saved entities (load file given cells saved entities)
   unfolding load guard loaded
   load-accepted y r cells′ z e s a = rw (z, s, a, e)
 
@@ -55,11 +56,11 @@ pub record Loads (file : List ℕ) (lent : ℕ) (r : FileRecord) : Type 0 where
   pub lumps : AllFit (length file) r
   pub cells-fit : r .globals .count ≤ lent
 
-pub loads : (file : List ℕ) (lent store : ℕ) (r : FileRecord) → judge (loadConditions leastCells file lent store) ≡ 0 → r ≡ fileOf file → Loads file lent r
+pub loads : (file : List ℕ) (n lent store entities : ℕ) (r : FileRecord) → judge (loadConditions leastCells file n lent store entities) ≡ 0 → r ≡ fileOf file → Loads file lent r
 unfolding fileOf headerConditions cellConditions
-loads file lent store r z e =
+loads file n lent store entities r z e =
     let f = fileOf file in
-    let rows = load-rows file lent store (judge-passed (loadConditions leastCells file lent store) z) in
+    let rows = load-rows file n lent store entities (judge-passed (loadConditions leastCells file n lent store entities) z) in
     let size : 60 ≤ length file = leb-true _ _ (and-left (leb 60 (length file)) (leb (length file) 1048576) (rows .header .0)) in
     let fits : f .globals .count ≤ lent = leb-true _ _ (and-left (leb (f .globals .count) lent) (leb 2048 store) (rows .cells .1 .1 .0)) in
     record { header = size; lumps = rw e (all-fit f (rows .header .1 .1 .1 .0)); cells-fit = rw e fits }

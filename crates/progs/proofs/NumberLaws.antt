@@ -68,12 +68,12 @@ module _ (P : Program) (f : ℕ) (x : ExecutionContext) (cells saved : List ℕ)
           by zero i a b = absurd (z i)
           by (suc n) i a b = (a, b)
 
-      pub refused-config : config x cells′ saved′ ≡ config x cells saved
-      refused-config = rw (kept .0, kept .1)
+      pub refused-config : (entities : List ℕ) → config x cells′ saved′ entities ≡ config x cells saved entities
+      refused-config entities = rw (kept .0, kept .1)
 
-      pub refused-entry : (back : ℤ) (a : Answered) → a ≡ refusing x (r .refusal) → outcomeOf a cells′ saved′ ≡ after (config x cells saved) (enter P f back)
+      pub refused-entry : (entities : List ℕ) (back : ℤ) (a : Answered) → a ≡ refusing x (r .refusal) → outcomeOf a cells′ saved′ entities ≡ after (config x cells saved entities) (enter P f back)
       unfolding entryConditions
-      refused-entry back a h = rw (kept .0, kept .1) (refused-outcome x cells saved _ _ (r .refusal) a refusal-is z h)
+      refused-entry entities back a h = rw (kept .0, kept .1) (refused-outcome x cells saved entities _ _ (r .refusal) a refusal-is z h)
 
     -- one that is accepted
     module _ (z : r .refusal ≡ 0) where
@@ -91,15 +91,15 @@ module _ (P : Program) (f : ℕ) (x : ExecutionContext) (cells saved : List ℕ)
           let l : r .locals ≡ functionOf P f .locals = ap (λ (z : Entering). z .entry .locals) gives in
           (ltb-true _ _ (h .1 .0), rw l (leb-true _ _ (and-right (not (negative (functionOf P f .locals))) (leb (x .saved + functionOf P f .locals) 2048) (h .1 .1 .0))))
 
-      pub entered-config : (back : ℤ) → config (enteredContext x f (r .first) (r .locals) back) cells′ saved′ ≡ entered P f back (config x cells saved)
+      pub entered-config : (entities : List ℕ) (back : ℤ) → config (enteredContext x f (r .first) (r .locals) back) cells′ saved′ entities ≡ entered P f back (config x cells saved entities)
       unfolding entered
-      entered-config back =
-          ap (λ (z : Entering). config (enteredContext x f (z .entry .first) (z .entry .locals) back) (z .cells) (z .saved)) gives
+      entered-config entities back =
+          ap (λ (z : Entering). config (enteredContext x f (z .entry .first) (z .entry .locals) back) (z .cells) (z .saved) entities) gives
 
-      pub accepted-entry : (back : ℤ) (y : ExecutionContext) → y ≡ enteredContext x f (r .first) (r .locals) back → outcomeOf (accepting y) cells′ saved′ ≡ after (config x cells saved) (enter P f back)
+      pub accepted-entry : (entities : List ℕ) (back : ℤ) (y : ExecutionContext) → y ≡ enteredContext x f (r .first) (r .locals) back → outcomeOf (accepting y) cells′ saved′ entities ≡ after (config x cells saved entities) (enter P f back)
       unfolding entryConditions
-      accepted-entry back y h =
-          accepted-outcome x cells saved _ _ y cells′ saved′ clear (ap (λ (w : ExecutionContext). config w cells′ saved′) h ∙ entered-config back)
+      accepted-entry entities back y h =
+          accepted-outcome x cells saved entities _ _ y cells′ saved′ clear (ap (λ (w : ExecutionContext). config w cells′ saved′ entities) h ∙ entered-config entities back)
 
 -- the file's count of cells, by another name
 pub by-count : (P : Program) (f : ℕ) (x : ExecutionContext) (cells saved : List ℕ) (count : ℕ) → count ≡ x .file .globals .count
@@ -110,7 +110,7 @@ by-count P f x cells saved count e = ap (λ (n : ℕ). entering P f (numbered (x
 
 -- a program of functions alone
 abbrev pub functions-program : List FunctionDef → Program
-functions-program fs = record { functions = fs; fetching = λ p. []; does = λ p cells. refuses 0; recorded = λ r n. false }
+functions-program fs = record { functions = fs; fetching = λ p. []; does = λ p e cells. refuses 0; recorded = λ r n. false }
 
 module _ (part : List ℕ) where
   size : length (functionsIn part) ≡ length part / 36

@@ -78,12 +78,12 @@ module _ (P : Program) (a : ℕ) (x : ExecutionContext) (cells saved : List ℕ)
           by zero i b = absurd (z i)
           by (suc n) i b = b
 
-      pub refused-config : config x cells′ saved ≡ config x cells saved
-      refused-config = rw kept
+      pub refused-config : (entities : List ℕ) → config x cells′ saved entities ≡ config x cells saved entities
+      refused-config entities = rw kept
 
-      pub refused-return : (w : Answered) → w ≡ refusing x (r .refusal) → outcomeOf w cells′ saved ≡ after (config x cells saved) (return P a)
+      pub refused-return : (entities : List ℕ) (w : Answered) → w ≡ refusing x (r .refusal) → outcomeOf w cells′ saved entities ≡ after (config x cells saved entities) (return P a)
       unfolding leaveConditions
-      refused-return w h = rw kept (refused-outcome x cells saved _ _ (r .refusal) w refusal-is z h)
+      refused-return entities w h = rw kept (refused-outcome x cells saved entities _ _ (r .refusal) w refusal-is z h)
 
     -- one that is accepted
     module _ (z : r .refusal ≡ 0) where
@@ -105,11 +105,11 @@ module _ (P : Program) (a : ℕ) (x : ExecutionContext) (cells saved : List ℕ)
           let c : r .locals ≡ functionOf P (x .«current_function») .locals = ap (λ (z : Returning). z .leaving .locals) gives in
           (l .inside, rw c (l .enough))
 
-      pub returned-config : config (leftContext x (r .locals)) cells′ saved ≡ returned P a (config x cells saved)
+      pub returned-config : (entities : List ℕ) → config (leftContext x (r .locals)) cells′ saved entities ≡ returned P a (config x cells saved entities)
       unfolding left
-      returned-config = ap (λ (z : Returning). config (leftContext x (z .leaving .locals)) (z .cells) saved) gives
+      returned-config entities = ap (λ (z : Returning). config (leftContext x (z .leaving .locals)) (z .cells) saved entities) gives
 
-      pub accepted-return : (y : ExecutionContext) → y ≡ leftContext x (r .locals) → outcomeOf (accepting y) cells′ saved ≡ after (config x cells saved) (return P a)
+      pub accepted-return : (entities : List ℕ) (y : ExecutionContext) → y ≡ leftContext x (r .locals) → outcomeOf (accepting y) cells′ saved entities ≡ after (config x cells saved entities) (return P a)
       unfolding leaveConditions
-      accepted-return y h =
-          accepted-outcome x cells saved _ _ y cells′ saved clear (ap (λ (w : ExecutionContext). config w cells′ saved) h ∙ returned-config)
+      accepted-return entities y h =
+          accepted-outcome x cells saved entities _ _ y cells′ saved clear (ap (λ (w : ExecutionContext). config w cells′ saved entities) h ∙ returned-config entities)

@@ -1,5 +1,5 @@
 -- Laws of check 13: what is left of the entered functions, and what it is to pass.
-use Prim.Native.Nat.{ℕ, zero, suc, _+_, _-_, _≤_, _<_}
+use Prim.Native.Nat.{ℕ, zero, suc, _+_, _-_, _*_, _≤_, _<_}
 use mathlib.Core.Path.{_≡_, refl, sym, _∙_, ap}
 use mathlib.Core.Logic.{⊎-elim}
 use mathlib.Core.List.{List, [], _∷_}
@@ -15,11 +15,11 @@ use Rattle.definition.specs.declared.StackFrame.{StackFrame}
 use Rattle.definition.specs.declared.FunctionDef.{FunctionDef}
 use Rattle.definition.specs.Checks.{judge}
 use Rattle.definition.specs.File.{negative}
-use Rattle.definition.specs.Machine.{Program, functionOf, State, Config, limits, zeroFrame, entryConditions, entered, enter, left, returnConditions, returned}
+use Rattle.definition.specs.Machine.{Program, functionOf, State, Config, limits, entitiesFit, zeroFrame, entryConditions, entered, enter, left, returnConditions, returned}
 use Rattle.definition.specs.Load.{programAt, programOf, recordedIn}
 use Rattle.definition.specs.Operations.{frameFunctions, enteredAt, enteredFunctions, allPresent, localsOf, sound}
 use Rattle.definition.specs.CheckLaws.{judge-passed, and-left, and-right}
-use Rattle.functions.specs.Laws.{Recorded, recorded}
+use Rattle.functions.specs.Laws.{Recorded, recorded, EntitySize, entities-room}
 use Rattle.progs.specs.declared.ExecutionContext.{ExecutionContext}
 use Rattle.progs.specs.declared.Answered.{Answered}
 use Rattle.progs.specs.Contexts.{stateOf, config, bare, outcomeOf, after, return, Loaded, Within}
@@ -75,9 +75,9 @@ add-start P x = rw (native.Mathlib.Nat.zero-add (localsOf P (enteredAt (x .depth
 
 -- ---- the check
 
-module _ (file cells saved : List ℕ) (x : ExecutionContext) where
+module _ (file cells saved entities : List ℕ) (x : ExecutionContext) where
   abbrev check : Bool
-  check = sound (programOf file) (config x cells saved)
+  check = sound (programOf file) (config x cells saved entities)
 
   pub unrecorded : recordedIn file (x .file) (length cells) ≡ false → false ≡ check
   unfolding sound programAt
@@ -87,6 +87,13 @@ module _ (file cells saved : List ℕ) (x : ExecutionContext) where
   unfolding sound
   short-store h = rw (lt-leb 2048 (length saved) h, and-false)
 
+  abbrev roomy : Bool
+  roomy = entitiesFit (x .«entity_count») (x .file .entityfields) (length entities)
+
+  pub no-room : roomy ≡ false → false ≡ check
+  unfolding sound
+  no-room h = rw (h, and-false)
+
   pub too-deep : 31 < x .depth → false ≡ check
   unfolding sound limits
   too-deep h = rw (lt-leb (x .depth) 31 h, and-false)
@@ -95,12 +102,12 @@ module _ (file cells saved : List ℕ) (x : ExecutionContext) where
   unfolding sound limits
   too-full h = rw (lt-leb (x .saved) 2048 h, and-false)
 
-  pub adding-up : recordedIn file (x .file) (length cells) ≡ true → 2048 ≤ length saved → x .depth ≤ 31 → x .saved ≤ 2048
+  pub adding-up : recordedIn file (x .file) (length cells) ≡ true → 2048 ≤ length saved → roomy ≡ true → x .depth ≤ 31 → x .saved ≤ 2048
       → (allPresent (programOf file) (enteredFunctions (stateOf x)) && eqb (x .saved) (localsOf (programOf file) (enteredFunctions (stateOf x)))) ≡ check
   unfolding sound limits programAt
-  adding-up a b c d = rw (a, le-leb 2048 (length saved) b, le-leb (x .depth) 31 c, le-leb (x .saved) 2048 d, and-true)
+  adding-up a b e c d = rw (a, le-leb 2048 (length saved) b, e, le-leb (x .depth) 31 c, le-leb (x .saved) 2048 d, and-true)
 
-  pub passed : check ≡ true → Within file x (length cells) (length saved)
+  pub passed : check ≡ true → Within file x (length cells) (length saved) (length entities)
   unfolding sound limits programAt
   passed h =
       let r = recordedIn file (x .file) (length cells) in
@@ -108,28 +115,55 @@ module _ (file cells saved : List ℕ) (x : ExecutionContext) where
       let d = leb (x .depth) 31 in
       let p = allPresent (programOf file) (enteredFunctions (stateOf x)) in
       let l = leb (x .saved) 2048 in
-      let h4 = and-left (r && s && d && p && l) (eqb (x .saved) (localsOf (programOf file) (enteredFunctions (stateOf x)))) h in
-      let h3 = and-left (r && s && d) p (and-left (r && s && d && p) l h4) in
-      let k = recorded file (x .file) (length cells) (and-left r s (and-left (r && s) d h3)) in
+      let h4 = and-left (r && s && roomy && d && p && l) (eqb (x .saved) (localsOf (programOf file) (enteredFunctions (stateOf x)))) h in
+      let h3 = and-left (r && s && roomy && d) p (and-left (r && s && roomy && d && p) l h4) in
+      let h2 = and-left (r && s && roomy) d h3 in
+      let k = recorded file (x .file) (length cells) (and-left r s (and-left (r && s) roomy h2)) in
+      let e = entities-room (x .«entity_count») (x .file .entityfields) (length entities) (and-right (r && s) roomy h2) in
       record {
         loaded = record { same = k .same; lumps = k .lumps };
         least = k .least;
         most = k .most;
         lent = k .lends;
-        store = leb-true _ _ (and-right r s (and-left (r && s) d h3));
-        depth = leb-true _ _ (and-right (r && s) d h3);
-        held = leb-true _ _ (and-right (r && s && d && p) l h4);
+        store = leb-true _ _ (and-right r s (and-left (r && s) roomy h2));
+        depth = leb-true _ _ (and-right (r && s && roomy) d h3);
+        held = leb-true _ _ (and-right (r && s && roomy && d && p) l h4);
+        size-least = k .size .least;
+        size-most = k .size .most;
+        number = e .number-most;
+        fields = e .cells;
       }
 
 -- a file that a context records
 pub loaded-of : (file : List ℕ) (r : FileRecord) (cells : ℕ) → recordedIn file r cells ≡ true → Loaded file r
 loaded-of file r cells h = let k = recorded file r cells h in record { same = k .same; lumps = k .lumps }
 
+pub size-of : (file : List ℕ) (r : FileRecord) (cells : ℕ) → recordedIn file r cells ≡ true → EntitySize r
+size-of file r cells h = recorded file r cells h .size
+
 -- ---- what check 13 establishes is kept by every entry and leaving
 
-module _ (file : List ℕ) (cells saved : ℕ) (x y : ExecutionContext) (h : Within file x cells saved) where
-  pub moved-within : y .file ≡ x .file → y .depth ≤ 31 → y .saved ≤ 2048 → Within file y cells saved
-  moved-within e d s =
+-- whatever is lent, the entities' own cells are
+pub own-within : (file : List ℕ) (cells saved entities : ℕ) (x : ExecutionContext) → Within file x cells saved entities
+    → Within file x cells saved (x .«entity_count» * x .file .entityfields)
+own-within file cells saved entities x h =
+    record {
+      loaded = h .loaded;
+      least = h .least;
+      most = h .most;
+      lent = h .lent;
+      store = h .store;
+      depth = h .depth;
+      held = h .held;
+      size-least = h .size-least;
+      size-most = h .size-most;
+      number = h .number;
+      fields = omega arith;
+    }
+
+module _ (file : List ℕ) (cells saved entities : ℕ) (x y : ExecutionContext) (h : Within file x cells saved entities) where
+  pub moved-within : y .file ≡ x .file → y .«entity_count» ≡ x .«entity_count» → y .depth ≤ 31 → y .saved ≤ 2048 → Within file y cells saved entities
+  moved-within e n d s =
       record {
         loaded = rw e (h .loaded);
         least = rw e (h .least);
@@ -138,22 +172,26 @@ module _ (file : List ℕ) (cells saved : ℕ) (x y : ExecutionContext) (h : Wit
         store = h .store;
         depth = d;
         held = s;
+        size-least = rw e (h .size-least);
+        size-most = rw e (h .size-most);
+        number = rw n (h .number);
+        fields = rw (n, e) (h .fields);
       }
 
-  same-within : stateOf y ≡ stateOf x → Within file y cells saved
+  same-within : stateOf y ≡ stateOf x → Within file y cells saved entities
   same-within e =
       let d : y .depth ≡ x .depth = ap (λ (s : State). s .depth) e in
       let s : y .saved ≡ x .saved = ap (λ (s : State). s .saved) e in
-      moved-within (ap (λ (s : State). s .file) e) (rw d (h .depth)) (rw s (h .held))
+      moved-within (ap (λ (s : State). s .file) e) (ap (λ (s : State). s .entityCount) e) (rw d (h .depth)) (rw s (h .held))
 
-  pub left-within : (P : Program) → stateOf y ≡ left P (bare x) .state → Within file y cells saved
+  pub left-within : (P : Program) → stateOf y ≡ left P (bare x) .state → Within file y cells saved entities
   unfolding left
   left-within P e =
       let d : y .depth ≡ x .depth - 1 = ap (λ (s : State). s .depth) e in
       let s : y .saved ≡ x .saved - functionOf P (x .«current_function») .locals = ap (λ (s : State). s .saved) e in
-      moved-within (ap (λ (s : State). s .file) e) (omega (arith, h .depth)) (omega (arith, h .held))
+      moved-within (ap (λ (s : State). s .file) e) (ap (λ (s : State). s .entityCount) e) (omega (arith, h .depth)) (omega (arith, h .held))
 
-  entered-within : (P : Program) (f : ℕ) (back : ℤ) → judge (entryConditions P f (bare x)) ≡ 0 → stateOf y ≡ entered P f back (bare x) .state → Within file y cells saved
+  entered-within : (P : Program) (f : ℕ) (back : ℤ) → judge (entryConditions P f (bare x)) ≡ 0 → stateOf y ≡ entered P f back (bare x) .state → Within file y cells saved entities
   unfolding entered entryConditions limits
   entered-within P f back z e =
       let l = functionOf P f .locals in
@@ -162,25 +200,25 @@ module _ (file : List ℕ) (cells saved : ℕ) (x y : ExecutionContext) (h : Wit
       let fits : x .saved + l ≤ 2048 = leb-true _ _ (and-right (not (negative l)) (leb (x .saved + l) 2048) (k .1 .1 .0)) in
       let d : y .depth ≡ x .depth + 1 = ap (λ (s : State). s .depth) e in
       let s : y .saved ≡ x .saved + l = ap (λ (s : State). s .saved) e in
-      moved-within (ap (λ (s : State). s .file) e) (omega arith) (omega arith)
+      moved-within (ap (λ (s : State). s .file) e) (ap (λ (s : State). s .entityCount) e) (omega arith) (omega arith)
 
 -- after whatever an entry or a Return answers
-module _ (file : List ℕ) (P : Program) (x : ExecutionContext) (cells saved : List ℕ) (r : Answered) (cells′ saved′ : List ℕ) (h : Within file x (length cells) (length saved)) where
-  pub enter-within : (f : ℕ) (back : ℤ) → outcomeOf r cells′ saved′ ≡ after (config x cells saved) (enter P f back) → Within file (r .context) (length cells) (length saved)
+module _ (file : List ℕ) (P : Program) (x : ExecutionContext) (cells saved entities : List ℕ) (r : Answered) (cells′ saved′ : List ℕ) (h : Within file x (length cells) (length saved) (length entities)) where
+  pub enter-within : (f : ℕ) (back : ℤ) → outcomeOf r cells′ saved′ entities ≡ after (config x cells saved entities) (enter P f back) → Within file (r .context) (length cells) (length saved) (length entities)
   unfolding entered entryConditions
   enter-within f back e =
       ⊎-elim
-      (λ s. same-within _ _ _ x (r .context) h s)
-      (λ s. entered-within _ _ _ x (r .context) h P f back (s .0) (ap (λ (c : Config). c .state) (s .1)))
-      (outcome-cases x cells saved (entryConditions P f (config x cells saved)) (entered P f back (config x cells saved)) r cells′ saved′ e)
+      (λ s. same-within _ _ _ _ x (r .context) h s)
+      (λ s. entered-within _ _ _ _ x (r .context) h P f back (s .0) (ap (λ (c : Config). c .state) (s .1)))
+      (outcome-cases x cells saved entities (entryConditions P f (config x cells saved entities)) (entered P f back (config x cells saved entities)) r cells′ saved′ e)
 
-  pub return-within : (a : ℕ) → outcomeOf r cells′ saved′ ≡ after (config x cells saved) (return P a) → Within file (r .context) (length cells) (length saved)
+  pub return-within : (a : ℕ) → outcomeOf r cells′ saved′ entities ≡ after (config x cells saved entities) (return P a) → Within file (r .context) (length cells) (length saved) (length entities)
   unfolding left
   return-within a e =
       ⊎-elim
-      (λ s. same-within _ _ _ x (r .context) h s)
-      (λ s. left-within _ _ _ x (r .context) h P (ap (λ (c : Config). c .state) (s .1)))
-      (outcome-cases x cells saved (returnConditions P a (config x cells saved)) (returned P a (config x cells saved)) r cells′ saved′ e)
+      (λ s. same-within _ _ _ _ x (r .context) h s)
+      (λ s. left-within _ _ _ _ x (r .context) h P (ap (λ (c : Config). c .state) (s .1)))
+      (outcome-cases x cells saved entities (returnConditions P a (config x cells saved entities)) (returned P a (config x cells saved entities)) r cells′ saved′ e)
 
 -- ---- a leaving, on contexts alone
 

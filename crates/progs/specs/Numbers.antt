@@ -33,6 +33,7 @@ numberedIn f depth held count =
       «current_function» = f;
       depth = depth;
       saved = held;
+      «entity_count» = 0;
       frames = [];
     }
 
@@ -48,6 +49,7 @@ enteredContext x f first locals back =
       «current_function» = f;
       depth = x .depth + 1;
       saved = x .saved + locals;
+      «entity_count» = x .«entity_count»;
       frames = set (x .frames) (x .depth) (record { «instr_id» = back; «func_id» = x .«current_function» });
     }
 
@@ -81,6 +83,7 @@ leftContext x locals =
       «current_function» = frame .«func_id»;
       depth = x .depth - 1;
       saved = x .saved - locals;
+      «entity_count» = x .«entity_count»;
       frames = set (x .frames) (x .depth - 1) zeroFrame;
     }
 

@@ -1,7 +1,8 @@
 // Abandonment: functions are left, innermost first, down to a depth. Whether a leaving is refused depends on no cell, so that all are tried on
 // contexts alone before the first is done, and a refusal has nothing to undo.
 ghost use mathlib.Core.Path.{_≡_};
-ghost use Prim.Native.Nat.{_-_, _≤_};
+ghost use mathlib.Core.List.{List};
+ghost use Prim.Native.Nat.{ℕ, _-_, _*_, _≤_};
 ghost use lib.ListN.{length};
 ghost use Rattle.definition.specs.Checks.{judge};
 ghost use Rattle.definition.specs.Load.{programOf};
@@ -39,9 +40,9 @@ impl ExecutionContext {
         cells: &mut [u32],
         store: &[u32],
     ) -> ExecutionContext
-        requires { ⌜ Within (now file) self (length (now cells)) (length (now store)) ⌝ }
+        requires { ⌜ Within (now file) self (length (now cells)) (length (now store)) (self .«entity_count» * self .file .entityfields) ⌝ }
         requires { ⌜ judge (leavingsConditions (programOf (now file)) (self .depth - target) (bare self)) ≡ 0 ⌝ }
-        ensures { λ r. ⌜ config r (now (cells .exit)) (now (store .entry)) ≡ leftTimes (programOf (now (file .entry))) (self .depth - target) (config self (now (cells .entry)) (now (store .entry))) ⌝ }
+        ensures { λ r. ⌜ ((entities : List ℕ) → config r (now (cells .exit)) (now (store .entry)) entities ≡ leftTimes (programOf (now (file .entry))) (self .depth - target) (config self (now (cells .entry)) (now (store .entry)) entities)) ⌝ }
     {
         let mut context = self;
         while target < context.depth {
@@ -51,10 +52,17 @@ impl ExecutionContext {
         context
     }
 
-    pub fn abandon(self, file: &[u8], target: i64, cells: &mut [u32], store: &[u32]) -> Answered
-        ensures { λ r. ⌜ outcomeOf r (now (cells .exit)) (now (store .entry)) ≡ after (config self (now (cells .entry)) (now (store .entry))) (abandon (programOf (now (file .entry))) target) ⌝ }
+    pub fn abandon(
+        self,
+        file: &[u8],
+        target: i64,
+        cells: &mut [u32],
+        store: &[u32],
+        entities: &[u32],
+    ) -> Answered
+        ensures { λ r. ⌜ outcomeOf r (now (cells .exit)) (now (store .entry)) (now (entities .entry)) ≡ after (config self (now (cells .entry)) (now (store .entry)) (now (entities .entry))) (abandon (programOf (now (file .entry))) target) ⌝ }
     {
-        if !self.check_state(file, cells, store) {
+        if !self.check_state(file, cells, store, entities) {
             return self.refused(13);
         }
         let down = fetch::place_of(self.depth + 1, target);

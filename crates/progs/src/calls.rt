@@ -1,7 +1,8 @@
-// Entry, leaving and Return, after check 13.
+// Entry, leaving and Return, after check 13. None looks at an entity cell: each contract holds beside every list of them.
 ghost use mathlib.Core.Path.{_≡_};
 ghost use mathlib.Core.Bool.{true};
-ghost use Prim.Native.Nat.{ℕ, _+_, _≤_, _<_};
+ghost use mathlib.Core.List.{List};
+ghost use Prim.Native.Nat.{ℕ, _+_, _*_, _≤_, _<_};
 ghost use lib.ListN.{length};
 ghost use Rattle.definition.specs.Checks.{judge};
 ghost use Rattle.definition.specs.Machine.{Program, functionOf, present, entryConditions, entered, enter, leaveConditions, left};
@@ -263,8 +264,8 @@ impl ExecutionContext {
         cells: &mut [u32],
         store: &mut [u32],
     ) -> Answered
-        requires { ⌜ Within (now file) self (length (now cells)) (length (now store)) ⌝ }
-        ensures { λ r. ⌜ outcomeOf r (now (cells .exit)) (now (store .exit)) ≡ after (config self (now (cells .entry)) (now (store .entry))) (enter (programOf (now (file .entry))) f back) ⌝ }
+        requires { ⌜ Within (now file) self (length (now cells)) (length (now store)) (self .«entity_count» * self .file .entityfields) ⌝ }
+        ensures { λ r. ⌜ ((entities : List ℕ) → outcomeOf r (now (cells .exit)) (now (store .exit)) entities ≡ after (config self (now (cells .entry)) (now (store .entry)) entities) (enter (programOf (now (file .entry))) f back)) ⌝ }
     {
         let functions = self.functions(file);
         let count = self.cell_count();
@@ -315,7 +316,7 @@ impl ExecutionContext {
         requires { ⌜ (0 < self .depth) × (self .depth ≤ 31) ⌝ }
         requires { ⌜ (locals .count ≤ self .saved) × (self .saved ≤ length (now store)) ⌝ }
         requires { ⌜ present (locals .start) (locals .count) (length (now cells)) ≡ true ⌝ }
-        ensures { λ r. ⌜ ((P : Program) → locals ≡ rangeOf (functionOf P (self .«current_function»)) → config r (now (cells .exit)) (now (store .entry)) ≡ left P (config self (now (cells .entry)) (now (store .entry)))) ⌝ }
+        ensures { λ r. ⌜ ((P : Program) (entities : List ℕ) → locals ≡ rangeOf (functionOf P (self .«current_function»)) → config r (now (cells .exit)) (now (store .entry)) entities ≡ left P (config self (now (cells .entry)) (now (store .entry)) entities)) ⌝ }
     {
         let first = self.saved - locals.count;
         copies::move_cells(store, cells, first, locals.start, locals.count);
@@ -324,8 +325,8 @@ impl ExecutionContext {
 
     // Return and Done of the three cells from a on.
     pub fn op_return(self, file: &[u8], a: usize, cells: &mut [u32], store: &[u32]) -> Answered
-        requires { ⌜ Within (now file) self (length (now cells)) (length (now store)) ⌝ }
-        ensures { λ r. ⌜ outcomeOf r (now (cells .exit)) (now (store .entry)) ≡ after (config self (now (cells .entry)) (now (store .entry))) (return (programOf (now (file .entry))) a) ⌝ }
+        requires { ⌜ Within (now file) self (length (now cells)) (length (now store)) (self .«entity_count» * self .file .entityfields) ⌝ }
+        ensures { λ r. ⌜ ((entities : List ℕ) → outcomeOf r (now (cells .exit)) (now (store .entry)) entities ≡ after (config self (now (cells .entry)) (now (store .entry)) entities) (return (programOf (now (file .entry))) a)) ⌝ }
     {
         let functions = self.functions(file);
         let f = self.current_function;

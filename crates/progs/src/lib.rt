@@ -17,7 +17,7 @@ pub mod load;
 mod raw;
 mod state;
 
-// All that an operation leaves for the next, beside the lent bytes, cells and saved store.
+// All that an operation leaves for the next, beside the lent bytes, cells, saved store and entity cells.
 #[repr(C)]
 pub struct ExecutionContext {
     pub file: FileRecord,
@@ -26,6 +26,8 @@ pub struct ExecutionContext {
     // How many frames are in use, and how many cells of the saved store.
     pub depth: usize,
     pub saved: usize,
+    // How many entities there are (document 02, R-3).
+    pub entity_count: usize,
     pub frames: [StackFrame; GREATEST_DEPTH],
 }
 
@@ -37,10 +39,17 @@ pub struct Answered {
 
 impl ExecutionContext {
     // The host enters a function, which is to go back to the present position.
-    pub fn enter(self, file: &[u8], function: i64, cells: &mut [u32], store: &mut [u32]) -> Answered
-        ensures { λ r. ⌜ outcomeOf r (now (cells .exit)) (now (store .exit)) ≡ after (config self (now (cells .entry)) (now (store .entry))) (hostEnter (programOf (now (file .entry))) function) ⌝ }
+    pub fn enter(
+        self,
+        file: &[u8],
+        function: i64,
+        cells: &mut [u32],
+        store: &mut [u32],
+        entities: &[u32],
+    ) -> Answered
+        ensures { λ r. ⌜ outcomeOf r (now (cells .exit)) (now (store .exit)) (now (entities .entry)) ≡ after (config self (now (cells .entry)) (now (store .entry)) (now (entities .entry))) (hostEnter (programOf (now (file .entry))) function) ⌝ }
     {
-        if !self.check_state(file, cells, store) {
+        if !self.check_state(file, cells, store, entities) {
             return self.refused(13);
         }
         let f = fetch::place_of(self.function_count(), function);

@@ -11,13 +11,15 @@ use definition::CELL_SIZE;
 use definition::FileRecord;
 use definition::GREATEST_DEPTH;
 use definition::Lump;
+use definition::MOST_ENTITIES;
 use definition::StackFrame;
+use functions::fetch;
 use functions::header;
 use functions::parts;
 
 // Position, function and depths are 0, and so are the frames.
-fn at_start(file: FileRecord) -> ExecutionContext
-    ensures { λ r. ⌜ stateOf r ≡ startState file ⌝ }
+fn at_start(file: FileRecord, number: usize) -> ExecutionContext
+    ensures { λ r. ⌜ stateOf r ≡ startState file number ⌝ }
 {
     let none = StackFrame {
         instr_id: 0,
@@ -30,6 +32,7 @@ fn at_start(file: FileRecord) -> ExecutionContext
         current_function: 0,
         depth: 0,
         saved: 0,
+        entity_count: number,
         frames,
     }
 }
@@ -42,7 +45,7 @@ fn of_nothing() -> ExecutionContext
         offset: 0,
         count: 0,
     };
-    at_start(FileRecord {
+    let no_file = FileRecord {
         length: 0,
         statements: none,
         globaldefs: none,
@@ -51,14 +54,23 @@ fn of_nothing() -> ExecutionContext
         strings: none,
         globals: none,
         entityfields: 0,
-    })
+    };
+    at_start(no_file, 0)
 }
 
-// The lent cells past the file's count and the saved store stay as they are.
-pub fn load(file: &[u8], cells: &mut [u32], store: &[u32]) -> Answered
-    ensures { λ r. ⌜ outcomeOf r (now (cells .exit)) (now (store .entry)) ≡ loadOutcome (now (cells .entry)) (now (store .entry)) (load (now (file .entry)) (now (cells .entry)) (now (store .entry))) ⌝ }
+// A load for so many entities: a negative number is one too many. The lent cells past the file's count, the saved store and the entity cells stay as
+// they are.
+pub fn load(
+    file: &[u8],
+    number: i64,
+    cells: &mut [u32],
+    store: &[u32],
+    entities: &[u32],
+) -> Answered
+    ensures { λ r. ⌜ outcomeOf r (now (cells .exit)) (now (store .entry)) (now (entities .entry)) ≡ loadOutcome (now (cells .entry)) (now (store .entry)) (now (entities .entry)) (load (now (file .entry)) number (now (cells .entry)) (now (store .entry)) (now (entities .entry))) ⌝ }
 {
-    let refusal = loader::load_refusal(file, cells.len(), store.len());
+    let given = fetch::place_of(MOST_ENTITIES + 1, number);
+    let refusal = loader::load_refusal(file, given, cells.len(), store.len(), entities.len());
     if refusal != 0 {
         return Answered {
             context: of_nothing(),
@@ -68,7 +80,7 @@ pub fn load(file: &[u8], cells: &mut [u32], store: &[u32]) -> Answered
     let recorded = header::file_of(file);
     loader::fill(parts::part(file, CELL_SIZE, recorded.globals), cells);
     Answered {
-        context: at_start(recorded),
+        context: at_start(recorded, given),
         answer: Answer::Accepted,
     }
 }

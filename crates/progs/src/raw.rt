@@ -13,10 +13,17 @@ use functions::fetch;
 
 impl ExecutionContext {
     // 0, or the number of the refusal.
-    fn raw_refusal(self, file: &[u8], address: i64, cells: &[u32], store: &[u32]) -> u8
-        ensures { λ r. ⌜ r ≡ judge (rawConditions (programOf (now (file .entry))) address (config self (now (cells .entry)) (now (store .entry)))) ⌝ }
+    fn raw_refusal(
+        self,
+        file: &[u8],
+        address: i64,
+        cells: &[u32],
+        store: &[u32],
+        entities: &[u32],
+    ) -> u8
+        ensures { λ r. ⌜ r ≡ judge (rawConditions (programOf (now (file .entry))) address (config self (now (cells .entry)) (now (store .entry)) (now (entities .entry)))) ⌝ }
     {
-        if !self.check_state(file, cells, store) {
+        if !self.check_state(file, cells, store, entities) {
             return 13;
         }
         let count = self.cell_count();
@@ -24,10 +31,17 @@ impl ExecutionContext {
         if count <= at { 15 } else { 0 }
     }
 
-    pub fn read(self, file: &[u8], address: i64, cells: &[u32], store: &[u32]) -> ReadAnswer
-        ensures { λ r. ⌜ r ≡ readAnswer (rawRead (programOf (now (file .entry))) address (config self (now (cells .entry)) (now (store .entry)))) ⌝ }
+    pub fn read(
+        self,
+        file: &[u8],
+        address: i64,
+        cells: &[u32],
+        store: &[u32],
+        entities: &[u32],
+    ) -> ReadAnswer
+        ensures { λ r. ⌜ r ≡ readAnswer (rawRead (programOf (now (file .entry))) address (config self (now (cells .entry)) (now (store .entry)) (now (entities .entry)))) ⌝ }
     {
-        let refusal = self.raw_refusal(file, address, cells, store);
+        let refusal = self.raw_refusal(file, address, cells, store, entities);
         if refusal != 0 {
             return ReadAnswer::Refused(refusal);
         }
@@ -42,10 +56,11 @@ impl ExecutionContext {
         value: u32,
         cells: &mut [u32],
         store: &[u32],
+        entities: &[u32],
     ) -> Answered
-        ensures { λ r. ⌜ outcomeOf r (now (cells .exit)) (now (store .entry)) ≡ after (config self (now (cells .entry)) (now (store .entry))) (rawWrite (programOf (now (file .entry))) address value) ⌝ }
+        ensures { λ r. ⌜ outcomeOf r (now (cells .exit)) (now (store .entry)) (now (entities .entry)) ≡ after (config self (now (cells .entry)) (now (store .entry)) (now (entities .entry))) (rawWrite (programOf (now (file .entry))) address value) ⌝ }
     {
-        let refusal = self.raw_refusal(file, address, cells, store);
+        let refusal = self.raw_refusal(file, address, cells, store, entities);
         if refusal != 0 {
             return self.refused(refusal);
         }

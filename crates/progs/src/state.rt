@@ -39,14 +39,17 @@ impl ExecutionContext {
         self.saved == sum
     }
 
-    pub fn check_state(self, file: &[u8], cells: &[u32], store: &[u32]) -> bool
-        ensures { λ r. ⌜ r ≡ sound (programOf (now (file .entry))) (config self (now (cells .entry)) (now (store .entry))) ⌝ }
+    pub fn check_state(self, file: &[u8], cells: &[u32], store: &[u32], entities: &[u32]) -> bool
+        ensures { λ r. ⌜ r ≡ sound (programOf (now (file .entry))) (config self (now (cells .entry)) (now (store .entry)) (now (entities .entry))) ⌝ }
     {
         let recorded = self.file;
         if !header::recorded_in(file, recorded, cells.len()) {
             return false;
         }
         if store.len() < SAVED_STORE {
+            return false;
+        }
+        if !header::entities_fit(self.entity_count, recorded.entityfields, entities.len()) {
             return false;
         }
         if GREATEST_DEPTH < self.depth {

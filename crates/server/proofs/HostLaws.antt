@@ -34,27 +34,27 @@ permitted-over : (a : ℤ) (k : ℕ) → k < placeOf 0 a → permitted a k ≡ f
 permitted-over (pos n) k h = rw (lt-leb n k h, and-false)
 permitted-over (negsuc n) k h = refl
 
-module _ (P : Program) (target limit : ℤ) (x : ExecutionContext) (cells saved : List ℕ) where
+module _ (P : Program) (target limit : ℤ) (x : ExecutionContext) (cells saved entities : List ℕ) where
   abbrev here : Config
-  here = config x cells saved
+  here = config x cells saved entities
 
-  not-run : (n : ℕ) (r : Ran) → judge (runConditions P target limit here) ≡ suc n → r ≡ notRun x (suc n) → ranOf r cells saved ≡ run P target limit here
+  not-run : (n : ℕ) (r : Ran) → judge (runConditions P target limit here) ≡ suc n → r ≡ notRun x (suc n) → ranOf r cells saved entities ≡ run P target limit here
   unfolding run
   not-run n r j e = rw (j, e)
 
-  pub run-13 : (r : Ran) → sound P here ≡ false → r ≡ notRun x 13 → ranOf r cells saved ≡ run P target limit here
+  pub run-13 : (r : Ran) → sound P here ≡ false → r ≡ notRun x 13 → ranOf r cells saved entities ≡ run P target limit here
   unfolding runConditions judge
   run-13 r s e = not-run 12 r (rw s) e
 
   module _ (s : sound P here ≡ true) (most : ℕ) (m : most ≡ placeOf 0 limit) where
-    over : permitted limit 99999 ≡ false → (r : Ran) → r ≡ notRun x 28 → ranOf r cells saved ≡ run P target limit here
+    over : permitted limit 99999 ≡ false → (r : Ran) → r ≡ notRun x 28 → ranOf r cells saved entities ≡ run P target limit here
     unfolding runConditions judge limits
     over p r e = not-run 27 r (rw (s, p)) e
 
-    pub run-28-none : most ≡ 0 → (r : Ran) → r ≡ notRun x 28 → ranOf r cells saved ≡ run P target limit here
+    pub run-28-none : most ≡ 0 → (r : Ran) → r ≡ notRun x 28 → ranOf r cells saved entities ≡ run P target limit here
     run-28-none z r e = over (permitted-none limit 99999 (sym m ∙ z)) r e
 
-    pub run-28-over : 99999 < most → (r : Ran) → r ≡ notRun x 28 → ranOf r cells saved ≡ run P target limit here
+    pub run-28-over : 99999 < most → (r : Ran) → r ≡ notRun x 28 → ranOf r cells saved entities ≡ run P target limit here
     run-28-over z r e = over (permitted-over limit 99999 (rw m at z)) r e
 
     module _ (some : most ≡ 0 → ⊥) (few : most ≤ 99999) (down : ℕ) (d : down ≡ placeOf (x .depth) target) where
@@ -64,7 +64,7 @@ module _ (P : Program) (target limit : ℤ) (x : ExecutionContext) (cells saved 
           more : 0 < most
           more = positive most some
 
-      pub run-29 : x .depth ≤ down → (r : Ran) → r ≡ notRun x 29 → ranOf r cells saved ≡ run P target limit here
+      pub run-29 : x .depth ≤ down → (r : Ran) → r ≡ notRun x 29 → ranOf r cells saved entities ≡ run P target limit here
       unfolding runConditions judge limits
       run-29 k r e = not-run 28 r (rw (s, in-limit, below-place (x .depth) target, ← d, le-ltb down (x .depth) k)) e
 

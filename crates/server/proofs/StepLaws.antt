@@ -5,22 +5,22 @@ use mathlib.Core.List.{List}
 use mathlib.Core.Bool.{Bool, true, false}
 use native.Mathlib.Omega.{arith}
 use lib.Dec.{eqb}
-use lib.IntN.{ℤ}
+use lib.IntN.{ℤ, pos, _+ℤ_}
 use Rattle.definition.specs.declared.StatementAnswer.the-variants as statement
 use Rattle.definition.specs.declared.RunAnswer.{RunAnswer}
 use Rattle.definition.specs.declared.RunAnswer.the-variants as run
-use Rattle.definition.specs.Checks.{judge}
+use Rattle.definition.specs.Checks.{judge, guard}
 use Rattle.definition.specs.File.{contentsOf}
-use Rattle.definition.specs.Statements.{Does, calls, orRefused, fetchConditions, statementAt, execute, doesAt}
+use Rattle.definition.specs.Statements.{Entities, Does, next, puts, calls, returns, refuses, handsOver, orRefused, fetchConditions, statementAt, execute, doesAt}
 use Rattle.definition.specs.Machine as machine
-use Rattle.definition.specs.Machine.{Program, Config, stepAs, step, completed, refusedStep, handedStep, oneMore, goOn, runAs, runFor}
+use Rattle.definition.specs.Machine.{Program, Config, advanced, enter, returnConditions, returned, asStep, stepAs, step, completed, refusedStep, handedStep, oneMore, goOn, runAs, runFor}
 use Rattle.definition.specs.Operations as operations
 use Rattle.definition.specs.Operations.{sound}
 use Rattle.definition.specs.Load.{programAt, programOf}
 use Rattle.definition.specs.Answers.{StatementOutcome, statementOutcome}
 use Rattle.execution.specs.declared.Executed.{Executed}
 use Rattle.execution.specs.declared.Executed.the-variants as does
-use Rattle.execution.specs.Execution.{doesOf, executed, execution, executed-does}
+use Rattle.execution.specs.Execution.{Execution, executed, execution}
 use Rattle.progs.specs.declared.ExecutionContext.{ExecutionContext}
 use Rattle.progs.specs.Contexts.{config, Loaded, Within, AtStatement}
 use Rattle.progs.proofs.DoesLaws.{at-statement}
@@ -30,29 +30,67 @@ use Rattle.server.specs.Stepping.{statementAnswer, steppedOf, steppedAs,
 
 -- ---- from what was done to the step
 
-module _ (P : Program) (x : ExecutionContext) (cells saved cells′ : List ℕ) (done : Executed) (e : executed done cells′ ≡ execution (P .does (x .pc) cells) cells) where
-  pub step-is : stepAs P (doesOf done cells′) (config x cells saved) ≡ step P (config x cells saved)
-  unfolding step
-  step-is = ap (λ (d : Does). stepAs P d (config x cells saved)) (executed-does done cells′ (P .does (x .pc) cells) cells e)
+-- the step that answers so, and leaves these cells and entity cells
+abbrev pub stepBy : Program → Executed → List ℕ → List ℕ → Config → machine.Stepped
+stepBy P (does.Next p) cells entities c = completed (advanced c p cells entities)
+stepBy P (does.Calls f) cells entities c = asStep (enter P f (c .state .pc +ℤ pos 1) c)
+stepBy P (does.Returns a) cells entities c = asStep (guard (returnConditions P a c) (returned P a c))
+stepBy P (does.Refused n) cells entities c = refusedStep n
+stepBy P (does.HandedOver h) cells entities c = handedStep h
 
-pub does-call-at : (file : List ℕ) (x : ExecutionContext) (cells cells′ : List ℕ) (done : Executed) → Loaded file (x .file) → executed done cells′ ≡ execution (programOf file .does (x .pc) cells) cells
-    → CallAt done (x .pc)
-unfolding programAt doesAt
-does-call-at file x cells cells′ done h e = by done (executed-does done cells′ (programOf file .does (x .pc) cells) cells e)
+-- only a statement that completes changes cells or entity cells
+abbrev pub keptBy : Executed → List ℕ → List ℕ → List ℕ
+keptBy (does.Next p) new old = new
+keptBy (does.Calls f) new old = old
+keptBy (does.Returns a) new old = old
+keptBy (does.Refused n) new old = old
+keptBy (does.HandedOver h) new old = old
+
+pub record Stands (P : Program) (c : Config) (d : Does) (done : Executed) (cells entities : List ℕ) : Type 0 where
+  pub step-is : stepBy P done cells entities c ≡ stepAs P d c
+  pub cells-are : cells ≡ keptBy done cells (c .cells)
+  pub entities-are : entities ≡ keptBy done entities (c .entities)
+
+-- what was done, of what the definition has the statement do
+pub stands : (P : Program) (c : Config) (d : Does) (done : Executed) (cells entities : List ℕ)
+    → executed done cells entities ≡ execution d (c .cells) (c .entities) → Stands P c d done cells entities
+unfolding executed execution stepAs
+stands P c d done cells entities e = by d (ap (λ (x : Execution). x .answer) e) (ap (λ (x : Execution). x .cells) e) (ap (λ (x : Execution). x .entities) e)
   where
-    called : (f : ℕ) → calls f ≡ programOf file .does (x .pc) cells → judge (programOf file .fetching (x .pc)) ≡ 0
+    Here : Does → Type 0
+    Here d =
+        done ≡ execution d (c .cells) (c .entities) .answer
+        → cells ≡ execution d (c .cells) (c .entities) .cells
+        → entities ≡ execution d (c .cells) (c .entities) .entities
+        → Stands P c d done cells entities
+
+    by : (d : Does) → Here d
+    by (next p new) a k l = rw (a, k, l) (record { step-is = refl; cells-are = refl; entities-are = refl })
+    by (puts p new) a k l = rw (a, k, l) (record { step-is = refl; cells-are = refl; entities-are = refl })
+    by (calls f) a k l = rw (a, k, l) (record { step-is = refl; cells-are = refl; entities-are = refl })
+    by (returns i) a k l = rw (a, k, l) (record { step-is = refl; cells-are = refl; entities-are = refl })
+    by (refuses n) a k l = rw (a, k, l) (record { step-is = refl; cells-are = refl; entities-are = refl })
+    by (handsOver h) a k l = rw (a, k, l) (record { step-is = refl; cells-are = refl; entities-are = refl })
+
+pub does-call-at : (file : List ℕ) (x : ExecutionContext) (e : Entities) (cells cells′ entities′ : List ℕ) (done : Executed) → Loaded file (x .file)
+    → executed done cells′ entities′ ≡ execution (programOf file .does (x .pc) e cells) cells (e .cells) → CallAt done (x .pc)
+unfolding programAt doesAt executed execution
+does-call-at file x e cells cells′ entities′ done h q = by done (programOf file .does (x .pc) e cells) refl (ap (λ (z : Execution). z .answer) q)
+  where
+    called : (f : ℕ) → calls f ≡ programOf file .does (x .pc) e cells → judge (programOf file .fetching (x .pc)) ≡ 0
     called f k = go (judge (fetchConditions (contentsOf file .statements) (x .pc))) k
       where
-        go : (n : ℕ) → calls f ≡ orRefused n (execute (contentsOf file) (x .pc) (statementAt (contentsOf file .statements) (x .pc)) cells) → n ≡ 0
+        go : (n : ℕ) → calls f ≡ orRefused n (execute (contentsOf file) (x .pc) (statementAt (contentsOf file .statements) (x .pc)) e cells) → n ≡ 0
         go zero k = refl
         go (suc n) k = let z : _≡_ {A = ℕ} 0 1 = cc in absurd (omega arith)
 
-    by : (d : Executed) → doesOf d cells′ ≡ programOf file .does (x .pc) cells → CallAt d (x .pc)
-    by (does.Next p) k = tt
-    by (does.Calls f) k = at-statement file (x .file) h (x .pc) (called f k)
-    by (does.Returns a) k = tt
-    by (does.Refused n) k = tt
-    by (does.HandedOver v) k = tt
+    by : (answer : Executed) (d : Does) → d ≡ programOf file .does (x .pc) e cells → answer ≡ execution d cells (e .cells) .answer → CallAt answer (x .pc)
+    by answer (calls f) is k = rw k (at-statement file (x .file) h (x .pc) (called f is))
+    by answer (next p new) is k = rw k tt
+    by answer (puts p new) is k = rw k tt
+    by answer (returns a) is k = rw k tt
+    by answer (refuses n) is k = rw k tt
+    by answer (handsOver v) is k = rw k tt
 
 pub call-at : (done : Executed) (f : ℕ) (p : ℤ) → done ≡ does.Calls f → CallAt done p → AtStatement p
 call-at done f p e h = rw e at h
@@ -66,9 +104,9 @@ asStatement r = record { answer = statementAnswer (r .answer); config = r .confi
 pub answered-as : (r : Ran) (known : RunAnswer) → r .answer ≡ known → record { context = r .context; answer = statementAnswer known } ≡ steppedAs r
 answered-as r known e = ap (λ (a : RunAnswer). record { context = r .context; answer = statementAnswer a }) (sym e)
 
-module _ (P : Program) (x : ExecutionContext) (cells saved : List ℕ) where
+module _ (P : Program) (x : ExecutionContext) (cells saved entities : List ℕ) where
   abbrev here : Config
-  here = config x cells saved
+  here = config x cells saved entities
 
   one-turn : (target : ℕ) → asStatement (runFor P 1 target here) ≡ statementOutcome here (step P here)
   unfolding runFor
@@ -83,15 +121,15 @@ module _ (P : Program) (x : ExecutionContext) (cells saved : List ℕ) where
       by (refusedStep n) = refl
       by (handedStep h) = refl
 
-  pub statement-13 : sound P here ≡ false → steppedOf (record { context = x; answer = statement.Refused 13 }) cells saved ≡ statementOutcome here (operations.statement P here)
+  pub statement-13 : sound P here ≡ false → steppedOf (record { context = x; answer = statement.Refused 13 }) cells saved entities ≡ statementOutcome here (operations.statement P here)
   unfolding operations.statement
   statement-13 s = rw s
 
-  pub statement-runs : sound P here ≡ true → (target : ℕ) (r : Ran) (a : Stepped) (cells′ saved′ : List ℕ) → ranOf r cells′ saved′ ≡ runFor P 1 target here → a ≡ steppedAs r
-      → steppedOf a cells′ saved′ ≡ statementOutcome here (operations.statement P here)
+  pub statement-runs : sound P here ≡ true → (target : ℕ) (r : Ran) (a : Stepped) (cells′ saved′ entities′ : List ℕ) → ranOf r cells′ saved′ entities′ ≡ runFor P 1 target here → a ≡ steppedAs r
+      → steppedOf a cells′ saved′ entities′ ≡ statementOutcome here (operations.statement P here)
   unfolding operations.statement
-  statement-runs s target r a cells′ saved′ e h = rw s (ap (λ (z : Stepped). steppedOf z cells′ saved′) h ∙ ap asStatement e ∙ one-turn target)
+  statement-runs s target r a cells′ saved′ entities′ e h = rw s (ap (λ (z : Stepped). steppedOf z cells′ saved′ entities′) h ∙ ap asStatement e ∙ one-turn target)
 
 -- the lent buffers keep their lengths
-pub within-lent : (file : List ℕ) (x : ExecutionContext) (n m n′ m′ : ℕ) → Within file x n m → n′ ≡ n → m′ ≡ m → Within file x n′ m′
-within-lent file x n m n′ m′ w e f = rw (e, f) w
+pub within-lent : (file : List ℕ) (x : ExecutionContext) (n m k n′ m′ k′ : ℕ) → Within file x n m k → n′ ≡ n → m′ ≡ m → k′ ≡ k → Within file x n′ m′ k′
+within-lent file x n m k n′ m′ k′ w e f g = rw (e, f, g) w

@@ -15,11 +15,11 @@ use Rattle.progs.specs.Contexts.{config, AtStatement}
 use Rattle.server.specs.declared.Stepped.{Stepped}
 use Rattle.server.specs.declared.Ran.{Ran}
 
-abbrev pub steppedOf : Stepped → List ℕ → List ℕ → StatementOutcome
-steppedOf r cells saved = record { answer = r .answer; config = config (r .context) cells saved }
+abbrev pub steppedOf : Stepped → List ℕ → List ℕ → List ℕ → StatementOutcome
+steppedOf r cells saved entities = record { answer = r .answer; config = config (r .context) cells saved entities }
 
-abbrev pub ranOf : Ran → List ℕ → List ℕ → machine.Ran
-ranOf r cells saved = record { answer = r .answer; count = r .count; config = config (r .context) cells saved }
+abbrev pub ranOf : Ran → List ℕ → List ℕ → List ℕ → machine.Ran
+ranOf r cells saved entities = record { answer = r .answer; count = r .count; config = config (r .context) cells saved entities }
 
 -- a Call is one of the statements, so that there is a position after it
 abbrev pub CallAt : Executed → ℤ → Type 0

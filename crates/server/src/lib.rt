@@ -54,19 +54,21 @@ fn run_for(
     target: usize,
     cells: &mut [u32],
     store: &mut [u32],
+    entities: &mut [u32],
 ) -> Ran
-    requires { ⌜ Within (now file) context (length (now cells)) (length (now store)) ⌝ }
+    requires { ⌜ Within (now file) context (length (now cells)) (length (now store)) (length (now entities)) ⌝ }
     requires { ⌜ Apart target (context .depth) ⌝ }
-    ensures { λ r. ⌜ ranOf r (now (cells .exit)) (now (store .exit)) ≡ runFor (programOf (now (file .entry))) limit target (config context (now (cells .entry)) (now (store .entry))) ⌝ }
+    ensures { λ r. ⌜ ranOf r (now (cells .exit)) (now (store .exit)) (now (entities .exit)) ≡ runFor (programOf (now (file .entry))) limit target (config context (now (cells .entry)) (now (store .entry)) (now (entities .entry))) ⌝ }
 {
     let recorded = context.file;
     let functions = parts::part(file, FUNCTION_SIZE, recorded.functions);
     let cell_count = recorded.globals.count;
+    let number = context.entity_count;
     let mut now = context;
     let mut count: u32 = 0;
     while count < limit {
         let completed = count + 1;
-        let done = execution::does(file, recorded, cells, now.pc);
+        let done = execution::does(file, recorded, number, cells, entities, now.pc);
         match done {
             Executed::Next(p) => {
                 now.pc = p;
@@ -174,16 +176,17 @@ pub fn statement(
     file: &[u8],
     cells: &mut [u32],
     store: &mut [u32],
+    entities: &mut [u32],
 ) -> Stepped
-    ensures { λ r. ⌜ steppedOf r (now (cells .exit)) (now (store .exit)) ≡ statementOutcome (config context (now (cells .entry)) (now (store .entry))) (statement (programOf (now (file .entry))) (config context (now (cells .entry)) (now (store .entry)))) ⌝ }
+    ensures { λ r. ⌜ steppedOf r (now (cells .exit)) (now (store .exit)) (now (entities .exit)) ≡ statementOutcome (config context (now (cells .entry)) (now (store .entry)) (now (entities .entry))) (statement (programOf (now (file .entry))) (config context (now (cells .entry)) (now (store .entry)) (now (entities .entry)))) ⌝ }
 {
-    if !context.check_state(file, cells, store) {
+    if !context.check_state(file, cells, store, entities) {
         return Stepped {
             context,
             answer: StatementAnswer::Refused(13),
         };
     }
-    let ran = run_for(context, file, 1, NO_DEPTH, cells, store);
+    let ran = run_for(context, file, 1, NO_DEPTH, cells, store, entities);
     as_statement(ran)
 }
 
@@ -204,10 +207,11 @@ pub fn run(
     limit: i64,
     cells: &mut [u32],
     store: &mut [u32],
+    entities: &mut [u32],
 ) -> Ran
-    ensures { λ r. ⌜ ranOf r (now (cells .exit)) (now (store .exit)) ≡ run (programOf (now (file .entry))) target limit (config context (now (cells .entry)) (now (store .entry))) ⌝ }
+    ensures { λ r. ⌜ ranOf r (now (cells .exit)) (now (store .exit)) (now (entities .exit)) ≡ run (programOf (now (file .entry))) target limit (config context (now (cells .entry)) (now (store .entry)) (now (entities .entry))) ⌝ }
 {
-    if !context.check_state(file, cells, store) {
+    if !context.check_state(file, cells, store, entities) {
         return not_run(context, 13);
     }
     let most = fetch::place_of(0, limit);
@@ -218,5 +222,5 @@ pub fn run(
     if context.depth <= down {
         return not_run(context, 29);
     }
-    run_for(context, file, most as u32, down, cells, store)
+    run_for(context, file, most as u32, down, cells, store, entities)
 }

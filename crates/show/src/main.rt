@@ -10,8 +10,10 @@ fn main() {
     let mut file = [0u8; LONGEST_INPUT + 1];
     let mut cells = [0u32; MOST_CELLS];
     let mut store = [0u32; SAVED_STORE];
+    // Entities there are none, so that no cell of these is looked at.
+    let mut entities = [0u32; 1];
     let mut line = [0u8; LINE_ROOM];
     let n = io::read_full(STDIN_FILENO, &mut file);
-    let end = shown::show(&file[..n], &mut cells, &mut store, &mut line);
+    let end = shown::show(&file[..n], &mut cells, &mut store, &mut entities, &mut line);
     io::write_all(STDOUT_FILENO, &line[..end]);
 }

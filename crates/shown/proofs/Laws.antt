@@ -50,32 +50,32 @@ module _ (P : Program) (c : Config) (o : Outcome) (e : o ≡ outcome c (hostEnte
 
 -- ---- a load
 
-module _ (file cells saved : List ℕ) where
-  pub too-long : 65536 < length file → ofRefusal 1 cells saved ≡ shown file cells saved
+module _ (file cells saved entities : List ℕ) where
+  pub too-long : 65536 < length file → ofRefusal 1 cells saved entities ≡ shown file cells saved entities
   unfolding shown
   too-long h = rw (lt-leb (length file) 65536 h)
 
-  module _ (few : length file ≤ 65536) (o : Outcome) (e : o ≡ loadOutcome cells saved (load file cells saved)) where
-    loaded : (s : Shown) → s ≡ afterLoad (programOf file) cells saved (load file cells saved) → s ≡ shown file cells saved
+  module _ (few : length file ≤ 65536) (o : Outcome) (e : o ≡ loadOutcome cells saved entities (load file (pos 0) cells saved entities)) where
+    loaded : (s : Shown) → s ≡ afterLoad (programOf file) cells saved entities (load file (pos 0) cells saved entities) → s ≡ shown file cells saved entities
     unfolding shown
     loaded s h = h ∙ rw (le-leb (length file) 65536 few)
 
-    pub load-refused : (n : ℕ) → o .answer ≡ answer.Refused n → ofRefusal n (o .config .cells) (o .config .saved) ≡ shown file cells saved
-    load-refused n a = loaded _ (by (load file cells saved) e)
+    pub load-refused : (n : ℕ) → o .answer ≡ answer.Refused n → ofRefusal n (o .config .cells) (o .config .saved) (o .config .entities) ≡ shown file cells saved entities
+    load-refused n a = loaded _ (by (load file (pos 0) cells saved entities) e)
       where
-        by : (x : Checked Config) → o ≡ loadOutcome cells saved x
-            → ofRefusal n (o .config .cells) (o .config .saved) ≡ afterLoad (programOf file) cells saved x
+        by : (x : Checked Config) → o ≡ loadOutcome cells saved entities x
+            → ofRefusal n (o .config .cells) (o .config .saved) (o .config .entities) ≡ afterLoad (programOf file) cells saved entities x
         by (refused m) h = rw (same-number (o .answer) a (its-answer h), its-config h)
         by (accepted c′) h = absurd (different (o .answer) a (its-answer h))
 
-    pub load-accepted : (r : Ran) → o .answer ≡ answer.Accepted → r ≡ enteredAndRun (programOf file) (o .config) → ofRun r ≡ shown file cells saved
-    load-accepted r a f = loaded _ (by (load file cells saved) e)
+    pub load-accepted : (r : Ran) → o .answer ≡ answer.Accepted → r ≡ enteredAndRun (programOf file) (o .config) → ofRun r ≡ shown file cells saved entities
+    load-accepted r a f = loaded _ (by (load file (pos 0) cells saved entities) e)
       where
-        by : (x : Checked Config) → o ≡ loadOutcome cells saved x → ofRun r ≡ afterLoad (programOf file) cells saved x
+        by : (x : Checked Config) → o ≡ loadOutcome cells saved entities x → ofRun r ≡ afterLoad (programOf file) cells saved entities x
         by (refused m) h = absurd (different (o .answer) (its-answer h) a)
         by (accepted c′) h = ap ofRun (f ∙ ap (enteredAndRun (programOf file)) (its-config h))
 
 -- ---- a line in a buffer
 
-pub prints : {out : Output} (line : List ℕ) (s t : Shown) → out ≡ atFront (s .text) line → s ≡ t → printed out (s .cells) (s .saved) ≡ atFrontOf line t
+pub prints : {out : Output} (line : List ℕ) (s t : Shown) → out ≡ atFront (s .text) line → s ≡ t → printed out (s .cells) (s .saved) (s .entities) ≡ atFrontOf line t
 prints line s t e h = rw (e, h)

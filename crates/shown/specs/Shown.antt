@@ -27,29 +27,36 @@ abbrev pub stateLine : RunAnswer → ℕ → State → List ℕ → List ℕ
 stateLine answer count s cells =
     showLine answer count (s .pc) (s .function) (s .depth) (s .saved) (getD cells 1 0) (getD cells 2 0) (getD cells 3 0)
 
--- a line, and the two lent stores after it
+-- a line, and the three lent stores after it
 pub record Shown : Type 0 where
   pub text : List ℕ
   pub cells : List ℕ
   pub saved : List ℕ
+  pub entities : List ℕ
 
 abbrev pub ofRun : Ran → Shown
-ofRun r = record { text = stateLine (r .answer) (r .count) (r .config .state) (r .config .cells); cells = r .config .cells; saved = r .config .saved }
+ofRun r =
+    record {
+      text = stateLine (r .answer) (r .count) (r .config .state) (r .config .cells);
+      cells = r .config .cells;
+      saved = r .config .saved;
+      entities = r .config .entities;
+    }
 
 -- "A refused load prints the first two fields only"
-abbrev pub ofRefusal : ℕ → List ℕ → List ℕ → Shown
-ofRefusal n cells saved = record { text = refusedLine n; cells = cells; saved = saved }
+abbrev pub ofRefusal : ℕ → List ℕ → List ℕ → List ℕ → Shown
+ofRefusal n cells saved entities = record { text = refusedLine n; cells = cells; saved = saved; entities = entities }
 
-abbrev pub afterLoad : Program → List ℕ → List ℕ → Checked Config → Shown
-afterLoad P cells saved (refused n) = ofRefusal n cells saved
-afterLoad P cells saved (accepted c) = ofRun (enteredAndRun P c)
+abbrev pub afterLoad : Program → List ℕ → List ℕ → List ℕ → Checked Config → Shown
+afterLoad P cells saved entities (refused n) = ofRefusal n cells saved entities
+afterLoad P cells saved entities (accepted c) = ofRun (enteredAndRun P c)
 
--- "a longer input prints `refused,1`"
-unfoldable pub shown : List ℕ → List ℕ → List ℕ → Shown
-shown file cells saved =
+-- "a longer input prints `refused,1`"; "and entities none"
+unfoldable pub shown : List ℕ → List ℕ → List ℕ → List ℕ → Shown
+shown file cells saved entities =
     cond (leb (length file) 65536)
-    (afterLoad (programOf file) cells saved (load file cells saved))
-    (ofRefusal 1 cells saved)
+    (afterLoad (programOf file) cells saved entities (load file (pos 0) cells saved entities))
+    (ofRefusal 1 cells saved entities)
 
 -- ---- in a lent buffer
 
@@ -57,10 +64,11 @@ pub record Printed : Type 0 where
   pub line : Output
   pub cells : List ℕ
   pub saved : List ℕ
+  pub entities : List ℕ
 
-abbrev pub printed : Output → List ℕ → List ℕ → Printed
-printed line cells saved = record { line = line; cells = cells; saved = saved }
+abbrev pub printed : Output → List ℕ → List ℕ → List ℕ → Printed
+printed line cells saved entities = record { line = line; cells = cells; saved = saved; entities = entities }
 
 -- the line at the front of a buffer
 abbrev pub atFrontOf : List ℕ → Shown → Printed
-atFrontOf line s = printed (atFront (s .text) line) (s .cells) (s .saved)
+atFrontOf line s = printed (atFront (s .text) line) (s .cells) (s .saved) (s .entities)

@@ -21,6 +21,9 @@ pub const LONGEST_INPUT: usize = 65536;
 // Its run's limit is the greatest.
 const LIMIT: i64 = GREATEST_LIMIT as i64;
 
+// "entities none"
+const NO_ENTITIES: i64 = 0;
+
 // 0 past the end. (After an accepted load there are 36 cells or more.)
 fn cell_at(cells: &[u32], i: usize) -> u32
     ensures { λ r. ⌜ r ≡ getD (now (cells .entry)) i 0 ⌝ }
@@ -67,10 +70,11 @@ fn enter_and_run(
     file: &[u8],
     cells: &mut [u32],
     store: &mut [u32],
+    entities: &mut [u32],
 ) -> Ran
-    ensures { λ r. ⌜ ranOf r (now (cells .exit)) (now (store .exit)) ≡ enteredAndRun (programOf (now (file .entry))) (config context (now (cells .entry)) (now (store .entry))) ⌝ }
+    ensures { λ r. ⌜ ranOf r (now (cells .exit)) (now (store .exit)) (now (entities .exit)) ≡ enteredAndRun (programOf (now (file .entry))) (config context (now (cells .entry)) (now (store .entry)) (now (entities .entry))) ⌝ }
 {
-    let entered = context.enter(file, 1, cells, store);
+    let entered = context.enter(file, 1, cells, store, entities);
     let context = entered.context;
     let answer = entered.answer;
     match answer {
@@ -81,26 +85,32 @@ fn enter_and_run(
                 count: 0,
             };
         }
-        Answer::Accepted => return server::run(context, file, 0, LIMIT, cells, store),
+        Answer::Accepted => return server::run(context, file, 0, LIMIT, cells, store, entities),
     }
 }
 
 // The line stands at the front of `line`; the result is its length.
-pub fn show(file: &[u8], cells: &mut [u32], store: &mut [u32], line: &mut [u8]) -> usize
+pub fn show(
+    file: &[u8],
+    cells: &mut [u32],
+    store: &mut [u32],
+    entities: &mut [u32],
+    line: &mut [u8],
+) -> usize
     requires { ⌜ 160 ≤ length (now line) ⌝ }
-    ensures { λ r. ⌜ printed (output (now (line .exit)) r) (now (cells .exit)) (now (store .exit)) ≡ atFrontOf (now (line .entry)) (shown (now (file .entry)) (now (cells .entry)) (now (store .entry))) ⌝ }
+    ensures { λ r. ⌜ printed (output (now (line .exit)) r) (now (cells .exit)) (now (store .exit)) (now (entities .exit)) ≡ atFrontOf (now (line .entry)) (shown (now (file .entry)) (now (cells .entry)) (now (store .entry)) (now (entities .entry))) ⌝ }
     ensures { λ r. ⌜ r ≤ 160 ⌝ }
 {
     if LONGEST_INPUT < file.len() {
         return text::refused_line(line, 1);
     }
-    let loaded = load::load(file, cells, store);
+    let loaded = load::load(file, NO_ENTITIES, cells, store, entities);
     let context = loaded.context;
     let answer = loaded.answer;
     match answer {
         Answer::Refused(n) => return text::refused_line(line, n),
         Answer::Accepted => {
-            let ran = enter_and_run(context, file, cells, store);
+            let ran = enter_and_run(context, file, cells, store, entities);
             let last = ran.context;
             let outcome = ran.answer;
             return state_line(line, outcome, ran.count, last, cells);

@@ -15,11 +15,12 @@ pub fn step(
     file: &[u8],
     cells: &mut [u32],
     store: &mut [u32],
+    entities: &mut [u32],
 ) -> StatementAnswer
-    ensures { λ r. ⌜ steppedOf (stepped (now (context .exit)) r) (now (cells .exit)) (now (store .exit)) ≡ statementOutcome (config (now (context .entry)) (now (cells .entry)) (now (store .entry))) (statement (programOf (now (file .entry))) (config (now (context .entry)) (now (cells .entry)) (now (store .entry)))) ⌝ }
+    ensures { λ r. ⌜ steppedOf (stepped (now (context .exit)) r) (now (cells .exit)) (now (store .exit)) (now (entities .exit)) ≡ statementOutcome (config (now (context .entry)) (now (cells .entry)) (now (store .entry)) (now (entities .entry))) (statement (programOf (now (file .entry))) (config (now (context .entry)) (now (cells .entry)) (now (store .entry)) (now (entities .entry)))) ⌝ }
 {
     let before = *context;
-    let stepped = server::statement(before, file, cells, store);
+    let stepped = server::statement(before, file, cells, store, entities);
     *context = stepped.context;
     stepped.answer
 }
@@ -30,10 +31,11 @@ pub fn step_once(
     file: &[u8],
     cells: &mut [u32],
     store: &mut [u32],
+    entities: &mut [u32],
 ) -> Stepped
-    ensures { λ r. ⌜ steppedOf r (now (cells .exit)) (now (store .exit)) ≡ statementOutcome (config context (now (cells .entry)) (now (store .entry))) (statement (programOf (now (file .entry))) (config context (now (cells .entry)) (now (store .entry)))) ⌝ }
+    ensures { λ r. ⌜ steppedOf r (now (cells .exit)) (now (store .exit)) (now (entities .exit)) ≡ statementOutcome (config context (now (cells .entry)) (now (store .entry)) (now (entities .entry))) (statement (programOf (now (file .entry))) (config context (now (cells .entry)) (now (store .entry)) (now (entities .entry)))) ⌝ }
 {
     let mut c = context;
-    let answer = step(&mut c, file, cells, store);
+    let answer = step(&mut c, file, cells, store, entities);
     Stepped { context: c, answer }
 }

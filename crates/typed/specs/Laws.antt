@@ -9,7 +9,7 @@ use borrow.Author.Tests.{eq-eqb, ne-eqb, eqb-true, eqb-false, lt-ltb, le-ltb, lt
 use lib.Dec.{eqb, ltb}
 use Rattle.definition.specs.Checks.{Condition, Conditions, _otherwise_, judge}
 use Rattle.definition.specs.File.{negative}
-use Rattle.definition.specs.Cells.{Typing, lookup, scalar, passes, cellAccess, vectorAccess, access, readAccess}
+use Rattle.definition.specs.Cells.{Typing, lookup, scalar, passes, cellAccess, vectorAccess, access, readAccess, fieldCellAccess, fieldAccess}
 use Rattle.definition.specs.Statements.{component}
 use Rattle.definition.specs.CheckLaws.{judge-append}
 use Rattle.typed.specs.declared.TypeCheck.the-variants.{Passed, Failed}
@@ -95,13 +95,20 @@ module _ (g : Typing) (want cell : ℕ) where
   unfolding cellAccess judge
   cell-other h = rw h
 
-  pub cell-untyped : Failed ≡ typeCheck (g .definitions) want cell → 16 ≡ judge (cellAccess g want cell)
+  other : Failed ≡ typeCheck (g .definitions) want cell → passes (lookup (g .definitions) cell) want ≡ false
   unfolding typeCheck
-  cell-untyped e = cell-other (go (passes (lookup (g .definitions) cell) want) e)
+  other e = go (passes (lookup (g .definitions) cell) want) e
     where
       go : (t : Bool) → Failed ≡ cond t Passed Failed → t ≡ false
       go true e = let z : _≡_ {A = ℕ} 0 1 = cc in absurd (omega arith)
       go false e = refl
+
+  pub cell-untyped : Failed ≡ typeCheck (g .definitions) want cell → 16 ≡ judge (cellAccess g want cell)
+  cell-untyped e = cell-other (other e)
+
+  pub field-untyped : Failed ≡ typeCheck (g .definitions) want cell → 16 ≡ judge (fieldCellAccess g want cell)
+  unfolding fieldCellAccess judge
+  field-untyped e = rw (other e)
 
   module _ (e : Passed ≡ typeCheck (g .definitions) want cell) where
     typed : passes (lookup (g .definitions) cell) want ≡ true
@@ -120,14 +127,31 @@ module _ (g : Typing) (want cell : ℕ) where
     unfolding cellAccess judge
     cell-above h = rw (typed, le-ltb cell (g .count) h)
 
-  pub cell-reach : judge (cellAccess g want cell) ≡ 0 → cell < g .count
-  unfolding cellAccess judge
-  cell-reach e = go (passes (lookup (g .definitions) cell) want) (ltb cell (g .count)) refl e
+    -- of an entity's cells
+    pub field-below : cell < g .count → 0 ≡ judge (fieldCellAccess g want cell)
+    unfolding fieldCellAccess judge
+    field-below h = rw (typed, lt-ltb cell (g .count) h)
+
+    pub field-above : g .count ≤ cell → 31 ≡ judge (fieldCellAccess g want cell)
+    unfolding fieldCellAccess judge
+    field-above h = rw (typed, le-ltb cell (g .count) h)
+
+  -- n + 1 is the number of an address that is too high
+  typed-below : (n : ℕ) → cond (passes (lookup (g .definitions) cell) want) (cond (ltb cell (g .count)) 0 (suc n)) 16 ≡ 0 → cell < g .count
+  typed-below n e = go (passes (lookup (g .definitions) cell) want) (ltb cell (g .count)) refl e
     where
-      go : (p q : Bool) → ltb cell (g .count) ≡ q → _≡_ {A = ℕ} (cond p (cond q 0 15) 16) 0 → cell < g .count
+      go : (p q : Bool) → ltb cell (g .count) ≡ q → cond p (cond q 0 (suc n)) 16 ≡ 0 → cell < g .count
       go true true k e = ltb-true _ _ k
       go true false k e = absurd (omega arith)
       go false q k e = absurd (omega arith)
+
+  pub cell-reach : judge (cellAccess g want cell) ≡ 0 → cell < g .count
+  unfolding cellAccess judge
+  cell-reach e = typed-below 14 e
+
+  pub field-cell-reach : judge (fieldCellAccess g want cell) ≡ 0 → cell < g .count
+  unfolding fieldCellAccess judge
+  field-cell-reach e = typed-below 30 e
 
 -- what passes for a float passes for a vector
 vector-passes : (t : ℕ) → passes t 3 ≡ passes t 2
@@ -152,6 +176,19 @@ pub access-cell : (g : Typing) (r want cell : ℕ) → (want ≡ 3 → ⊥) → 
 unfolding access
 access-cell g r want cell h e = rw (ne-eqb want 3 h) e
 
+-- ---- an access of a field
+
+pub field-vector : (h : Typing) (r want field : ℕ) → want ≡ 3
+    → r ≡ first (judge (fieldCellAccess h 2 field)) (first (judge (fieldCellAccess h 2 (field + 1))) (judge (fieldCellAccess h 2 (field + 2))))
+    → r ≡ judge (fieldAccess h want field)
+unfolding fieldAccess
+field-vector h r want field k e =
+    rw k (e ∙ sym (judge-three (fieldCellAccess h 2 field) (fieldCellAccess h 2 (field + 1)) (fieldCellAccess h 2 (field + 2))))
+
+pub field-single : (h : Typing) (r want field : ℕ) → (want ≡ 3 → ⊥) → r ≡ judge (fieldCellAccess h want field) → r ≡ judge (fieldAccess h want field)
+unfolding fieldAccess
+field-single h r want field k e = rw (ne-eqb want 3 k) e
+
 -- ---- how far an accepted access reaches
 
 access-last : (g : Typing) (want cell : ℕ) → judge (access g want cell) ≡ 0 → component want cell 2 < g .count
@@ -164,12 +201,29 @@ access-last g want cell e = go (eqb want 3) e
         cell-reach g 2 (cell + 2) (neither _ _ (neither _ _ three .1) .1)
     go false e = cell-reach g want cell e
 
-pub reach : (g : Typing) (t cell : ℕ) → judge (access g t cell) ≡ 0 → Reaches t cell (g .count)
-reach g t cell e = go (eqb t 3) refl (access-last g t cell e)
+-- the last component is the highest
+pub reaches : (t cell n : ℕ) → component t cell 2 < n → Reaches t cell n
+reaches t cell n h = go (eqb t 3) refl h
   where
-    go : (b : Bool) → eqb t 3 ≡ b → cond b (cell + 2) cell < g .count → Reaches t cell (g .count)
+    go : (b : Bool) → eqb t 3 ≡ b → cond b (cell + 2) cell < n → Reaches t cell n
     go true p h = record { first-below = omega arith; second-below = rw p (omega arith); third-below = rw p h }
     go false p h = record { first-below = h; second-below = rw p h; third-below = rw p h }
+
+pub reach : (g : Typing) (t cell : ℕ) → judge (access g t cell) ≡ 0 → Reaches t cell (g .count)
+reach g t cell e = reaches t cell (g .count) (access-last g t cell e)
+
+pub field-reach : (h : Typing) (t field : ℕ) → judge (fieldAccess h t field) ≡ 0 → Reaches t field (h .count)
+unfolding fieldAccess
+field-reach h t field e = reaches t field (h .count) (go (eqb t 3) e)
+  where
+    three : Conditions
+    three = fieldCellAccess h 2 field ++ fieldCellAccess h 2 (field + 1) ++ fieldCellAccess h 2 (field + 2)
+
+    go : (b : Bool) → judge (cond b three (fieldCellAccess h t field)) ≡ 0 → cond b (field + 2) field < h .count
+    go true e =
+        let e3 = sym (judge-three (fieldCellAccess h 2 field) (fieldCellAccess h 2 (field + 1)) (fieldCellAccess h 2 (field + 2))) ∙ e in
+        field-cell-reach h 2 (field + 2) (neither _ _ (neither _ _ e3 .1) .1)
+    go false e = field-cell-reach h t field e
 
 pub widen : {t cell m n : ℕ} → Reaches t cell m → m ≤ n → Reaches t cell n
 widen h k =

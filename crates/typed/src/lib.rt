@@ -4,14 +4,16 @@ ghost use Prim.Native.Nat.{_≤_};
 ghost use lib.ListN.{length};
 ghost use Rattle.definition.specs.Checks.{judge};
 ghost use Rattle.functions.specs.Parts.{definitionsIn};
-ghost use Rattle.definition.specs.Cells.{lookup, scalar, passes, cellAccess, vectorAccess, access, mustBeNatural, readAccess};
-ghost use Rattle.typed.specs.Typing.{typing, typeCheck};
+ghost use Rattle.definition.specs.Cells.{lookup, scalar, passes, cellAccess, vectorAccess, access, mustBeNatural, readAccess, fieldCellAccess, fieldAccess};
+ghost use Rattle.typed.specs.Typing.{typing, fieldTyping, bindingIn, typeCheck};
 ghost use Rattle.typed.specs.Checking.{threeRefusal, moveRefusal};
 use definition::DEFINITION_SIZE;
 use definition::SAVE_FLAG;
 use functions::reads;
 
 // The types of definitions and operands.
+pub const VOID: u16 = 0;
+
 pub const STRING: u16 = 1;
 
 pub const FLOAT: u16 = 2;
@@ -24,6 +26,8 @@ pub const FIELD: u16 = 5;
 
 pub const FUNCTION: u16 = 6;
 
+pub const POINTER: u16 = 7;
+
 // What `find` gives for a cell without a definition: no type, since bit 15 of a definition's type is its save flag.
 pub const UNTYPED: u16 = SAVE_FLAG;
 
@@ -33,10 +37,10 @@ pub enum TypeCheck {
     Failed,
 }
 
-// The type of the first definition of a cell. A turn of the loop looks at two definitions, so that the test for the end is made half as often; the
-// first one of an odd number comes before them.
-pub fn find(defs: &[u8], cell: usize) -> u16
-    ensures { λ r. ⌜ r ≡ lookup (definitionsIn (now (defs .entry))) cell ⌝ }
+// The type of the first definition of a cell, where a void one counts only if it binds. A turn of the loop looks at two definitions, so that the test
+// for the end is made half as often; the first one of an odd number comes before them. Whether a type is void is asked of definitions of the cell alone.
+pub fn find(defs: &[u8], cell: usize, void_binds: bool) -> u16
+    ensures { λ r. ⌜ r ≡ lookup (bindingIn «void_binds» (definitionsIn (now (defs .entry)))) cell ⌝ }
 {
     if 65536 <= cell {
         return UNTYPED;
@@ -46,7 +50,10 @@ pub fn find(defs: &[u8], cell: usize) -> u16
     let mut i = end % 2;
     if i == 1 {
         if reads::u16_at(defs, 2) == wanted {
-            return reads::u16_at(defs, 0) % SAVE_FLAG;
+            let t = reads::u16_at(defs, 0) % SAVE_FLAG;
+            if void_binds | (t != VOID) {
+                return t;
+            }
         }
     }
     let found = loop {
@@ -55,10 +62,16 @@ pub fn find(defs: &[u8], cell: usize) -> u16
         }
         let at = DEFINITION_SIZE * i;
         if reads::u16_at(defs, at + 2) == wanted {
-            break reads::u16_at(defs, at) % SAVE_FLAG;
+            let t = reads::u16_at(defs, at) % SAVE_FLAG;
+            if void_binds | (t != VOID) {
+                break t;
+            }
         }
         if reads::u16_at(defs, at + 10) == wanted {
-            break reads::u16_at(defs, at + 8) % SAVE_FLAG;
+            let t = reads::u16_at(defs, at + 8) % SAVE_FLAG;
+            if void_binds | (t != VOID) {
+                break t;
+            }
         }
         i += 2;
     };
@@ -78,17 +91,24 @@ fn passes(t: u16, want: u16) -> bool
 }
 
 // Where there are no definitions nothing is looked up.
-pub fn type_check(defs: &[u8], cell: usize, want: u16) -> TypeCheck
-    ensures { λ r. ⌜ r ≡ typeCheck (definitionsIn (now (defs .entry))) want cell ⌝ }
+fn check_type(defs: &[u8], cell: usize, want: u16, void_binds: bool) -> TypeCheck
+    ensures { λ r. ⌜ r ≡ typeCheck (bindingIn «void_binds» (definitionsIn (now (defs .entry)))) want cell ⌝ }
 {
     if defs.len() == 0 {
         return TypeCheck::Passed;
     }
-    if passes(find(defs, cell), want) {
+    if passes(find(defs, cell, void_binds), want) {
         TypeCheck::Passed
     } else {
         TypeCheck::Failed
     }
+}
+
+// The type check of a cell, by global definitions.
+pub fn type_check(defs: &[u8], cell: usize, want: u16) -> TypeCheck
+    ensures { λ r. ⌜ r ≡ typeCheck (definitionsIn (now (defs .entry))) want cell ⌝ }
+{
+    check_type(defs, cell, want, true)
 }
 
 // A typed access of one cell.
@@ -204,4 +224,38 @@ pub fn check_move(
         return r;
     }
     check_access(defs, count, tb, b)
+}
+
+// An access of one field cell, by field definitions, of which void ones are passed over: 31 if an entity hasn't so many cells.
+fn check_field_cell(fields: &[u8], size: usize, want: u16, field: usize) -> u8
+    ensures { λ r. ⌜ r ≡ judge (fieldCellAccess (fieldTyping (now (fields .entry)) size) want field) ⌝ }
+{
+    let t = check_type(fields, field, want, false);
+    match t {
+        TypeCheck::Failed => return 16,
+        TypeCheck::Passed => {
+            if field < size {
+                return 0;
+            }
+            return 31;
+        }
+    }
+}
+
+// An access of a field: a vector is three cells, each typed as float.
+pub fn check_field(fields: &[u8], size: usize, want: u16, field: usize) -> u8
+    ensures { λ r. ⌜ r ≡ judge (fieldAccess (fieldTyping (now (fields .entry)) size) want field) ⌝ }
+{
+    if want != VECTOR {
+        return check_field_cell(fields, size, want, field);
+    }
+    let x = check_field_cell(fields, size, FLOAT, field);
+    if x != 0 {
+        return x;
+    }
+    let y = check_field_cell(fields, size, FLOAT, field + 1);
+    if y != 0 {
+        return y;
+    }
+    check_field_cell(fields, size, FLOAT, field + 2)
 }

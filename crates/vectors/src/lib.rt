@@ -1,4 +1,5 @@
-// What the programs that run vectors share: hexadecimal numbers at fixed places of a line, and the last line that they write.
+// What the programs that run vectors share: hexadecimal numbers at fixed places of a line, changes of
+// lent cells, and the last line that they write.
 ghost use Prim.Native.Nat.{_+_, _≤_, _<_};
 ghost use lib.ListN.{length};
 use libc::STDOUT_FILENO;
@@ -24,6 +25,20 @@ pub fn number(line: &[u8], at: usize, n: usize) -> u32
         i += 1;
     }
     x
+}
+
+pub fn put_cell(cells: &mut [u32], i: usize, value: u32) {
+    if i < cells.len() {
+        cells[i] = value;
+    }
+}
+
+pub fn clear_cells(cells: &mut [u32]) {
+    let mut i: usize = 0;
+    while i < cells.len() {
+        cells[i] = 0;
+        i += 1;
+    }
 }
 
 // A proved loop has to end, and nothing says that the input does: a program reads at most so many lines.

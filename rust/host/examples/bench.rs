@@ -1,5 +1,5 @@
-//! What `bench/run` measures of this crate: `bench WHAT PROGRAM TIMES` does one thing so many times on a program file,
-//! and prints what was answered.
+//! What `bench/run` measures of this crate: `bench WHAT PROGRAM TIMES [ENTITIES]` does one thing so many times on a program
+//! file, loaded with so many entities of zeros (none if not said), and prints what was answered.
 //!
 //! | what | does | prints |
 //! |---|---|---|
@@ -7,6 +7,9 @@
 //! | `call` | a call of function 1; the builtin that it calls answers 1.0 | all statements |
 //! | `read` | a raw read of cell 28 | the sum |
 //! | `write` | a raw write of cell 28 | what stands there |
+//! | `field` | a read of `frags` of entity 1, by its definition; it is 1.0 | the sum |
+//! | `set_field` | a write of it | what stands there |
+//! | `named_field` | a read of it by its name | the sum |
 
 use std::env;
 use std::error::Error;
@@ -14,13 +17,15 @@ use std::fs;
 use std::hint::black_box;
 use std::process::ExitCode;
 
-use host::{Machine, CELLS, SAVED_STORE};
+use host::{Machine, Program, Settings, CELLS, SAVED_STORE};
 
 /// The most that a call may take.
 const LIMIT: i64 = 99_999;
 
 const FUNCTION: i64 = 1;
 const CELL: i64 = 28;
+const PLAYER: i64 = 1;
+const FRAGS: &str = "frags";
 
 fn run(machine: &mut Machine) -> Result<String, Box<dyn Error>> {
     let count = machine.call(FUNCTION, LIMIT, |_, _| Err("no builtins here"))?;
@@ -38,6 +43,27 @@ fn run(machine: &mut Machine) -> Result<String, Box<dyn Error>> {
 /// A call whose builtins answer 1.0, and how many statements it took.
 fn call(machine: &mut Machine) -> Result<u32, Box<dyn Error>> {
     Ok(machine.call(FUNCTION, LIMIT, |_, machine| machine.write_float(1, 1.0))?)
+}
+
+/// Reads or writes of a field, and what the last column says.
+fn fields(what: &str, machine: &mut Machine, times: u32) -> Result<f32, Box<dyn Error>> {
+    let frags = machine.find_field_by_name(FRAGS).ok_or("no frags")?;
+    machine.field_mut_of(PLAYER, frags)?.set_float(1.0)?;
+    let mut total = 0.0;
+    for turn in 0..times {
+        let player = black_box(PLAYER);
+        match what {
+            "field" => total += machine.field_of(player, frags)?.float()?,
+            "named_field" => total += machine.field(player, FRAGS)?.float()?,
+            _ => {
+                machine
+                    .field_mut_of(player, frags)?
+                    .set_float(turn as f32)?;
+                total = turn as f32;
+            }
+        }
+    }
+    Ok(total)
 }
 
 fn measured(what: &str, machine: &mut Machine, times: u32) -> Result<String, Box<dyn Error>> {
@@ -60,17 +86,25 @@ fn measured(what: &str, machine: &mut Machine, times: u32) -> Result<String, Box
             }
             total = machine.read(CELL)?.into();
         }
+        "field" | "set_field" | "named_field" => {
+            return Ok(fields(what, machine, times)?.to_string())
+        }
         _ => return Err(format!("nothing is called {what}").into()),
     }
     Ok(total.to_string())
 }
 
 fn bench(words: &[String]) -> Result<String, Box<dyn Error>> {
-    let [what, program, times] = words else {
-        return Err("usage: bench WHAT PROGRAM TIMES".into());
+    let (what, program, times, entities) = match words {
+        [what, program, times] => (what, program, times, 0),
+        [what, program, times, entities] => (what, program, times, entities.parse()?),
+        _ => return Err("usage: bench WHAT PROGRAM TIMES [ENTITIES]".into()),
     };
-    let mut machine = Machine::new(fs::read(program)?, vec![0; CELLS], vec![0; SAVED_STORE]);
-    machine.load()?;
+    let program = fs::read(program)?;
+    let entity_cells = vec![0; usize::try_from(entities)? * Program::new(&program).entity_cells()];
+    let mut machine =
+        Machine::with_entities(program, vec![0; CELLS], vec![0; SAVED_STORE], entity_cells);
+    machine.load_with(Settings { entities })?;
     measured(what, &mut machine, times.parse()?)
 }
 

@@ -1,95 +1,120 @@
-//! A match on the proved machine, from the load to the scoreboard. The rules are a program file; the world and the
-//! builtins are this host's.
+//! A match on the proved machine, from the load to the scoreboard. The rules are a program file; the players are entities,
+//! whose fields the rules and the host both read and set; the world and the builtins are this host's.
 
+use std::error::Error;
 use std::process::ExitCode;
 
 use host::assemble::{statement, Assembly, Function};
-use host::{Caller, Handover, Machine, Refusal, CELLS, SAVED_STORE};
+use host::{Caller, Definition, Handover, Machine, Program, Refusal, Settings, CELLS, SAVED_STORE};
 
 /// Types of definitions.
-const FLOAT: u16 = 2;
 const STRING: u16 = 1;
+const FLOAT: u16 = 2;
+const ENTITY: u16 = 4;
+const FIELD: u16 = 5;
 const FUNCTION: u16 = 6;
 
 /// The most statements that one call may take.
 const LIMIT: i64 = 10_000;
 
+/// Names of the players, and the sides that they play for: red counts for, blue against.
+const PLAYERS: [(&str, f32); 4] = [("Ann", 1.0), ("Bert", -1.0), ("Cem", 1.0), ("Dora", -1.0)];
+
 fn statements() -> Vec<[i16; 4]> {
     vec![
         statement("Done", 0, 0, 0),
-        // StartFrame: if (random() < 0.5) { red = red + 1; bprint(message); } else blue = blue + 1;
+        // PlayerPreThink: if (random() < 0.5) { self.frags = self.frags + 1; bprint(self.netname); bprint(message); }
         statement("Call0", 40, 0, 0),
         statement("Lt", 1, 43, 50),
-        statement("IfNot", 50, 5, 0),
-        statement("AddF", 28, 44, 28),
+        statement("IfNot", 50, 9, 0),
+        statement("LoadF", 28, 30, 51),
+        statement("AddF", 51, 44, 51),
+        statement("Address", 28, 30, 52),
+        statement("StorePF", 51, 52, 0),
+        statement("LoadS", 28, 31, 4),
+        statement("Call1", 41, 0, 0),
         statement("StoreS", 42, 4, 0),
         statement("Call1", 41, 0, 0),
         statement("Done", 0, 0, 0),
-        statement("AddF", 29, 44, 29),
-        statement("Done", 0, 0, 0),
         // BrokenRule adds a text to a number
-        statement("AddF", 28, 42, 28),
+        statement("AddF", 51, 42, 51),
         statement("Done", 0, 0, 0),
-        // EndMatch(red, blue)
-        statement("SubF", 52, 53, 54),
+        // EndMatch(first): for (; first; first = first.chain) ahead = ahead + first.frags * first.team; return ahead;
+        statement("StoreF", 0, 54, 0),
+        statement("LoadF", 53, 30, 55),
+        statement("LoadF", 53, 32, 56),
+        statement("MulF", 55, 56, 55),
+        statement("AddF", 54, 55, 54),
+        statement("LoadEnt", 53, 33, 53),
+        statement("NotEnt", 53, 0, 57),
+        statement("IfNot", 57, -6, 0),
         statement("Return", 54, 0, 0),
     ]
 }
 
-/// The rules: `StartFrame` throws a coin for a point, `EndMatch` returns by how much red is ahead.
-fn rules() -> Vec<u8> {
-    let mut rules = Assembly::default();
-    let random = rules.text("random");
-    let bprint = rules.text("bprint");
-    let start_frame = rules.text("StartFrame");
-    let broken = rules.text("BrokenRule");
-    let end_match = rules.text("EndMatch");
-    let (red, blue) = (rules.text("red"), rules.text("blue"));
-    let (message, point) = (rules.text("message"), rules.text("a point for red\n"));
-    rules.statements = statements();
-    let plain = Function::default();
-    let builtin = |number: i32, name| Function {
-        first: -number,
-        name,
-        arguments: -1,
+fn functions(rules: &mut Assembly) -> Vec<Function> {
+    let mut named = |name: &str, first, local, locals| Function {
+        first,
+        local,
+        locals,
+        name: rules.text(name),
         ..Function::default()
     };
-    rules.functions = vec![
-        plain,
-        builtin(7, random),
-        builtin(23, bprint),
+    let builtin = |function: Function| Function {
+        arguments: -1,
+        ..function
+    };
+    vec![
+        Function::default(),
+        builtin(named("random", -7, 0, 0)),
+        builtin(named("bprint", -23, 0, 0)),
+        named("PlayerPreThink", 1, 50, 3),
+        named("BrokenRule", 13, 0, 0),
         Function {
-            first: 1,
-            local: 50,
-            locals: 1,
-            name: start_frame,
-            ..plain
+            arguments: 1,
+            sizes: [1, 0, 0, 0, 0, 0, 0, 0],
+            ..named("EndMatch", 15, 53, 5)
         },
-        Function {
-            first: 10,
-            name: broken,
-            ..plain
-        },
-        Function {
-            first: 12,
-            local: 52,
-            locals: 3,
-            name: end_match,
-            source: 0,
-            arguments: 2,
-            sizes: [1, 1, 0, 0, 0, 0, 0, 0],
-        },
+    ]
+}
+
+/// The rules: `PlayerPreThink` throws a coin for a point of the player `self`, `EndMatch` returns by how much red is ahead.
+fn rules() -> Vec<u8> {
+    let mut rules = Assembly {
+        statements: statements(),
+        ..Assembly::default()
+    };
+    rules.functions = functions(&mut rules);
+    // The fields' cells hold the fields' places in an entity, as version 6 has them.
+    let fields = [
+        (FLOAT, 49, "frags", 30),
+        (STRING, 74, "netname", 31),
+        (FLOAT, 78, "team", 32),
+        (ENTITY, 60, "chain", 33),
     ];
-    rules.definitions = vec![
-        (FLOAT, 28, red),
-        (FLOAT, 29, blue),
-        (FUNCTION, 40, random),
-        (FUNCTION, 41, bprint),
-        (STRING, 42, message),
-    ];
-    let half = 0.5_f32.to_bits();
-    let one = 1.0_f32.to_bits();
-    rules.cells = vec![(40, 1), (41, 2), (42, point as u32), (43, half), (44, one)];
+    for (kind, place, name, cell) in fields {
+        let name = rules.text(name);
+        rules.fields.push((kind, place, name));
+        rules.definitions.push((FIELD, cell, name));
+        rules.cells.push((cell.into(), place.into()));
+    }
+    for (name, _) in PLAYERS {
+        rules.text(name);
+    }
+    let mut define = |kind, cell: u16, name: &str, content| {
+        let name = rules.text(name);
+        rules.definitions.push((kind, cell, name));
+        rules.cells.push((cell.into(), content));
+    };
+    define(ENTITY, 28, "self", 0);
+    define(FUNCTION, 40, "random", 1);
+    define(FUNCTION, 41, "bprint", 2);
+    define(FLOAT, 43, "half", 0.5_f32.to_bits());
+    define(FLOAT, 44, "one", 1.0_f32.to_bits());
+    let point = rules.text(" scores\n");
+    let message = rules.text("message");
+    rules.definitions.push((STRING, 42, message));
+    rules.cells.push((42, point as u32));
     rules.bytes()
 }
 
@@ -136,31 +161,53 @@ fn call(machine: &mut Machine, world: &mut World, name: &str) -> bool {
     called.is_ok()
 }
 
-/// A cell by the name of its definition.
-fn cell(machine: &Machine, name: &str) -> Result<i64, String> {
-    let definition = machine.find_definition_by_name(name);
-    let definition = definition.ok_or_else(|| format!("the rules have no cell {name}"))?;
-    Ok(definition.cell.into())
+/// A loaded machine with the players as entities 1 and on; entity 0 is the world.
+fn kick_off() -> Result<Machine, Box<dyn Error>> {
+    let program = rules();
+    let entities = PLAYERS.len() + 1;
+    let entity_cells = vec![0; entities * Program::new(&program).entity_cells()];
+    let mut machine =
+        Machine::with_entities(program, vec![0; CELLS], vec![0; SAVED_STORE], entity_cells);
+    machine.load_with(Settings {
+        entities: entities as i64,
+    })?;
+    for (player, (name, team)) in (1..).zip(PLAYERS) {
+        let netname = machine.find_text(name).ok_or("a player without a name")?;
+        machine.field_mut(player, "netname")?.set_text(netname)?;
+        machine.field_mut(player, "team")?.set_float(team)?;
+        // The last one's chain names entity 0, which ends it.
+        let next = (player + 1) % entities as i64;
+        machine.field_mut(player, "chain")?.set_entity(next)?;
+    }
+    Ok(machine)
+}
+
+/// Prints each player's points.
+fn scoreboard(machine: &Machine) -> Result<(), Box<dyn Error>> {
+    let frags: Definition = machine.find_field_by_name("frags").ok_or("no frags")?;
+    for player in 1..machine.entity_count() as i64 {
+        let name = machine.field(player, "netname")?.text()?;
+        let name = String::from_utf8_lossy(machine.text(name).unwrap_or_default());
+        println!("{name} {}", machine.field_of(player, frags)?.float()?);
+    }
+    Ok(())
 }
 
 /// By how much red is ahead at the end.
-pub fn play() -> Result<f32, Box<dyn std::error::Error>> {
-    let mut machine = Machine::new(rules(), vec![0; CELLS], vec![0; SAVED_STORE]);
-    let mut world = World { seed: 5 };
-    machine.load()?;
+pub fn play() -> Result<f32, Box<dyn Error>> {
+    let mut machine = kick_off()?;
+    let mut world = World { seed: 3 };
+    let current = machine.find_definition_by_name("self").ok_or("no self")?;
     for _ in 0..10 {
-        call(&mut machine, &mut world, "StartFrame");
+        for player in 1..machine.entity_count() as u32 {
+            machine.write(current.cell.into(), player)?;
+            call(&mut machine, &mut world, "PlayerPreThink");
+        }
         call(&mut machine, &mut world, "BrokenRule");
     }
-    let (red, blue) = (cell(&machine, "red")?, cell(&machine, "blue")?);
-    println!(
-        "red {}, blue {}",
-        machine.read_float(red)?,
-        machine.read_float(blue)?
-    );
-    // The first argument is in cell 4, the second in cell 7.
-    machine.write(4, machine.read(red)?)?;
-    machine.write(7, machine.read(blue)?)?;
+    scoreboard(&machine)?;
+    // The first argument is in cell 4: the first player.
+    machine.write(4, 1)?;
     if !call(&mut machine, &mut world, "EndMatch") {
         return Err("the match has no result".into());
     }

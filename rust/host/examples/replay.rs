@@ -8,9 +8,9 @@ use std::io::{self, BufRead, BufWriter, Write};
 use std::num::{IntErrorKind, ParseIntError};
 use std::process::ExitCode;
 
-use host::{Handover, LoadError, Machine, Outcome, Refusal, RunOutcome};
+use host::{Handover, LoadError, Machine, Outcome, Refusal, RunOutcome, Settings};
 
-/// The cells and the saved store that are lent before any `lend`.
+/// The cells and the saved store that are lent before any `lend`, and no entity cells.
 const CELLS: u32 = 64;
 const SAVED: u32 = 2048;
 
@@ -51,8 +51,6 @@ struct Replay {
     machine: Machine,
     /// All the program's bytes, of which the machine is lent the first ones.
     program: Vec<u8>,
-    /// Of no use to the machine before it has entity fields.
-    entity_cells: Vec<u32>,
 }
 
 fn fresh(count: u32, number: impl Fn(u32) -> u32) -> Vec<u32> {
@@ -72,7 +70,6 @@ impl Replay {
         Replay {
             machine: Machine::new(program.clone(), fresh_cells(CELLS), fresh_saved(SAVED)),
             program,
-            entity_cells: Vec::new(),
         }
     }
 
@@ -81,7 +78,7 @@ impl Replay {
             Change::Lend(cells, saved, entity_cells) => {
                 *self.machine.cells_mut() = fresh_cells(cells);
                 *self.machine.saved_mut() = fresh_saved(saved);
-                self.entity_cells = fresh(entity_cells, |i| i.wrapping_mul(7));
+                *self.machine.entities_mut() = fresh(entity_cells, |i| i.wrapping_mul(7));
             }
             Change::Poke(offset, byte) => self.poke(offset, byte),
             Change::File(length) => {
@@ -136,7 +133,7 @@ impl Replay {
             "{first} {} {} {}",
             digest_of(machine.cells()),
             digest_of(machine.saved()),
-            digest_of(&self.entity_cells)
+            digest_of(machine.entities())
         )
     }
 }
@@ -149,8 +146,7 @@ fn operate(machine: &mut Machine, call: Call) -> Result<String, LoadError> {
         Err(refusal) => refused(refusal),
     };
     Ok(match call {
-        // The number of entities has no use before the machine has entity fields.
-        Call::Load(_entities) => match machine.load() {
+        Call::Load(entities) => match machine.load_with(Settings { entities }) {
             Ok(()) => "ok".to_string(),
             Err(LoadError::Refused(refusal)) => refused(refusal),
             Err(error) => return Err(error),

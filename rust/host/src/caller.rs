@@ -1,11 +1,13 @@
 //! What a host may do while it carries out what a call handed over.
 
 use crate::call::{CallError, Place};
+use crate::field::{Field, FieldError, FieldMut};
 use crate::machine::{Handover, Machine};
 use crate::program::{Definition, Program};
 use crate::refusal::Refusal;
 
-/// The machine as the closure of a [`Machine::call`] has it: cells, names and texts, and calls of its own.
+/// The machine as the closure of a [`Machine::call`] has it: cells, fields of entities, names and texts, and calls of its
+/// own.
 ///
 /// It has no access to the program's bytes, the buffers as a whole, the frames or the context, and can neither enter
 /// a function without leaving it nor leave one that it hasn't entered. So no closure keeps a call from ending at the
@@ -15,6 +17,12 @@ use crate::refusal::Refusal;
 /// fn builtin(machine: &mut host::Caller<'_>) -> Result<(), host::Refusal> {
 ///     let [x, y, z] = machine.read_vector(4)?;
 ///     machine.write_float(1, (x * x + y * y + z * z).sqrt())
+/// }
+///
+/// /// `setorigin(entity, vector)`: a field of the entity is set.
+/// fn setorigin(machine: &mut host::Caller<'_>) -> Result<(), host::FieldError> {
+///     let (entity, origin) = (machine.read(4)?, machine.read_vector(7)?);
+///     machine.field_mut(entity.into(), "origin")?.set_vector(origin)
 /// }
 /// ```
 #[derive(Debug)]
@@ -73,6 +81,44 @@ impl<'a> Caller<'a> {
         self.machine.write_vector(address, value)
     }
 
+    /// The number of entities.
+    pub fn entity_count(&self) -> usize {
+        self.machine.entity_count()
+    }
+
+    /// The number of cells per entity.
+    pub fn entity_cells(&self) -> usize {
+        self.machine.entity_cells()
+    }
+
+    /// A field of an entity, by name, to be read: as [`Machine::field`].
+    pub fn field(&self, entity: i64, name: impl AsRef<[u8]>) -> Result<Field<'_>, FieldError> {
+        self.machine.field(entity, name)
+    }
+
+    /// A field of an entity, by name, to be set: as [`Machine::field_mut`].
+    pub fn field_mut(
+        &mut self,
+        entity: i64,
+        name: impl AsRef<[u8]>,
+    ) -> Result<FieldMut<'_>, FieldError> {
+        self.machine.field_mut(entity, name)
+    }
+
+    /// A field of an entity, by a definition that was found before: as [`Machine::field_of`].
+    pub fn field_of(&self, entity: i64, definition: Definition) -> Result<Field<'_>, FieldError> {
+        self.machine.field_of(entity, definition)
+    }
+
+    /// A field of an entity, by a definition that was found before: as [`Machine::field_mut_of`].
+    pub fn field_mut_of(
+        &mut self,
+        entity: i64,
+        definition: Definition,
+    ) -> Result<FieldMut<'_>, FieldError> {
+        self.machine.field_mut_of(entity, definition)
+    }
+
     /// The records of the program file.
     pub fn records(&self) -> Program<'_> {
         self.machine.records()
@@ -86,6 +132,11 @@ impl<'a> Caller<'a> {
     /// The first definition of a cell with a name.
     pub fn find_definition_by_name(&self, name: impl AsRef<[u8]>) -> Option<Definition> {
         self.machine.find_definition_by_name(name)
+    }
+
+    /// The first definition of a field with a name.
+    pub fn find_field_by_name(&self, name: impl AsRef<[u8]>) -> Option<Definition> {
+        self.machine.find_field_by_name(name)
     }
 
     /// The first string number with a text.
@@ -122,6 +173,9 @@ impl<'a> Caller<'a> {
 /// ```
 /// ```compile_fail
 /// fn builtin(machine: &mut host::Caller<'_>) { machine.saved_mut().clear(); }
+/// ```
+/// ```compile_fail
+/// fn builtin(machine: &mut host::Caller<'_>) { machine.entities_mut().clear(); }
 /// ```
 /// ```compile_fail
 /// fn builtin(machine: &mut host::Caller<'_>) { machine.set_context(host::Context::default()); }

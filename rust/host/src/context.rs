@@ -62,6 +62,8 @@ pub struct Context {
     pub depth: usize,
     /// How many cells of the saved store are in use.
     pub saved: usize,
+    /// The number of entities, as given at load.
+    pub entity_count: usize,
     /// The frames, the lowest first. Those at the depth and above are zeros.
     pub frames: [StackFrame; FRAMES],
 }

@@ -81,7 +81,15 @@ fn file_fields() -> impl IntoIterator<Item = Field> {
 
 fn context_fields() -> Vec<Field> {
     let mut all = within("file", offset_of!(Context, file), file_fields());
-    all.extend(fields!(Context, 8, pc, current_function, depth, saved));
+    all.extend(fields!(
+        Context,
+        8,
+        pc,
+        current_function,
+        depth,
+        saved,
+        entity_count
+    ));
     for i in 0..FRAMES {
         let offset = offset_of!(Context, frames) + i * size_of::<StackFrame>();
         let frame = fields!(StackFrame, 8, instr_id, func_id);
@@ -144,7 +152,7 @@ mod tests {
 
     #[test]
     fn the_library_has_this_layout() {
-        assert_eq!(fields().len(), 126);
+        assert_eq!(fields().len(), 127);
         assert_eq!(compare(&library::numbered()), Ok(()));
         assert_eq!(library::layout(), Ok(()));
     }
@@ -154,9 +162,9 @@ mod tests {
         assert_eq!(size_of::<Lump>(), 16);
         assert_eq!(size_of::<FileRecord>(), 112);
         assert_eq!(size_of::<StackFrame>(), 16);
-        assert_eq!(size_of::<Context>(), 640);
-        assert_eq!(size_of::<Reply>(), 656);
-        assert_eq!(size_of::<Structs>(), 848);
+        assert_eq!(size_of::<Context>(), 648);
+        assert_eq!(size_of::<Reply>(), 664);
+        assert_eq!(size_of::<Structs>(), 856);
     }
 
     /// A library in which a field lies where another is, or has another size.

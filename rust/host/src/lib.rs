@@ -1,11 +1,12 @@
 //! A host's side of the QuakeC program machine: the safe Rust over the proved static library.
 //!
-//! A [`Machine`] owns a program file's bytes, the cells and the saved store that it lends to the library, and the
-//! context that the library hands back. Every operation of the library is a method: [`Machine::load`],
-//! [`Machine::enter`], [`Machine::statement`], [`Machine::run`], [`Machine::carry_on`], [`Machine::abandon`],
+//! A [`Machine`] owns a program file's bytes, the cells, the saved store and the entity cells that it lends to the
+//! library, and the context that the library hands back. Every operation of the library is a method:
+//! [`Machine::load`], or [`Machine::load_with`] a number of entities, [`Machine::enter`], [`Machine::statement`], [`Machine::run`], [`Machine::carry_on`], [`Machine::abandon`],
 //! [`Machine::read`] and [`Machine::write`]. What is refused changes nothing and gives a [`Refusal`], the number of
 //! document 01 with its sentence. [`Machine::call`] does what a server does with a function: it enters, runs, has
 //! the host answer what is handed over, and leaves the machine at the depth where it was, however the call went.
+//! [`Machine::field`] and [`Machine::field_mut`] read and set the fields of entities, by name and type.
 //!
 //! What the library promises is proved. What this crate does around it is not: it is Rust, tested. A load checks what
 //! both stand on: that the library is the crate's own, and the processor's floating-point mode ([`LoadError`]).
@@ -45,6 +46,7 @@ pub mod assemble;
 mod call;
 mod caller;
 mod context;
+mod field;
 mod float_mode;
 mod layout;
 #[allow(unsafe_code)]
@@ -56,9 +58,12 @@ mod refusal;
 pub use call::{CallError, Cause};
 pub use caller::Caller;
 pub use context::{Context, FileRecord, Lump, StackFrame, FRAMES};
+pub use field::{Field, FieldError, FieldMut};
 pub use float_mode::{check_float_mode, FloatModeError};
 pub use layout::LayoutError;
-pub use machine::{Handover, Machine, Outcome, Run, RunOutcome, CELLS, SAVED_STORE};
+pub use machine::{
+    Handover, Machine, Outcome, Run, RunOutcome, Settings, CELLS, ENTITIES, SAVED_STORE,
+};
 pub use program::{Definition, Function, Program};
 pub use refusal::{LoadError, Refusal};
 

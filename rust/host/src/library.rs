@@ -10,7 +10,7 @@
 //!
 //! A struct of more than 16 bytes is returned through a pointer that the caller gives as the first parameter (System V
 //! ABI for x86-64). The operations are declared so here: each then writes its answer where the machine keeps it, and the
-//! 640 bytes of a context aren't copied once more.
+//! 648 bytes of a context aren't copied once more.
 
 use std::arch::asm;
 use std::mem::MaybeUninit;
@@ -112,14 +112,14 @@ pub const OPCODE: u32 = 5;
 #[rustfmt::skip]
 extern "C" {
     fn host_layout(out: *mut u8) -> *mut u8;
-    fn host_load(out: *mut Reply, file: *const u8, file_len: usize, cells: *mut u32, cells_len: usize, saved: *const u32, saved_len: usize) -> *mut Reply;
-    fn host_enter(out: *mut Reply, context: Context, file: *const u8, file_len: usize, function: i64, cells: *mut u32, cells_len: usize, saved: *mut u32, saved_len: usize) -> *mut Reply;
-    fn host_statement(out: *mut Reply, context: Context, file: *const u8, file_len: usize, cells: *mut u32, cells_len: usize, saved: *mut u32, saved_len: usize) -> *mut Reply;
-    fn host_run(out: *mut Reply, context: Context, file: *const u8, file_len: usize, target: i64, limit: i64, cells: *mut u32, cells_len: usize, saved: *mut u32, saved_len: usize) -> *mut Reply;
-    fn host_carry_on(out: *mut Reply, context: Context, file: *const u8, file_len: usize, cells: *const u32, cells_len: usize, saved: *const u32, saved_len: usize) -> *mut Reply;
-    fn host_abandon(out: *mut Reply, context: Context, file: *const u8, file_len: usize, target: i64, cells: *mut u32, cells_len: usize, saved: *const u32, saved_len: usize) -> *mut Reply;
-    fn host_read(out: *mut Reply, context: Context, file: *const u8, file_len: usize, address: i64, cells: *const u32, cells_len: usize, saved: *const u32, saved_len: usize) -> *mut Reply;
-    fn host_write(out: *mut Reply, context: Context, file: *const u8, file_len: usize, address: i64, value: u32, cells: *mut u32, cells_len: usize, saved: *const u32, saved_len: usize) -> *mut Reply;
+    fn host_load(out: *mut Reply, file: *const u8, file_len: usize, number: i64, cells: *mut u32, cells_len: usize, saved: *const u32, saved_len: usize, entities: *const u32, entities_len: usize) -> *mut Reply;
+    fn host_enter(out: *mut Reply, context: Context, file: *const u8, file_len: usize, function: i64, cells: *mut u32, cells_len: usize, saved: *mut u32, saved_len: usize, entities: *const u32, entities_len: usize) -> *mut Reply;
+    fn host_statement(out: *mut Reply, context: Context, file: *const u8, file_len: usize, cells: *mut u32, cells_len: usize, saved: *mut u32, saved_len: usize, entities: *mut u32, entities_len: usize) -> *mut Reply;
+    fn host_run(out: *mut Reply, context: Context, file: *const u8, file_len: usize, target: i64, limit: i64, cells: *mut u32, cells_len: usize, saved: *mut u32, saved_len: usize, entities: *mut u32, entities_len: usize) -> *mut Reply;
+    fn host_carry_on(out: *mut Reply, context: Context, file: *const u8, file_len: usize, cells: *const u32, cells_len: usize, saved: *const u32, saved_len: usize, entities: *const u32, entities_len: usize) -> *mut Reply;
+    fn host_abandon(out: *mut Reply, context: Context, file: *const u8, file_len: usize, target: i64, cells: *mut u32, cells_len: usize, saved: *const u32, saved_len: usize, entities: *const u32, entities_len: usize) -> *mut Reply;
+    fn host_read(out: *mut Reply, context: Context, file: *const u8, file_len: usize, address: i64, cells: *const u32, cells_len: usize, saved: *const u32, saved_len: usize, entities: *const u32, entities_len: usize) -> *mut Reply;
+    fn host_write(out: *mut Reply, context: Context, file: *const u8, file_len: usize, address: i64, value: u32, cells: *mut u32, cells_len: usize, saved: *const u32, saved_len: usize, entities: *const u32, entities_len: usize) -> *mut Reply;
     fn host_read_header(file: *const u8, file_len: usize) -> Found<FileRecord>;
     fn host_read_statement(file: *const u8, file_len: usize, recorded: FileRecord, pc: i64) -> Found<StatementRecord>;
     fn host_read_function(file: *const u8, file_len: usize, recorded: FileRecord, id: i64) -> Found<FunctionRecord>;
@@ -158,7 +158,7 @@ pub fn mxcsr() -> u32 {
     bits
 }
 
-pub fn load(file: &[u8], cells: &mut [u32], saved: &[u32]) -> Reply {
+pub fn load(file: &[u8], number: i64, cells: &mut [u32], saved: &[u32], entities: &[u32]) -> Reply {
     assert_layout();
     let mut reply = MaybeUninit::uninit();
     // SAFETY: see the module's text. The function writes the whole answer.
@@ -167,19 +167,29 @@ pub fn load(file: &[u8], cells: &mut [u32], saved: &[u32]) -> Reply {
             reply.as_mut_ptr(),
             file.as_ptr(),
             file.len(),
+            number,
             cells.as_mut_ptr(),
             cells.len(),
             saved.as_ptr(),
             saved.len(),
+            entities.as_ptr(),
+            entities.len(),
         );
         reply.assume_init()
     }
 }
 
-pub fn enter(reply: &mut Reply, file: &[u8], function: i64, cells: &mut [u32], saved: &mut [u32]) {
+pub fn enter(
+    reply: &mut Reply,
+    file: &[u8],
+    function: i64,
+    cells: &mut [u32],
+    saved: &mut [u32],
+    entities: &[u32],
+) {
     assert_layout();
     let context = reply.context;
-    // SAFETY: see the module\'s text.
+    // SAFETY: see the module's text.
     unsafe {
         host_enter(
             reply,
@@ -191,14 +201,22 @@ pub fn enter(reply: &mut Reply, file: &[u8], function: i64, cells: &mut [u32], s
             cells.len(),
             saved.as_mut_ptr(),
             saved.len(),
+            entities.as_ptr(),
+            entities.len(),
         );
     }
 }
 
-pub fn statement(reply: &mut Reply, file: &[u8], cells: &mut [u32], saved: &mut [u32]) {
+pub fn statement(
+    reply: &mut Reply,
+    file: &[u8],
+    cells: &mut [u32],
+    saved: &mut [u32],
+    entities: &mut [u32],
+) {
     assert_layout();
     let context = reply.context;
-    // SAFETY: see the module\'s text.
+    // SAFETY: see the module's text.
     unsafe {
         host_statement(
             reply,
@@ -209,6 +227,8 @@ pub fn statement(reply: &mut Reply, file: &[u8], cells: &mut [u32], saved: &mut 
             cells.len(),
             saved.as_mut_ptr(),
             saved.len(),
+            entities.as_mut_ptr(),
+            entities.len(),
         );
     }
 }
@@ -220,10 +240,11 @@ pub fn run(
     limit: i64,
     cells: &mut [u32],
     saved: &mut [u32],
+    entities: &mut [u32],
 ) {
     assert_layout();
     let context = reply.context;
-    // SAFETY: see the module\'s text.
+    // SAFETY: see the module's text.
     unsafe {
         host_run(
             reply,
@@ -236,14 +257,16 @@ pub fn run(
             cells.len(),
             saved.as_mut_ptr(),
             saved.len(),
+            entities.as_mut_ptr(),
+            entities.len(),
         );
     }
 }
 
-pub fn carry_on(reply: &mut Reply, file: &[u8], cells: &[u32], saved: &[u32]) {
+pub fn carry_on(reply: &mut Reply, file: &[u8], cells: &[u32], saved: &[u32], entities: &[u32]) {
     assert_layout();
     let context = reply.context;
-    // SAFETY: see the module\'s text.
+    // SAFETY: see the module's text.
     unsafe {
         host_carry_on(
             reply,
@@ -254,14 +277,23 @@ pub fn carry_on(reply: &mut Reply, file: &[u8], cells: &[u32], saved: &[u32]) {
             cells.len(),
             saved.as_ptr(),
             saved.len(),
+            entities.as_ptr(),
+            entities.len(),
         );
     }
 }
 
-pub fn abandon(reply: &mut Reply, file: &[u8], target: i64, cells: &mut [u32], saved: &[u32]) {
+pub fn abandon(
+    reply: &mut Reply,
+    file: &[u8],
+    target: i64,
+    cells: &mut [u32],
+    saved: &[u32],
+    entities: &[u32],
+) {
     assert_layout();
     let context = reply.context;
-    // SAFETY: see the module\'s text.
+    // SAFETY: see the module's text.
     unsafe {
         host_abandon(
             reply,
@@ -273,12 +305,21 @@ pub fn abandon(reply: &mut Reply, file: &[u8], target: i64, cells: &mut [u32], s
             cells.len(),
             saved.as_ptr(),
             saved.len(),
+            entities.as_ptr(),
+            entities.len(),
         );
     }
 }
 
 /// The context after a read is the one before it, and isn't given back.
-pub fn read(context: &Context, file: &[u8], address: i64, cells: &[u32], saved: &[u32]) -> Answer {
+pub fn read(
+    context: &Context,
+    file: &[u8],
+    address: i64,
+    cells: &[u32],
+    saved: &[u32],
+    entities: &[u32],
+) -> Answer {
     assert_layout();
     let mut reply = MaybeUninit::<Reply>::uninit();
     // SAFETY: see the module's text. The function writes the whole answer.
@@ -293,6 +334,8 @@ pub fn read(context: &Context, file: &[u8], address: i64, cells: &[u32], saved: 
             cells.len(),
             saved.as_ptr(),
             saved.len(),
+            entities.as_ptr(),
+            entities.len(),
         );
         reply.assume_init_ref().answer
     }
@@ -306,6 +349,7 @@ pub fn write(
     value: u32,
     cells: &mut [u32],
     saved: &[u32],
+    entities: &[u32],
 ) -> Answer {
     assert_layout();
     let mut reply = MaybeUninit::<Reply>::uninit();
@@ -322,6 +366,8 @@ pub fn write(
             cells.len(),
             saved.as_ptr(),
             saved.len(),
+            entities.as_ptr(),
+            entities.len(),
         );
         reply.assume_init_ref().answer
     }

@@ -11,6 +11,9 @@ pub const CELLS: usize = 32_768;
 /// The least length of the saved store; no operation writes past it.
 pub const SAVED_STORE: usize = 2_048;
 
+/// The most entities that a load takes.
+pub const ENTITIES: usize = 600;
+
 /// What is handed to the host, with its number.
 ///
 /// After [`Machine::run`] or [`Machine::statement`] the position stays at the statement until [`Machine::carry_on`].
@@ -20,7 +23,7 @@ pub enum Handover {
     /// A Call of a builtin: 1 to 78, but for 36, 37, 38 and 43 (rint, floor, ceil, fabs), which the machine does
     /// itself. Its arguments are in the cells from 4 on, three to each; its result goes to cells 1 to 3.
     Builtin(u32),
-    /// An opcode that the host carries out: 24 to 30, 37 to 42 or 60.
+    /// The one opcode that the host carries out: 60, State.
     Opcode(u32),
 }
 
@@ -57,7 +60,16 @@ pub struct Run {
     pub count: u32,
 }
 
-/// A program's bytes, the cells and the saved store that are lent to the library, and the context between calls.
+/// What a load is given beside the file and the buffers. The default is no entities.
+#[derive(Clone, Copy, Debug, Default, PartialEq, Eq, Hash)]
+pub struct Settings {
+    /// The number of entities, 0 to [`ENTITIES`]. Lent are as many entity cells as they have, or more: the file's cells
+    /// per entity for each.
+    pub entities: i64,
+}
+
+/// A program's bytes, the cells, the saved store and the entity cells that are lent to the library, and the context
+/// between calls.
 ///
 /// Before a load is accepted the context is of zeros, and every operation on it is refused 13.
 ///
@@ -78,34 +90,72 @@ pub struct Machine {
     program: Vec<u8>,
     cells: Vec<u32>,
     saved: Vec<u32>,
+    entities: Vec<u32>,
     /// The context, with the answer to the operation that it comes from.
     reply: Reply,
 }
 
 impl Machine {
-    /// A machine over a program file's bytes, cells and a saved store. Nothing is loaded yet.
+    /// A machine over a program file's bytes, cells and a saved store, without entity cells. Nothing is loaded yet.
     ///
     /// A load asks for as many cells as the file has, and for a saved store of [`SAVED_STORE`] or more.
     pub fn new(program: Vec<u8>, cells: Vec<u32>, saved: Vec<u32>) -> Machine {
+        Machine::with_entities(program, cells, saved, Vec::new())
+    }
+
+    /// The same with entity cells: those of entity 0 first, the file's cells per entity for each. A load takes what
+    /// stands in them as it is.
+    ///
+    /// ```
+    /// use host::assemble::Assembly;
+    /// use host::{Machine, Program, Settings, CELLS, SAVED_STORE};
+    ///
+    /// let program = Assembly::default().bytes();
+    /// let cells = 33 * Program::new(&program).entity_cells();
+    /// let mut machine =
+    ///     Machine::with_entities(program, vec![0; CELLS], vec![0; SAVED_STORE], vec![0; cells]);
+    /// machine.load_with(Settings { entities: 33 })?;
+    /// assert_eq!((machine.entity_count(), machine.entity_cells()), (33, 105));
+    /// # Ok::<(), host::LoadError>(())
+    /// ```
+    pub fn with_entities(
+        program: Vec<u8>,
+        cells: Vec<u32>,
+        saved: Vec<u32>,
+        entities: Vec<u32>,
+    ) -> Machine {
         Machine {
             program,
             cells,
             saved,
+            entities,
             reply: Reply::default(),
         }
     }
 
     // ---- the operations
 
+    /// [`Machine::load_with`] the default settings: no entities.
+    pub fn load(&mut self) -> Result<(), LoadError> {
+        self.load_with(Settings::default())
+    }
+
     /// Checks the file, fills the cells with the file's own, and starts at the beginning.
     ///
-    /// Cells past the file's count stay as they are, and so does the saved store. A load that isn't accepted changes
-    /// nothing: what an earlier one made stands. Beside the file it checks what it stands on: the library that is
-    /// linked, and this thread's floating-point mode.
-    pub fn load(&mut self) -> Result<(), LoadError> {
+    /// Cells past the file's count stay as they are, and so do the saved store and all entity cells. A load that isn't
+    /// accepted changes nothing: what an earlier one made stands. Entities that are negative, over [`ENTITIES`] or more
+    /// than the lent entity cells hold are refused 13. Beside the file it checks what it stands on: the library that
+    /// is linked, and this thread's floating-point mode.
+    pub fn load_with(&mut self, settings: Settings) -> Result<(), LoadError> {
         library::layout().map_err(|error| LoadError::Library(error.clone()))?;
         check_float_mode().map_err(LoadError::FloatMode)?;
-        let reply = library::load(&self.program, &mut self.cells, &self.saved);
+        let reply = library::load(
+            &self.program,
+            settings.entities,
+            &mut self.cells,
+            &self.saved,
+            &self.entities,
+        );
         accepted(reply.answer).map_err(LoadError::Refused)?;
         self.reply = reply;
         Ok(())
@@ -122,6 +172,7 @@ impl Machine {
             function,
             &mut self.cells,
             &mut self.saved,
+            &self.entities,
         );
         accepted(self.reply.answer)
     }
@@ -133,6 +184,7 @@ impl Machine {
             &self.program,
             &mut self.cells,
             &mut self.saved,
+            &mut self.entities,
         );
         let Answer { word, detail, .. } = self.reply.answer;
         match word {
@@ -157,6 +209,7 @@ impl Machine {
             limit,
             &mut self.cells,
             &mut self.saved,
+            &mut self.entities,
         );
         let Answer {
             word,
@@ -177,7 +230,13 @@ impl Machine {
     /// cells as they now are, it is refused 27: a host that writes a builtin's result first may have overwritten the
     /// cell that named the builtin.
     pub fn carry_on(&mut self) -> Result<(), Refusal> {
-        library::carry_on(&mut self.reply, &self.program, &self.cells, &self.saved);
+        library::carry_on(
+            &mut self.reply,
+            &self.program,
+            &self.cells,
+            &self.saved,
+            &self.entities,
+        );
         accepted(self.reply.answer)
     }
 
@@ -189,6 +248,7 @@ impl Machine {
             depth,
             &mut self.cells,
             &self.saved,
+            &self.entities,
         );
         accepted(self.reply.answer)
     }
@@ -201,6 +261,7 @@ impl Machine {
             address,
             &self.cells,
             &self.saved,
+            &self.entities,
         );
         accepted(answer)?;
         Ok(answer.detail)
@@ -215,6 +276,7 @@ impl Machine {
             value,
             &mut self.cells,
             &self.saved,
+            &self.entities,
         ))
     }
 
@@ -275,6 +337,16 @@ impl Machine {
         self.reply.context.saved
     }
 
+    /// The number of entities that the load was given.
+    pub fn entity_count(&self) -> usize {
+        self.reply.context.entity_count
+    }
+
+    /// The loaded file's count of cells per entity.
+    pub fn entity_cells(&self) -> usize {
+        self.reply.context.file.entityfields
+    }
+
     /// All frames, the lowest first.
     pub fn frames(&self) -> &[StackFrame] {
         &self.reply.context.frames
@@ -288,6 +360,11 @@ impl Machine {
     /// The lent saved store.
     pub fn saved(&self) -> &[u32] {
         &self.saved
+    }
+
+    /// The lent entity cells, those of entity 0 first, those past the last entity too.
+    pub fn entities(&self) -> &[u32] {
+        &self.entities
     }
 
     /// The program file's bytes.
@@ -321,6 +398,12 @@ impl Machine {
     /// The lent saved store, to be changed or lent anew. One shorter than [`SAVED_STORE`] is refused 13.
     pub fn saved_mut(&mut self) -> &mut Vec<u32> {
         &mut self.saved
+    }
+
+    /// The lent entity cells, to be changed or lent anew, as a host may at any time between calls. Fewer than the
+    /// entities given at load have are refused 13.
+    pub fn entities_mut(&mut self) -> &mut Vec<u32> {
+        &mut self.entities
     }
 }
 

@@ -161,6 +161,11 @@ impl<'a> Program<'a> {
         self.find_by_name(library::read_field, name.as_ref())
     }
 
+    /// The number of cells per entity that the header names.
+    pub fn entity_cells(&self) -> usize {
+        natural(self.recorded.entityfields)
+    }
+
     /// The statement at a position: its opcode and three operands. There is none where the opcode isn't one.
     ///
     /// ```
@@ -219,7 +224,12 @@ impl<'a> Program<'a> {
 
 /// The number of records of a part; 0 where the header has a negative one.
 fn count(lump: &Lump) -> usize {
-    i32::try_from(lump.count).map_or(0, |_| lump.count)
+    natural(lump.count)
+}
+
+/// A number of the header; 0 where it is negative there.
+fn natural(number: usize) -> usize {
+    i32::try_from(number).map_or(0, |_| number)
 }
 
 impl Machine {
@@ -236,6 +246,11 @@ impl Machine {
     /// The first definition of a cell with a name.
     pub fn find_definition_by_name(&self, name: impl AsRef<[u8]>) -> Option<Definition> {
         self.records().find_definition_by_name(name)
+    }
+
+    /// The first definition of a field with a name.
+    pub fn find_field_by_name(&self, name: impl AsRef<[u8]>) -> Option<Definition> {
+        self.records().find_field_by_name(name)
     }
 
     /// The first string number with a text.

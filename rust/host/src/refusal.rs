@@ -6,8 +6,8 @@ use std::fmt;
 use crate::float_mode::FloatModeError;
 use crate::layout::LayoutError;
 
-/// The sentences of the numbers 1 to 29.
-const SENTENCES: [&str; 29] = [
+/// The sentences of the numbers 1 to 32.
+const SENTENCES: [&str; 32] = [
     "the file is shorter than 60 bytes or longer than 1,048,576",
     "the version isn't 6",
     "the check number isn't 5927",
@@ -20,12 +20,12 @@ const SENTENCES: [&str; 29] = [
     "there are fewer than 36 cells or more than 32,768",
     "there are fewer than 105 cells per entity",
     "fewer cells are lent than the file has, or the saved store is shorter than 2,048",
-    "the file, the lent cells, the saved store or the state do not belong together",
+    "the file, what is lent and the state do not belong together; at load, the entities are negative, over 600 or more than the lent entity cells hold",
     "there is no statement at the position",
     "a cell number is negative or not below the file's count of cells",
-    "a cell's definition has another type",
-    "a negative entity or field is read, or StoreS moves a negative string number",
-    "the third operand of a Store or the second of a Not isn't 0",
+    "a cell's or a field's definition has another type",
+    "a negative entity or field is read, or a negative string, entity or field is moved",
+    "the third operand of a Store, through a pointer too, or the second of a Not isn't 0",
     "the function is number 0",
     "there is no function with that number",
     "the function is a builtin",
@@ -37,6 +37,9 @@ const SENTENCES: [&str; 29] = [
     "the statement at the position would not be handed over",
     "the limit isn't 1 to 99,999",
     "the target depth is negative or not below the depth; for abandon, above it",
+    "the entity isn't below the number of entities",
+    "a field's cell isn't below the cells per entity",
+    "a pointer is negative, no multiple of 4 or past the last entity, or one to be made is over 2,147,483,647",
 ];
 
 /// Why an operation was refused: document 01's number, and its sentence.

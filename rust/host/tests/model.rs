@@ -1,10 +1,12 @@
 //! The cases of tests/model, answered by the Python model, run through this crate: whole files, single statements and
-//! lists of calls, with the states that the lists make up. tests/model/README.md has the formats.
+//! lists of calls, with the states and the entity cells that the lists make up. tests/model/README.md has the formats.
 
 use std::fs;
 use std::path::Path;
 
-use host::{Context, Handover, Lump, Machine, Outcome, Refusal, RunOutcome, CELLS, SAVED_STORE};
+use host::{
+    Context, Handover, Lump, Machine, Outcome, Refusal, RunOutcome, Settings, CELLS, SAVED_STORE,
+};
 
 fn cases(name: &str) -> String {
     let folder = Path::new(env!("CARGO_MANIFEST_DIR")).join("../../tests/model/cases");
@@ -119,42 +121,88 @@ fn whole_files() {
         );
         count += 1;
     }
-    assert_eq!(count, 373);
+    assert_eq!(count, 376);
+}
+
+/// The numbers that differ, in rising order: how many, then place and value of each.
+fn changes(before: &[u32], after: &[u32]) -> String {
+    assert_eq!(before.len(), after.len());
+    let pairs = before.iter().zip(after).enumerate();
+    let changed: Vec<String> = pairs
+        .filter(|(_, (before, after))| before != after)
+        .map(|(place, (_, after))| format!(" {place} {after}"))
+        .collect();
+    format!("{}{}", changed.len(), changed.concat())
+}
+
+/// What a vector sets before its statement.
+struct Given {
+    function: i64,
+    statement: Vec<i64>,
+    bytes: Vec<(usize, u32)>,
+    cells: Vec<(usize, u32)>,
+    entities: i64,
+    lent_entities: usize,
+    entity_cells: Vec<(usize, u32)>,
+}
+
+impl Given {
+    fn read<'a>(words: &mut impl Iterator<Item = &'a str>) -> Given {
+        let function = numbers(words, 1)[0];
+        let statement = numbers(words, 4);
+        let (bytes, cells) = (pairs(words), pairs(words));
+        let entities = numbers(words, 2);
+        Given {
+            function,
+            statement,
+            bytes,
+            cells,
+            entities: entities[0],
+            lent_entities: entities[1] as usize,
+            entity_cells: pairs(words),
+        }
+    }
+
+    /// The machine just before the statement.
+    fn machine(&self, offset: usize, cells: usize, file: &[u8]) -> Machine {
+        let (cells, entities) = (vec![0; cells], vec![0; self.lent_entities]);
+        let mut machine =
+            Machine::with_entities(file.to_vec(), cells, vec![0; SAVED_STORE], entities);
+        let entities = self.entities;
+        machine.load_with(Settings { entities }).unwrap();
+        if self.function >= 0 {
+            machine.enter(self.function).unwrap();
+        }
+        for (place, byte) in &self.bytes {
+            machine.program_mut()[*place] = *byte as u8;
+        }
+        for (i, number) in self.statement.iter().enumerate() {
+            let place = offset + 2 * i;
+            let bytes = (*number as i16).to_le_bytes();
+            machine.program_mut()[place..place + 2].copy_from_slice(&bytes);
+        }
+        for (cell, value) in &self.cells {
+            machine.cells_mut()[*cell] = *value;
+        }
+        for (cell, value) in &self.entity_cells {
+            machine.entities_mut()[*cell] = *value;
+        }
+        machine
+    }
 }
 
 /// One vector of statements.txt on the file that holds.
 fn vector(line: &str, offset: usize, cells: usize, file: &[u8]) {
     let (given, expected) = line.split_once(" = ").unwrap();
-    let mut given = given.split(' ').skip(1);
-    let mut machine = Machine::new(file.to_vec(), vec![0; cells], vec![0; SAVED_STORE]);
-    machine.load().unwrap();
-    let function = numbers(&mut given, 1)[0];
-    if function >= 0 {
-        machine.enter(function).unwrap();
-    }
-    let statement_numbers = numbers(&mut given, 4);
-    for (place, byte) in pairs(&mut given) {
-        machine.program_mut()[place] = byte as u8;
-    }
-    for (i, number) in statement_numbers.iter().enumerate() {
-        let place = offset + 2 * i;
-        let bytes = (*number as i16).to_le_bytes();
-        machine.program_mut()[place..place + 2].copy_from_slice(&bytes);
-    }
-    for (cell, value) in pairs(&mut given) {
-        machine.cells_mut()[cell] = value;
-    }
-    let before = machine.cells().to_vec();
+    let given = Given::read(&mut given.split(' ').skip(1));
+    let mut machine = given.machine(offset, cells, file);
+    let before = machine.clone();
     let (word, detail, _) = statement(&mut machine);
-    let changed: Vec<String> = (0..cells)
-        .filter(|cell| machine.cells()[*cell] != before[*cell])
-        .map(|cell| format!(" {cell} {}", machine.cells()[cell]))
-        .collect();
     let found = format!(
-        "{word} {detail} {} {}{}",
+        "{word} {detail} {} {} {}",
         state(&machine),
-        changed.len(),
-        changed.concat()
+        changes(before.cells(), machine.cells()),
+        changes(before.entities(), machine.entities())
     );
     assert_eq!(found, expected, "{line}");
 }
@@ -176,7 +224,7 @@ fn single_statements() {
         vector(line, offset, cells, &file);
         count += 1;
     }
-    assert_eq!(count, 1_713);
+    assert_eq!(count, 3_712);
 }
 
 fn digest(machine: &Machine) -> String {
@@ -184,7 +232,8 @@ fn digest(machine: &Machine) -> String {
     let text: String = frames
         .map(|frame| format!("{},{};", frame.instr_id, frame.func_id))
         .collect();
-    let numbers = machine.cells().iter().chain(machine.saved());
+    let buffers = [machine.cells(), machine.saved(), machine.entities()];
+    let numbers = buffers.into_iter().flatten();
     let bytes = text
         .bytes()
         .chain(numbers.flat_map(|number| number.to_le_bytes()));
@@ -218,6 +267,7 @@ fn set_number(context: &mut Context, field: usize, value: i64) {
         15 => context.current_function = natural,
         16 => context.depth = natural,
         17 => context.saved = natural,
+        80 => context.entity_count = natural,
         _ if field % 2 == 0 => context.frames[(field - 18) / 2].instr_id = value,
         _ => context.frames[(field - 18) / 2].func_id = natural,
     }
@@ -226,7 +276,12 @@ fn set_number(context: &mut Context, field: usize, value: i64) {
 fn perform(machine: &mut Machine, name: &str, given: &[i64]) -> Answer {
     let alone = |answer: Result<(), Refusal>| accepted(answer.map(|()| 0));
     match (name, given) {
-        ("load", []) => alone(machine.load().map_err(|error| error.refusal().unwrap())),
+        ("load", [entities]) => {
+            let loaded = machine.load_with(Settings {
+                entities: *entities,
+            });
+            alone(loaded.map_err(|error| error.refusal().unwrap()))
+        }
         ("enter", [function]) => alone(machine.enter(*function)),
         ("statement", []) => statement(machine),
         ("run", [target, limit]) => run(machine, *target, *limit),
@@ -236,6 +291,14 @@ fn perform(machine: &mut Machine, name: &str, given: &[i64]) -> Answer {
         ("put", [address, value]) => alone(machine.write(*address, *value as u32)),
         ("byte", [place, byte]) => {
             machine.program_mut()[*place as usize] = *byte as u8;
+            accepted(Ok(0))
+        }
+        ("lend", [count, first]) => {
+            *machine.entities_mut() = numbered(*first as u32, *count as u32);
+            accepted(Ok(0))
+        }
+        ("eput", [cell, value]) => {
+            machine.entities_mut()[*cell as usize] = *value as u32;
             accepted(Ok(0))
         }
         ("field", [field, value]) => {
@@ -248,11 +311,13 @@ fn perform(machine: &mut Machine, name: &str, given: &[i64]) -> Answer {
     }
 }
 
+/// So many numbers, one after the other.
+fn numbered(first: u32, count: u32) -> Vec<u32> {
+    (0..count).map(|i| first.wrapping_add(i)).collect()
+}
+
 #[test]
 fn lists_of_calls() {
-    let numbered = |first: u32, count: &str| -> Vec<u32> {
-        (0..count.parse().unwrap()).map(|i| first + i).collect()
-    };
     let mut machine = Machine::new(Vec::new(), Vec::new(), Vec::new());
     let mut count = 0;
     for line in cases("calls.txt")
@@ -261,11 +326,13 @@ fn lists_of_calls() {
     {
         if let Some(lent) = line.strip_prefix("new ") {
             let words: Vec<&str> = lent.split(' ').collect();
-            let (cells, saved) = (
-                numbered(0xdead_0000, words[0]),
-                numbered(0xbeef_0000, words[1]),
+            let fresh = |first, count: &str| numbered(first, count.parse().unwrap());
+            machine = Machine::with_entities(
+                bytes_of(words[3], words[4]),
+                fresh(0xdead_0000, words[0]),
+                fresh(0xbeef_0000, words[1]),
+                fresh(0xcafe_0000, words[2]),
             );
-            machine = Machine::new(bytes_of(words[2], words[3]), cells, saved);
             continue;
         }
         let (call, expected) = line.split_once(" = ").unwrap();
@@ -281,5 +348,5 @@ fn lists_of_calls() {
         assert_eq!(found, expected, "{call}");
         count += 1;
     }
-    assert_eq!(count, 3_676);
+    assert_eq!(count, 4_872);
 }

@@ -2,16 +2,18 @@
 
 mod common;
 
+use std::collections::BTreeSet;
 use std::panic::{catch_unwind, resume_unwind, AssertUnwindSafe};
 
 use common::{random_assembly, random_file, random_machine, Chance};
 use host::{
-    Caller, Context, Definition, Machine, Outcome, Program, Refusal, RunOutcome, SAVED_STORE,
+    Caller, Context, Definition, Machine, Outcome, Program, Refusal, RunOutcome, Settings,
+    SAVED_STORE,
 };
 
 #[derive(Clone, Copy, Debug)]
 enum Call {
-    Load,
+    Load(i64),
     Enter(i64),
     Statement,
     Run(i64, i64),
@@ -21,9 +23,18 @@ enum Call {
     Write(i64, u32),
 }
 
+/// A number of entities that a load might be given: mostly one for which cells are lent.
+fn random_entities(chance: &mut Chance) -> i64 {
+    match chance.below(40) {
+        0 => chance.number(),
+        1 => chance.pick(&[4, 600, 601, -1]),
+        _ => chance.between(0, 3),
+    }
+}
+
 fn random_call(chance: &mut Chance) -> Call {
     match chance.below(40) {
-        0 => Call::Load,
+        0 => Call::Load(random_entities(chance)),
         1..=9 => Call::Enter(chance.number() % 9),
         10..=17 => Call::Statement,
         18..=22 => Call::Run(chance.between(-1, 3), chance.between(-1, 40)),
@@ -39,8 +50,8 @@ fn random_call(chance: &mut Chance) -> Call {
 fn perform(machine: &mut Machine, call: Call) -> Result<(), (Refusal, u32)> {
     let alone = |refusal| (refusal, 0);
     match call {
-        Call::Load => machine
-            .load()
+        Call::Load(entities) => machine
+            .load_with(Settings { entities })
             .map_err(|error| alone(error.refusal().unwrap())),
         Call::Enter(function) => machine.enter(function).map_err(alone),
         Call::CarryOn => machine.carry_on().map_err(alone),
@@ -76,8 +87,9 @@ fn check(machine: &mut Machine, call: Call) -> Result<(), (Refusal, u32)> {
     assert_eq!(machine.cells()[kept..], before.cells()[kept..], "{call:?}");
     let store = SAVED_STORE.min(before.saved().len());
     assert_eq!(machine.saved()[store..], before.saved()[store..]);
+    assert_entities(machine, &before, call);
     if let Err((refusal, count)) = answer {
-        assert!((1..=29).contains(&refusal.number()), "{call:?} {refusal}");
+        assert!((1..=32).contains(&refusal.number()), "{call:?} {refusal}");
         assert!(refusal.to_string().len() > 20);
         if count == 0 {
             assert_unchanged(machine, &before, call);
@@ -89,10 +101,27 @@ fn check(machine: &mut Machine, call: Call) -> Result<(), (Refusal, u32)> {
     answer
 }
 
+/// Statements alone write entity cells, and none past the last entity.
+fn assert_entities(machine: &Machine, before: &Machine, call: Call) {
+    let kept = match call {
+        Call::Statement | Call::Run(..) => {
+            let context = before.context();
+            let cells = context
+                .entity_count
+                .saturating_mul(context.file.entityfields);
+            cells.min(before.entities().len())
+        }
+        _ => 0,
+    };
+    let (now, then) = (machine.entities(), before.entities());
+    assert_eq!(now[kept..], then[kept..], "{call:?}");
+}
+
 fn assert_unchanged(machine: &Machine, before: &Machine, call: Call) {
     assert_eq!(machine.context(), before.context(), "{call:?}");
     assert_eq!(machine.cells(), before.cells(), "{call:?}");
     assert_eq!(machine.saved(), before.saved(), "{call:?}");
+    assert_eq!(machine.entities(), before.entities(), "{call:?}");
     assert_eq!(machine.loaded(), before.loaded());
 }
 
@@ -108,14 +137,18 @@ fn declared_cells(machine: &Machine) -> usize {
 struct Seen {
     loads: u32,
     accepted: u32,
-    refused: [u32; 30],
+    /// Calls that changed entity cells.
+    entities: u32,
+    refused: BTreeSet<u32>,
 }
 
 impl Seen {
     fn note(&mut self, answer: Result<(), (Refusal, u32)>) {
         match answer {
             Ok(()) => self.accepted += 1,
-            Err((refusal, _)) => self.refused[refusal.number() as usize] += 1,
+            Err((refusal, _)) => {
+                self.refused.insert(refusal.number());
+            }
         }
     }
 }
@@ -126,15 +159,22 @@ fn random_programs_and_calls() {
     for seed in 0..3_000 {
         let mut chance = Chance::new(seed);
         let mut machine = random_machine(&mut chance);
-        seen.loads += u32::from(check(&mut machine, Call::Load).is_ok());
+        let load = Call::Load(random_entities(&mut chance));
+        seen.loads += u32::from(check(&mut machine, load).is_ok());
         for _ in 0..60 {
+            let before = machine.entities().to_vec();
             seen.note(check(&mut machine, random_call(&mut chance)));
+            seen.entities += u32::from(machine.entities() != before);
         }
     }
     assert!(seen.loads > 1_500, "{}", seen.loads);
     assert!(seen.accepted > 30_000, "{}", seen.accepted);
-    for number in [13, 14, 15, 16, 18, 19, 20, 21, 23, 24, 25, 27, 28, 29] {
-        assert!(seen.refused[number] > 0, "{number} was never met");
+    assert!(seen.entities > 200, "{}", seen.entities);
+    let met = [
+        13, 14, 15, 16, 17, 18, 19, 20, 21, 23, 24, 25, 27, 28, 29, 30, 31, 32,
+    ];
+    for number in met {
+        assert!(seen.refused.contains(&number), "{number} was never met");
     }
 }
 
@@ -154,7 +194,7 @@ fn made_up_context(chance: &mut Chance, now: &Context) -> Context {
     let mut context = *now;
     for _ in 0..chance.between(1, 4) {
         let frame = chance.below(31) as usize;
-        match chance.below(12) {
+        match chance.below(13) {
             0 => context.file.length = made_up(chance, now.file.length),
             1 => context.file.functions.count = made_up(chance, now.file.functions.count),
             2 => context.file.globals.count = made_up(chance, now.file.globals.count),
@@ -166,6 +206,7 @@ fn made_up_context(chance: &mut Chance, now: &Context) -> Context {
             8 => context.saved = made_up(chance, now.saved),
             9 => context.frames[frame].instr_id = chance.number(),
             10 => context.frames[0].func_id = made_up(chance, 0),
+            11 => context.entity_count = made_up(chance, now.entity_count),
             _ => context.frames[frame].func_id = made_up(chance, 0),
         }
     }
@@ -177,6 +218,7 @@ fn random_context(chance: &mut Chance) -> Context {
     let mut context = made_up_context(chance, &Context::default());
     context.file.length = chance.draw() as usize;
     context.depth = made_up(chance, 3);
+    context.entity_count = made_up(chance, 2);
     for frame in &mut context.frames {
         frame.instr_id = chance.draw() as i64;
         frame.func_id = made_up(chance, 2);
@@ -184,10 +226,23 @@ fn random_context(chance: &mut Chance) -> Context {
     context
 }
 
+/// A state of chance numbers, or more often one with some of its numbers changed.
+fn any_context(chance: &mut Chance, now: &Context) -> Context {
+    if chance.one_in(5) {
+        random_context(chance)
+    } else {
+        made_up_context(chance, now)
+    }
+}
+
 /// Check 13 on a program file that was loaded, read again from document 01's row, with records read by this crate.
 fn sound(machine: &Machine, loaded: &Context) -> bool {
     let context = machine.context();
     if context.file != loaded.file || context.depth > 31 || context.saved > 2_048 {
+        return false;
+    }
+    let cells = context.entity_count.checked_mul(context.file.entityfields);
+    if context.entity_count > 600 || cells.is_none_or(|cells| cells > machine.entities().len()) {
         return false;
     }
     let mut entered = vec![context.current_function];
@@ -213,34 +268,32 @@ fn sound(machine: &Machine, loaded: &Context) -> bool {
 
 #[test]
 fn states_that_a_host_makes_up() {
-    let (mut sound_ones, mut others, mut below_zero) = (0, 0, 0);
+    let (mut sound_ones, mut others, mut below_zero, mut other_entities) = (0, 0, 0, 0);
     for seed in 0..3_000 {
         let mut chance = Chance::new(1_000_000 + seed);
         let mut machine = random_machine(&mut chance);
-        if machine.load().is_err() {
+        let entities = random_entities(&mut chance);
+        if machine.load_with(Settings { entities }).is_err() {
             continue;
         }
         let loaded = *machine.context();
         for _ in 0..40 {
             perform(&mut machine, random_call(&mut chance)).ok();
             let kept = *machine.context();
-            let made = if chance.one_in(5) {
-                random_context(&mut chance)
-            } else {
-                made_up_context(&mut chance, &kept)
-            };
+            let made = any_context(&mut chance, &kept);
             machine.set_context(made);
             let is_sound = sound(&machine, &loaded);
             let answer = check(&mut machine, Call::Read(0));
             assert_eq!(answer.is_ok(), is_sound, "{made:?}");
             let call = random_call(&mut chance);
             let answer = check(&mut machine, call);
-            if !is_sound && !matches!(call, Call::Load) {
+            if !is_sound && !matches!(call, Call::Load(_)) {
                 assert_eq!(answer, Err((Refusal::STATE, 0)));
             }
             sound_ones += u32::from(is_sound);
             others += u32::from(!is_sound);
             below_zero += u32::from(is_sound && made.pc < 0);
+            other_entities += u32::from(is_sound && made.entity_count != loaded.entity_count);
             if !is_sound {
                 machine.set_context(kept);
             }
@@ -251,6 +304,7 @@ fn states_that_a_host_makes_up() {
         "{sound_ones} {others}"
     );
     assert!(below_zero > 50, "{below_zero}");
+    assert!(other_entities > 50, "{other_entities}");
 }
 
 #[test]
@@ -259,9 +313,10 @@ fn buffers_that_a_host_changes() {
     for seed in 0..1_500 {
         let mut chance = Chance::new(2_000_000 + seed);
         let mut machine = random_machine(&mut chance);
-        machine.load().ok();
+        let entities = random_entities(&mut chance);
+        machine.load_with(Settings { entities }).ok();
         for _ in 0..30 {
-            match chance.below(8) {
+            match chance.below(10) {
                 0 => {
                     let length = machine.program().len() as u64;
                     if length > 0 {
@@ -277,6 +332,10 @@ fn buffers_that_a_host_changes() {
                     .saved_mut()
                     .truncate(chance.between(2_040, 2_060) as usize),
                 4 => machine.saved_mut().resize(SAVED_STORE + 8, 6),
+                5 => machine
+                    .entities_mut()
+                    .truncate(chance.between(90, 330) as usize),
+                6 => *machine.entities_mut() = vec![chance.draw() as u32; 330],
                 _ => {}
             }
             match check(&mut machine, random_call(&mut chance)) {
@@ -355,7 +414,8 @@ fn calls_leave_the_depth() {
     for seed in 0..3_000 {
         let mut chance = Chance::new(3_000_000 + seed);
         let mut machine = random_machine(&mut chance);
-        if machine.load().is_err() {
+        let entities = random_entities(&mut chance);
+        if machine.load_with(Settings { entities }).is_err() {
             continue;
         }
         for _ in 0..10 {
@@ -368,6 +428,44 @@ fn calls_leave_the_depth() {
     assert!(seen.ended > 300 && seen.failed > 3_000, "{seen:?}");
     assert!(seen.caught > 100 && seen.handed > 1_000, "{seen:?}");
     assert!(seen.panics > 100 && seen.nested_calls > 50, "{seen:?}");
+}
+
+/// Fields by name, in files, states and entity cells by chance: what is set is read again, the entity's other cells and all other
+/// entities stay, and what isn't there is an error.
+#[test]
+fn fields_by_chance() {
+    let (mut set, mut errors) = (0, 0);
+    for seed in 0..3_000 {
+        let mut chance = Chance::new(6_000_000 + seed);
+        let mut machine = random_machine(&mut chance);
+        let entities = random_entities(&mut chance);
+        machine.load_with(Settings { entities }).ok();
+        if chance.one_in(4) {
+            let context = made_up_context(&mut chance, machine.context());
+            machine.set_context(context);
+        }
+        for _ in 0..10 {
+            let before = machine.clone();
+            let (entity, value) = (chance.between(-1, 3), chance.draw() as f32);
+            let written = machine
+                .field_mut(entity, "")
+                .and_then(|mut field| field.set_float(value));
+            let read = machine.field(entity, "").and_then(|field| field.float());
+            assert_eq!(written, read.map(drop));
+            if read.is_err() {
+                assert_eq!(machine.entities(), before.entities());
+                errors += 1;
+                continue;
+            }
+            assert_eq!(read, Ok(value));
+            let place = usize::from(machine.find_field_by_name("").unwrap().cell);
+            let mut expected = before.entities().to_vec();
+            expected[entity as usize * machine.entity_cells() + place] = value.to_bits();
+            assert_eq!(machine.entities(), expected);
+            set += 1;
+        }
+    }
+    assert!(set > 500 && errors > 500, "{set} {errors}");
 }
 
 /// What the assembler put in comes out again.

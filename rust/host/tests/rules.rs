@@ -1,10 +1,12 @@
-//! The rule files of tests/rules, compiled by fteqcc: each function of expected.txt, whose answers are the model's, and two stories of a
-//! host. tests/rules/README.md has the format.
+//! The rule files of tests/rules, compiled by fteqcc: each function of expected.txt, whose answers are the model's, and three stories
+//! of a host. tests/rules/README.md has the format.
 
 use std::fs;
 use std::path::{Path, PathBuf};
 
-use host::{Caller, Cause, Handover, Machine, Refusal, RunOutcome, CELLS, SAVED_STORE};
+use host::{
+    Caller, Cause, Handover, Machine, Program, Refusal, RunOutcome, Settings, CELLS, SAVED_STORE,
+};
 
 fn rules() -> PathBuf {
     Path::new(env!("CARGO_MANIFEST_DIR")).join("../../tests/rules")
@@ -88,6 +90,27 @@ fn toss(coin: f32) -> (f32, String) {
 fn the_host_tosses() {
     assert_eq!(toss(0.25), (1.0, "The home side kicks off.\n".to_string()));
     assert_eq!(toss(0.75), (2.0, "The guests kick off.\n".to_string()));
+}
+
+/// Whether the captain plays, by the field that the machine reads of `self`.
+#[test]
+fn the_captain_plays() {
+    let program = fs::read(rules().join("captain.dat")).unwrap();
+    let entities = vec![0; 3 * Program::new(&program).entity_cells()];
+    let mut machine =
+        Machine::with_entities(program, vec![0; CELLS], vec![0; SAVED_STORE], entities);
+    machine.load_with(Settings { entities: 3 }).unwrap();
+    let plays = function(&machine, "captain_plays");
+    let current = machine.find_definition_by_name("self").unwrap().cell;
+    let mut health = machine.field_mut(2, "health").unwrap();
+    health.set_float(50.0).unwrap();
+    for (captain, answer) in [(1, 0.0), (2, 1.0)] {
+        machine.write(current.into(), captain).unwrap();
+        let count = machine.call(plays, 99_999, |handover, _| Err(handover));
+        // AddF, StoreF, LoadF, Gt, Return
+        assert_eq!(count, Ok(5));
+        assert_eq!(machine.read_float(1), Ok(answer));
+    }
 }
 
 #[test]

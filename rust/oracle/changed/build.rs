@@ -14,6 +14,7 @@ struct Change {
 const PROGS: &str = "server/progs/mod.rs";
 const GLOBALS: &str = "server/progs/globals.rs";
 const SERVER: &str = "server/mod.rs";
+const ENTITY: &str = "server/world/entity.rs";
 
 const CHANGES: &[Change] = &[
     Change {
@@ -65,6 +66,69 @@ const CHANGES: &[Change] = &[
                         continue;
                     }
                 }\n",
+    },
+    Change {
+        file: SERVER,
+        name: "LoadFld, which panics, as the other loads",
+        old: "                LoadFld => panic!(\"load_fld not implemented\"),\n",
+        new: "                LoadFld if crate::switches::on(crate::switches::Switch::Field) => self.op_load_fld(a, b, c)?,
+                LoadFld => panic!(\"load_fld not implemented\"),\n",
+    },
+    Change {
+        file: SERVER,
+        name: "StorePFld, which panics, as the other stores",
+        old: "                StorePFld => panic!(\"storep_fld not implemented\"),\n",
+        new: "                StorePFld if crate::switches::on(crate::switches::Switch::Field) => self.op_storep_fld(a, b, c)?,
+                StorePFld => panic!(\"storep_fld not implemented\"),\n",
+    },
+    Change {
+        file: SERVER,
+        name: "LoadFld and StorePFld",
+        old: "    pub fn op_address(\n",
+        new: "    pub fn op_load_fld(&mut self, e_ofs: i16, e_f: i16, dest_ofs: i16) -> Result<(), ProgsError> {
+        let ent_id = self.globals.entity_id(e_ofs)?;
+        let fld_ofs = self.globals.get_field_addr(e_f)?;
+        let f = self.world.entity(ent_id).get_field_addr(fld_ofs.0 as i16)?;
+        self.globals.put_field_addr(f, dest_ofs)?;
+        Ok(())
+    }
+
+    pub fn op_storep_fld(&mut self, src: i16, dst_ent_fld_addr: i16, unused: i16) -> Result<(), ProgsError> {
+        if unused != 0 {
+            return Err(ProgsError::with_msg(\"storep_fld: nonzero arg3\"));
+        }
+        let f = self.globals.get_field_addr(src)?;
+        let ent_fld_addr = self
+            .world
+            .ent_fld_addr_from_i32(self.globals.get_entity_field(dst_ent_fld_addr)?);
+        self.world
+            .entity_mut(ent_fld_addr.entity_id)?
+            .put_field_addr(f, ent_fld_addr.field_addr.0 as i16)?;
+        Ok(())
+    }
+
+    pub fn op_address(\n",
+    },
+    Change {
+        file: ENTITY,
+        name: "accessors for LoadFld and StorePFld, as those of entities",
+        old: "    /// Loads a `FunctionId` from the given virtual address.\n",
+        new: "    pub fn get_field_addr(&self, addr: i16) -> Result<crate::server::progs::FieldAddr, EntityError> {
+        self.type_check(addr as usize, Type::QField)?;
+        match self.get_addr(addr)?.read_i32::<LittleEndian>()? {
+            f if f < 0 => Err(EntityError::with_msg(format!(\"Negative entity ID ({})\", f))),
+            f => Ok(crate::server::progs::FieldAddr(f as usize)),
+        }
+    }
+
+    pub fn put_field_addr(&mut self, val: crate::server::progs::FieldAddr, addr: i16) -> Result<(), EntityError> {
+        self.type_check(addr as usize, Type::QField)?;
+        self.get_addr_mut(addr)?
+            .write_i32::<LittleEndian>(val.0 as i32)?;
+        Ok(())
+    }
+
+    /// Loads a `FunctionId` from the given virtual address.\n",
     },
     nan(
         "        self.put_float(f1 * f2, prod_id)?;\n",
@@ -142,12 +206,17 @@ fn change(file: &str, mut text: String) -> String {
 fn main() {
     let source = PathBuf::from("../richter/src");
     let out = PathBuf::from(env::var_os("OUT_DIR").expect("cargo sets it"));
-    fs::create_dir_all(out.join("server/progs")).unwrap();
+    // Of an earlier build there may be files that are others now.
+    let _ = fs::remove_dir_all(out.join("server"));
+    for folder in ["server/progs", "server/world"] {
+        fs::create_dir_all(out.join(folder)).unwrap();
+    }
     for file in [
         SERVER,
         PROGS,
         GLOBALS,
-        "server/world.rs",
+        ENTITY,
+        "server/world/mod.rs",
         "server/progs/functions.rs",
         "server/progs/ops.rs",
         "server/progs/string_table.rs",

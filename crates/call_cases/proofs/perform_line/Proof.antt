@@ -7,8 +7,9 @@ use Rattle.call_cases.proofs.perform_line.Tie as tie
 pub perform-line-spec : {M : Type 1} → statement M
 perform-line-spec =
     tie.close (tie.spec (λ c. search needs) (λ c κs. search needs) (λ c. search needs) (λ c. search needs) (λ c. search needs)
-    (λ c. search needs) (λ c κs. search needs) (λ c κs. search needs) (λ c κs. search needs) (λ c. search needs)
+    (λ c. search needs) (λ c. search needs) (λ c κs. search needs) (λ c κs. search needs) (λ c κs. search needs)
+    (λ c κs. search needs) (λ c κs. search needs) (λ c. search needs) (λ c. simp length-take (omega arith)) (λ c. search needs)
     (λ c. simp length-take (omega arith)) (λ c. search needs) (λ c. simp length-take (omega arith)) (λ c. search needs)
     (λ c. simp length-take (omega arith)) (λ c κs. search needs) (λ c. search needs) (λ c. simp length-take (omega arith))
-    (λ c. search needs) (λ c. simp length-take (omega arith)) (λ c κs. search needs) (λ c. search needs) (λ c. search needs)
-    (λ c. search needs) (λ c. search needs))
+    (λ c. search needs) (λ c. simp length-take (omega arith)) (λ c. search needs) (λ c. simp length-take (omega arith))
+    (λ c κs. search needs) (λ c. search needs) (λ c. search needs) (λ c. search needs) (λ c. search needs) (λ c. search needs))

@@ -6,13 +6,18 @@ use Rattle.call_cases.proofs.perform_lists.Statement.{statement}
 use Rattle.call_cases.proofs.perform_lists.Tie as tie
 
 abbrev Inv-loop : tie.InvT-loop
-Inv-loop text file₀ cells₀ saved₀ at₀ list₀ file cells saved at list = (at ≤ length text) × (length file ≡ length file₀) × (length cells ≡ length cells₀) × (length saved ≡ length saved₀)
+Inv-loop text file₀ cells₀ store₀ entities₀ at₀ list₀ file cells store entities at list =
+    (at ≤ length text)
+    × (length file ≡ length file₀)
+    × (length cells ≡ length cells₀)
+    × (length store ≡ length store₀)
+    × (length entities ≡ length entities₀)
 
 abbrev μ-loop : tie.MeasureT-loop
-μ-loop text file₀ cells₀ saved₀ at₀ list₀ file cells saved at list = length text - at
+μ-loop text file₀ cells₀ store₀ entities₀ at₀ list₀ file cells store entities at list = length text - at
 
 pub perform-lists-spec : {M : Type 1} → statement M
 perform-lists-spec =
-    tie.close (tie.spec Inv-loop μ-loop (λ c. search needs) (λ c κs. search needs) (λ c. search needs) (λ c κs. search needs)
-    (λ c κs. search needs) (λ c. search needs) (λ c. search needs) (λ c. search needs) (λ c. search needs) (λ c. search needs)
+    tie.close (tie.spec Inv-loop μ-loop (λ c κs. search needs) (λ c. search needs) (λ c κs. search needs) (λ c κs. search needs)
+    (λ c. search needs) (λ c. search needs) (λ c. search needs) (λ c. search needs) (λ c. search needs) (λ c. search needs)
     (λ c. search needs))

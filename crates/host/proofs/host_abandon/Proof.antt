@@ -19,9 +19,11 @@ same-length c = search needs
 
 returns : tie.Need-returns
 returns c =
-    let s = c .before .before .before .before .before .before .before .before in
+    let s = c .before .before .before .before .before .before .before .before .before in
     let fits : SFits w64 (s .args .target) = search needs in
-    call-abandons _ _ _ _ _ 4 _ (pos 0) _ (c .reply-answer .ensures) refl (rw (toZ-ofZ fits) at (c .before .before .before .abandon .ensures))
+    call-abandons _ _ _ _ _ _ 4 _ (pos 0) _ (c .reply-answer .ensures) refl (rw (toZ-ofZ fits) at (c .before .before .before .abandon .ensures))
 
 pub host-abandon-spec : {M : Type 1} → statement M
-host-abandon-spec = tie.close (tie.spec abandon-requires reply-answer-requires same-length returns)
+host-abandon-spec =
+    tie.close
+    (tie.spec abandon-requires reply-answer-requires same-length returns)

@@ -16,9 +16,11 @@ reply-read-requires c κs = search needs
 
 returns : tie.Need-returns
 returns c =
-    let s = c .before .before .before .before .before in
+    let s = c .before .before .before .before .before .before in
     let fits : SFits w64 (s .args .address) = search needs in
-    call-reads _ _ _ _ _ 5 _ (pos 0) _ _ (c .reply-read .ensures) refl refl (rw (toZ-ofZ fits) at (c .before .read .ensures))
+    call-reads _ _ _ _ _ _ 5 _ (pos 0) _ _ (c .reply-read .ensures) refl refl (rw (toZ-ofZ fits) at (c .before .read .ensures))
 
 pub host-read-spec : {M : Type 1} → statement M
-host-read-spec = tie.close (tie.spec read-requires reply-read-requires returns)
+host-read-spec =
+    tie.close
+    (tie.spec read-requires reply-read-requires returns)

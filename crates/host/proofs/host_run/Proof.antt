@@ -21,11 +21,12 @@ same-length-2 c = search needs
 
 returns : tie.Need-returns
 returns c =
-    let s = c .before .before .before .before .before .before .before .before .before .before .before in
+    let s = c .before .before .before .before .before .before .before .before .before .before .before .before .before .before .before in
     let target-fits : SFits w64 (s .args .target) = search needs in
     let limit-fits : SFits w64 (s .args .limit) = search needs in
-    call-runs _ _ _ _ _ 2 _ _ _ (c .reply-run .ensures) refl (rw (toZ-ofZ target-fits, toZ-ofZ limit-fits) at (c .before .before .before .before .before .run .ensures))
+    call-runs _ _ _ _ _ _ 2 _ _ _ (c .reply-run .ensures) refl (rw (toZ-ofZ target-fits, toZ-ofZ limit-fits) at (c .before .before .before .before .before .before .before .run .ensures))
 
 pub host-run-spec : {M : Type 1} → statement M
 host-run-spec =
-    tie.close (tie.spec run-requires reply-run-requires same-length same-length-2 returns)
+    tie.close
+    (tie.spec run-requires reply-run-requires same-length same-length-2 (λ c. search needs) returns)

@@ -18,9 +18,9 @@ same-length-2 : tie.Need-same-length-2
 same-length-2 c = search needs
 
 returns : tie.Need-returns
-returns c = call-steps _ _ _ _ _ 1 (pos 0) (pos 0) _ (c .reply-statement .ensures) refl (c .before .before .before .before .before .step-once .ensures)
+returns c = call-steps _ _ _ _ _ _ 1 (pos 0) (pos 0) _ (c .reply-statement .ensures) refl (c .before .before .before .before .before .before .before .step-once .ensures)
 
 pub host-statement-spec : {M : Type 1} → statement M
 host-statement-spec =
     tie.close
-    (tie.spec step-once-requires reply-statement-requires same-length same-length-2 returns)
+    (tie.spec step-once-requires reply-statement-requires same-length same-length-2 (λ c. search needs) returns)

@@ -11,9 +11,11 @@ use Rattle.host.proofs.host_write.Tie as tie
 
 returns : tie.Need-returns
 returns c =
-    let s = c .before .before .before .before .before .before .before .before in
+    let s = c .before .before .before .before .before .before .before .before .before in
     let fits : SFits w64 (s .args .address) = search needs in
-    call-writes _ _ _ _ _ 6 _ (pos (s .args .value)) _ (c .reply-answer .ensures) (λ e. omega (arith, e)) (λ e. omega (arith, e)) (λ e. omega (arith, e)) (λ e. omega (arith, e)) (λ e. omega (arith, e)) (λ e. omega (arith, e)) _ refl (rw (toZ-ofZ fits) at (c .before .before .before .write .ensures))
+    call-writes _ _ _ _ _ _ 6 _ (pos (s .args .value)) _ (c .reply-answer .ensures) (λ e. omega (arith, e)) (λ e. omega (arith, e)) (λ e. omega (arith, e)) (λ e. omega (arith, e)) (λ e. omega (arith, e)) (λ e. omega (arith, e)) _ refl (rw (toZ-ofZ fits) at (c .before .before .before .write .ensures))
 
 pub host-write-spec : {M : Type 1} → statement M
-host-write-spec = tie.close (tie.spec (λ c κs. search needs) (λ c κs. search needs) (λ c. search needs) returns)
+host-write-spec =
+    tie.close
+    (tie.spec (λ c κs. search needs) (λ c κs. search needs) (λ c. search needs) returns)

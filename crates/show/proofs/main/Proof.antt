@@ -10,5 +10,5 @@ slice-aggregate-write-all c = simp length-take (omega arith)
 pub main-spec : {M : Type 1} → statement M
 main-spec =
     tie.close (tie.spec (λ c. search needs) (λ c κs. search needs) (λ c. search needs) (λ c. search needs) (λ c. search needs)
-    (λ c. search needs) (λ c. search needs) (λ c κs. search needs) (λ c. search needs) slice-aggregate-write-all (λ c κs. search needs)
+    (λ c. search needs) (λ c. search needs) (λ c. search needs) (λ c κs. search needs) (λ c. search needs) slice-aggregate-write-all (λ c κs. search needs)
     (λ c. search needs))

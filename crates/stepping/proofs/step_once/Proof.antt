@@ -70,12 +70,12 @@ use Rattle.stepping.proofs.step_once.Statement as stated
 use Rattle.stepping.proofs.step_once.Code as code
 
 -- what both contracts say: of the parameters, the context h, the context h′ after it, the answer o, and the mutable slices' last lists
-abbrev Promise : List ℕ → List ℕ → List ℕ → ExecutionContext → ExecutionContext → StatementAnswer → List ℕ → List ℕ → Type 0
-Promise file cells saved h h′ o cells′ saved′ = steppedOf (stepped h′ o) cells′ saved′ ≡ statementOutcome (config h cells saved) (statement (programOf file) (config h cells saved))
+abbrev Promise : List ℕ → List ℕ → List ℕ → List ℕ → ExecutionContext → ExecutionContext → StatementAnswer → List ℕ → List ℕ → List ℕ → Type 0
+Promise file cells saved entities h h′ o cells′ saved′ entities′ = steppedOf (stepped h′ o) cells′ saved′ entities′ ≡ statementOutcome (config h cells saved entities) (statement (programOf file) (config h cells saved entities))
 
 -- at exit: nothing is had of what is Copy; the mutable slices were given to the callee for good
 abbrev stayed : Stays (own.ended .signature .params) (own.ended .kept)
-stayed = (stay-dropped (plain (λ _. T.the-row)) yes, (stay-dropped (shrSliceOf (0 ∷ []) tt (plain (λ _. u8))) yes, (gave-slice (1 ∷ []) tt (plain (λ _. u32)), (gave-slice (2 ∷ []) tt (plain (λ _. u32)), tt))))
+stayed = (stay-dropped (plain (λ _. T.the-row)) yes, (stay-dropped (shrSliceOf (0 ∷ []) tt (plain (λ _. u8))) yes, (gave-slice (1 ∷ []) tt (plain (λ _. u32)), (gave-slice (2 ∷ []) tt (plain (λ _. u32)), (gave-slice (3 ∷ []) tt (plain (λ _. u32)), tt)))))
 
 abbrev t-vals : ExecutionContext → List Val
 t-vals = LL.vals T.the-type T′.the-laws
@@ -99,12 +99,12 @@ s-is : (d : ExecutionContext) (v : Val) (r : StatementAnswer) (w : Val) → Is T
 s-is d v r w g is = LL.owes S.the-type S′.the-laws (record { context = d; answer = r }) (t-is d v g, (EL.owes O.the-type O′.the-laws r (EL.owed O.the-type O′.the-laws r (w ∷ []) is), tt))
 
 module _ {M : Type 1} (𝓤 : URA M) (H : Heap 𝓤) (A : Atoms 𝓤) (W : Given 𝓤 H A) (at-mem : Memory → SProp 𝓤) (run : Routine → Fun 𝓤)
-    (κ₁ κ₂ κ₃ : Lft) (q₁ q₂ q₃ : Share) (h : ExecutionContext) (file : RefT (List ℕ)) (cells : RefT (List ℕ)) (saved : RefT (List ℕ)) where
+    (κ₁ κ₂ κ₃ κ₄ : Lft) (q₁ q₂ q₃ q₄ : Share) (h : ExecutionContext) (file : RefT (List ℕ)) (cells : RefT (List ℕ)) (saved : RefT (List ℕ)) (entities : RefT (List ℕ)) where
   abbrev Arg : Type 0
-  Arg = ExecutionContext × (RefT (List ℕ) × (RefT (List ℕ) × (RefT (List ℕ) × (Unit {0}))))
+  Arg = ExecutionContext × (RefT (List ℕ) × (RefT (List ℕ) × (RefT (List ℕ) × (RefT (List ℕ) × (Unit {0})))))
 
   abbrev a : Arg
-  a = (h, (file, (cells, (saved, tt))))
+  a = (h, (file, (cells, (saved, (entities, tt)))))
 
   abbrev filev : Val
   filev = sliceVal (file .ptr) (length (file .now))
@@ -115,18 +115,21 @@ module _ {M : Type 1} (𝓤 : URA M) (H : Heap 𝓤) (A : Atoms 𝓤) (W : Given
   abbrev savedv : Val
   savedv = sliceVal (saved .ptr) (length (saved .now))
 
-  abbrev vals : List Val × (List Val × (List Val × (List Val × (Unit {0}))))
-  vals = (t-vals h, (filev ∷ [], (cellsv ∷ [], (savedv ∷ [], tt))))
+  abbrev entitiesv : Val
+  entitiesv = sliceVal (entities .ptr) (length (entities .now))
+
+  abbrev vals : List Val × (List Val × (List Val × (List Val × (List Val × (Unit {0})))))
+  vals = (t-vals h, (filev ∷ [], (cellsv ∷ [], (savedv ∷ [], (entitiesv ∷ [], tt)))))
 
   abbrev Post : Val → SProp 𝓤
-  Post = walkOf 𝓤 H A own.ended stayed (own.clauses 𝓤 H A at-mem run) .post (((κ₁, (κ₂, (κ₃, tt))), (q₁, (q₂, (q₃, tt))), tt, a, vals), tt)
+  Post = walkOf 𝓤 H A own.ended stayed (own.clauses 𝓤 H A at-mem run) .post (((κ₁, (κ₂, (κ₃, (κ₄, tt)))), (q₁, (q₂, (q₃, (q₄, tt)))), tt, a, vals), tt)
 
   -- the parameters' tokens, and what they own
   abbrev Toks : Item 𝓤
-  Toks = ‵ (flft κ₁ q₁) ⊛ ‵ (flft κ₂ q₂) ⊛ ‵ (flft κ₃ q₃) ⊛ ‵ ftrue
+  Toks = ‵ (flft κ₁ q₁) ⊛ ‵ (flft κ₂ q₂) ⊛ ‵ (flft κ₃ q₃) ⊛ ‵ (flft κ₄ q₄) ⊛ ‵ ftrue
 
   abbrev Rest : Fml
-  Rest = owns (ShrSlice (named 0) κ₁ u8 ∷ MutSlice (named 1) κ₂ u32 ∷ MutSlice (named 2) κ₃ u32 ∷ []) (file, (cells, (saved, tt))) (filev ∷ [], (cellsv ∷ [], (savedv ∷ [], tt)))
+  Rest = owns (ShrSlice (named 0) κ₁ u8 ∷ MutSlice (named 1) κ₂ u32 ∷ MutSlice (named 2) κ₃ u32 ∷ MutSlice (named 3) κ₄ u32 ∷ []) (file, (cells, (saved, (entities, tt)))) (filev ∷ [], (cellsv ∷ [], (savedv ∷ [], (entitiesv ∷ [], tt))))
 
   -- the reference that is lent: to the local at the block l, for the lifetime ν, under the name γ
   abbrev x : ℕ → GName → RefT ExecutionContext
@@ -136,76 +139,78 @@ module _ {M : Type 1} (𝓤 : URA M) (H : Heap 𝓤) (A : Atoms 𝓤) (W : Given
   Lent ν l γ = MutRef (named 0) (ν ∷ []) T.the-row .own (x l γ) (vptr l 0 ∷ [])
 
   abbrev to : ℕ → ℕ → GName → Callee 𝓤 H A at-mem run .Ghost
-  to ν l γ = (((ν ∷ [], (κ₁, (κ₂, (κ₃, tt)))), (fullShare, (q₁, (q₂, (q₃, tt)))), tt, (x l γ, (file, (cells, (saved, tt)))), (vptr l 0 ∷ [], (filev ∷ [], (cellsv ∷ [], (savedv ∷ [], tt))))), tt)
+  to ν l γ = (((ν ∷ [], (κ₁, (κ₂, (κ₃, (κ₄, tt))))), (fullShare, (q₁, (q₂, (q₃, (q₄, tt))))), tt, (x l γ, (file, (cells, (saved, (entities, tt))))), (vptr l 0 ∷ [], (filev ∷ [], (cellsv ∷ [], (savedv ∷ [], (entitiesv ∷ [], tt)))))), tt)
 
   goes : (ν l : ℕ) (γ : GName) → ent 𝓤 (⋆ 𝓤 H A ((‵ (flft (ν ∷ []) fullShare) ⊛ Toks) ∷ ‵ (Lent ν l γ) ∷ ‵ Rest ∷ [])) (Callee 𝓤 H A at-mem run .pre (to ν l γ))
   goes ν l γ = qed W ((‵ (flft (ν ∷ []) fullShare) ⊛ Toks) ∷ ‵ (Lent ν l γ) ∷ ‵ Rest ∷ []) ∵ move ! (1 ∷ 2 ∷ []) $ fjoin ! $ move ! (1 ∷ 0 ∷ []) $ join ! $ frame ! $ done !
 
-  exits : (d : ExecutionContext) (v : Val) (r : StatementAnswer) (w : Val) (cells′ : List ℕ) (saved′ : List ℕ) → Is T.the-row d (v ∷ []) → Is O.the-row r (w ∷ []) → Promise (file .now) (cells .now) (saved .now) h d r cells′ saved′ → length cells′ ≡ length (cells .now) → length saved′ ≡ length (saved .now)
-      → ent 𝓤 (⋆ 𝓤 H A (Toks ∷ ‵ (finally u32 (saved .name) saved′) ∷ ‵ (finally u32 (cells .name) cells′) ∷ [])) (Post (s-val (record { context = d; answer = r })))
-  exits d v r w cells′ saved′ g is e lcells lsaved =
-      qed W (Toks ∷ ‵ (finally u32 (saved .name) saved′) ∷ ‵ (finally u32 (cells .name) cells′) ∷ []) ∵
-      suffices ! _ (ends-at 𝓤 H A own.ended stayed (own.clauses 𝓤 H A at-mem run) W (((κ₁, (κ₂, (κ₃, tt))), (q₁, (q₂, (q₃, tt))), tt, a, vals), tt) (s-val (record { context = d; answer = r })) (record { context = d; answer = r }) (tt, (tt, (cells′, (saved′, tt)))) (tt, (tt, (lcells, (lsaved, tt))))) $ says ! e $
-      frame ! $ nothing ! $ move ! (1 ∷ 0 ∷ []) $ fjoin ! $ move ! (1 ∷ 0 ∷ []) $ fjoin ! $ nothing ! $ fjoin ! $ nothing ! $ fjoin ! $ frame ! $
+  exits : (d : ExecutionContext) (v : Val) (r : StatementAnswer) (w : Val) (cells′ : List ℕ) (saved′ : List ℕ) (entities′ : List ℕ) → Is T.the-row d (v ∷ []) → Is O.the-row r (w ∷ []) → Promise (file .now) (cells .now) (saved .now) (entities .now) h d r cells′ saved′ entities′ → length cells′ ≡ length (cells .now) → length saved′ ≡ length (saved .now) → length entities′ ≡ length (entities .now)
+      → ent 𝓤 (⋆ 𝓤 H A (Toks ∷ ‵ (finally u32 (entities .name) entities′) ∷ ‵ (finally u32 (saved .name) saved′) ∷ ‵ (finally u32 (cells .name) cells′) ∷ [])) (Post (s-val (record { context = d; answer = r })))
+  exits d v r w cells′ saved′ entities′ g is e lcells lsaved lentities =
+      qed W (Toks ∷ ‵ (finally u32 (entities .name) entities′) ∷ ‵ (finally u32 (saved .name) saved′) ∷ ‵ (finally u32 (cells .name) cells′) ∷ []) ∵
+      suffices ! _ (ends-at 𝓤 H A own.ended stayed (own.clauses 𝓤 H A at-mem run) W (((κ₁, (κ₂, (κ₃, (κ₄, tt)))), (q₁, (q₂, (q₃, (q₄, tt)))), tt, a, vals), tt) (s-val (record { context = d; answer = r })) (record { context = d; answer = r }) (tt, (tt, (cells′, (saved′, (entities′, tt))))) (tt, (tt, (lcells, (lsaved, (lentities, tt)))))) $ says ! e $
+      frame ! $ nothing ! $ move ! (1 ∷ 0 ∷ []) $ fjoin ! $ move ! (1 ∷ 0 ∷ []) $ fjoin ! $ move ! (1 ∷ 0 ∷ []) $ fjoin ! $ nothing ! $ fjoin ! $ nothing ! $ fjoin ! $ frame ! $
       owned ! S.the-row (Is S.the-row) (LL.makes S.the-type S′.the-plain 𝓤 H A) (record { context = d; answer = r }) _ (s-is d v r w g is) $ done !
 
   t-typed : (d : ExecutionContext) → Is T.the-row d (t-vals d) → Holds (hasTy T′.mir (t-val d)) × WT (t-val d)
   t-typed d g = LL.lawful T.the-type T′.the-laws 𝓤 H A W .typed d _ g .0
 
   module _ (C : Calls 𝓤 H) (Λ : Loops 𝓤 H) (fm : FmC 𝓤 H (W .laws) C) (known : Triple 𝓤 (C #callee) (Callee 𝓤 H A at-mem run)) where
-    walk : Is T.the-row h (t-vals h) → Is (ShrSlice (named 0) κ₁ u8) file (filev ∷ []) → Is (MutSlice (named 1) κ₂ u32) cells (cellsv ∷ []) → Is (MutSlice (named 2) κ₃ u32) saved (savedv ∷ [])
-        → ent 𝓤 (onEntry 𝓤 H A own.signature (κ₁, (κ₂, (κ₃, tt))) (q₁, (q₂, (q₃, tt))) a vals) (WpFn 𝓤 H C Λ code.function (t-val h ∷ filev ∷ cellsv ∷ savedv ∷ []) Post)
-    walk g pfile pcells psaved =
-        qed W (Toks ∷ ‵ (fsep (T.the-row .own h (t-vals h)) Rest) ∷ []) ∵ enter ! C Λ code.function (t-val h ∷ filev ∷ cellsv ∷ savedv ∷ []) _ $
-        alloc1 ! (λ l₀. alloc1 ! (λ l₁. alloc1 ! (λ l₂. alloc1 ! (λ l₃. alloc1 ! (λ l₄. alloc1 ! (λ l₅. alloc1 ! (λ l₆. alloc1 ! (λ l₇. alloc1 ! (λ l₈. alloc1 ! (λ l₉. alloc1 ! (λ l₁₀. alloc1 ! (λ l₁₁. alloc1 ! (λ l₁₂. alloc0 ! $ params1 ! $
-        pass1 ! (init ! 22 refl (t-typed h g)) $ pass1 ! (init ! 20 refl (shr-slice-lawful 𝓤 H A W (named 0) κ₁ u8 .typed file _ pfile .0)) $ pass1 ! (init ! 18 refl (mut-slice-lawful 𝓤 H A W (named 1) κ₂ u32 .typed cells _ pcells .0)) $ pass1 ! (init ! 16 refl (mut-slice-lawful 𝓤 H A W (named 2) κ₃ u32 .typed saved _ psaved .0)) $ pass0 ! $
-        -- [_12; …; room for _0 (24); …; the tokens (26); what the parameters own (27)]
-        move ! (27 ∷ 26 ∷ []) $ fsplit ! $
-        -- [what the context owns; Rest; Toks; _12 (3); …; _0 (27); …]
-        assigns ! (of-opd ! (load ! (from ! (stop !)) (look ! 25 refl))) (from ! (stop !)) (init ! 17 refl (t-typed h g)) $
-        assigns ! (addr ! (from ! (stop !))) (from ! (stop !)) (init ! 13 refl (tt, tt)) $
-        assigns ! (addr ! (from ! (fld ! refl (hop ! (look-in ! 21 (sub ! 0 refl (whole !))) (stop !))))) (from ! (stop !)) (init ! 11 refl (tt, tt)) $
-        assigns ! (agg ! (and-then ! (load ! (from ! (stop !)) (look ! 11 refl)) (and-then ! (load ! (from ! (fld ! refl (stop !))) (look-in ! 21 (sub ! 1 refl (whole !)))) (no-more !)))) (from ! (stop !)) (init ! 9 refl (mut-slice-lawful 𝓤 H A W erased κ₂ u32 .typed cells _ pcells .0)) $
-        assigns ! (addr ! (from ! (fld ! refl (hop ! (look-in ! 19 (sub ! 0 refl (whole !))) (stop !))))) (from ! (stop !)) (init ! 7 refl (tt, tt)) $
-        assigns ! (agg ! (and-then ! (load ! (from ! (stop !)) (look ! 7 refl)) (and-then ! (load ! (from ! (fld ! refl (stop !))) (look-in ! 19 (sub ! 1 refl (whole !)))) (no-more !)))) (from ! (stop !)) (init ! 5 refl (mut-slice-lawful 𝓤 H A W erased κ₃ u32 .typed saved _ psaved .0)) $
+    walk : Is T.the-row h (t-vals h) → Is (ShrSlice (named 0) κ₁ u8) file (filev ∷ []) → Is (MutSlice (named 1) κ₂ u32) cells (cellsv ∷ []) → Is (MutSlice (named 2) κ₃ u32) saved (savedv ∷ []) → Is (MutSlice (named 3) κ₄ u32) entities (entitiesv ∷ [])
+        → ent 𝓤 (onEntry 𝓤 H A own.signature (κ₁, (κ₂, (κ₃, (κ₄, tt)))) (q₁, (q₂, (q₃, (q₄, tt)))) a vals) (WpFn 𝓤 H C Λ code.function (t-val h ∷ filev ∷ cellsv ∷ savedv ∷ entitiesv ∷ []) Post)
+    walk g pfile pcells psaved pentities =
+        qed W (Toks ∷ ‵ (fsep (T.the-row .own h (t-vals h)) Rest) ∷ []) ∵ enter ! C Λ code.function (t-val h ∷ filev ∷ cellsv ∷ savedv ∷ entitiesv ∷ []) _ $
+        alloc1 ! (λ l₀. alloc1 ! (λ l₁. alloc1 ! (λ l₂. alloc1 ! (λ l₃. alloc1 ! (λ l₄. alloc1 ! (λ l₅. alloc1 ! (λ l₆. alloc1 ! (λ l₇. alloc1 ! (λ l₈. alloc1 ! (λ l₉. alloc1 ! (λ l₁₀. alloc1 ! (λ l₁₁. alloc1 ! (λ l₁₂. alloc1 ! (λ l₁₃. alloc1 ! (λ l₁₄. alloc1 ! (λ l₁₅. alloc0 ! $ params1 ! $
+        pass1 ! (init ! 28 refl (t-typed h g)) $ pass1 ! (init ! 26 refl (shr-slice-lawful 𝓤 H A W (named 0) κ₁ u8 .typed file _ pfile .0)) $ pass1 ! (init ! 24 refl (mut-slice-lawful 𝓤 H A W (named 1) κ₂ u32 .typed cells _ pcells .0)) $ pass1 ! (init ! 22 refl (mut-slice-lawful 𝓤 H A W (named 2) κ₃ u32 .typed saved _ psaved .0)) $ pass1 ! (init ! 20 refl (mut-slice-lawful 𝓤 H A W (named 3) κ₄ u32 .typed entities _ pentities .0)) $ pass0 ! $
+        -- [_15; …; room for _0 (30); …; the tokens (32); what the parameters own (33)]
+        move ! (33 ∷ 32 ∷ []) $ fsplit ! $
+        -- [what the context owns; Rest; Toks; _15 (3); …; _0 (33); …]
+        assigns ! (of-opd ! (load ! (from ! (stop !)) (look ! 31 refl))) (from ! (stop !)) (init ! 21 refl (t-typed h g)) $
+        assigns ! (addr ! (from ! (stop !))) (from ! (stop !)) (init ! 17 refl (tt, tt)) $
+        assigns ! (addr ! (from ! (fld ! refl (hop ! (look-in ! 27 (sub ! 0 refl (whole !))) (stop !))))) (from ! (stop !)) (init ! 15 refl (tt, tt)) $
+        assigns ! (agg ! (and-then ! (load ! (from ! (stop !)) (look ! 15 refl)) (and-then ! (load ! (from ! (fld ! refl (stop !))) (look-in ! 27 (sub ! 1 refl (whole !)))) (no-more !)))) (from ! (stop !)) (init ! 13 refl (mut-slice-lawful 𝓤 H A W erased κ₂ u32 .typed cells _ pcells .0)) $
+        assigns ! (addr ! (from ! (fld ! refl (hop ! (look-in ! 25 (sub ! 0 refl (whole !))) (stop !))))) (from ! (stop !)) (init ! 11 refl (tt, tt)) $
+        assigns ! (agg ! (and-then ! (load ! (from ! (stop !)) (look ! 11 refl)) (and-then ! (load ! (from ! (fld ! refl (stop !))) (look-in ! 25 (sub ! 1 refl (whole !)))) (no-more !)))) (from ! (stop !)) (init ! 9 refl (mut-slice-lawful 𝓤 H A W erased κ₃ u32 .typed saved _ psaved .0)) $
+        assigns ! (addr ! (from ! (fld ! refl (hop ! (look-in ! 23 (sub ! 0 refl (whole !))) (stop !))))) (from ! (stop !)) (init ! 7 refl (tt, tt)) $
+        assigns ! (agg ! (and-then ! (load ! (from ! (stop !)) (look ! 7 refl)) (and-then ! (load ! (from ! (fld ! refl (stop !))) (look-in ! 23 (sub ! 1 refl (whole !)))) (no-more !)))) (from ! (stop !)) (init ! 5 refl (mut-slice-lawful 𝓤 H A W erased κ₄ u32 .typed entities _ pentities .0)) $
         -- the local is lent, for a lifetime ν that is made for the call
-        move ! (17 ∷ 0 ∷ []) $ use2 W (‵ (mem T.the-row .lies h l₅ 0)) (part-in-at 𝓤 H A W T.the-row refl fullShare h l₅ 0 T′.mir refl (t-val h)) $
+        move ! (21 ∷ 0 ∷ []) $ use2 W (‵ (mem T.the-row .lies h l₆ 0)) (part-in-at 𝓤 H A W T.the-row refl fullShare h l₆ 0 T′.mir refl (t-val h)) $
         lft-new ! tt (λ ν. move ! (1 ∷ []) $
-        use1 W (later (some (λ (γ : GName). ‵ (Lent ν l₅ γ) ⊛ ‵ (flent (ν ∷ []) (Body (mem T.the-row) l₅ 0 γ))))) (lends-ref 𝓤 H A W T.the-row (named 0) (ν ∷ []) h l₅ 0) $ await ! tt $ pick ! (λ γ. split ! $
-        -- [the reference; the lender's part; ν's token; Rest; Toks; _12 (5); …]
-        move ! (2 ∷ 4 ∷ 0 ∷ 3 ∷ []) $ join ! $ use3 W (raw (Callee 𝓤 H A at-mem run .pre (to ν l₅ γ))) (goes ν l₅ γ) $
-        -- [what the callee asks; the lender's part; _12 (2); …; what frees _5 (16); _4 (17); …]
-        calls-at ! fm (Callee 𝓤 H A at-mem run) known (to ν l₅ γ) (and-then ! (load ! (from ! (stop !)) (look ! 12 refl)) (and-then ! (load ! (from ! (stop !)) (look ! 21 refl)) (and-then ! (load ! (from ! (stop !)) (look ! 8 refl)) (and-then ! (load ! (from ! (stop !)) (look ! 4 refl)) (no-more !))))) (λ w.
-        use1 W (later (some (λ (r : StatementAnswer). ((‵ (flft (ν ∷ []) fullShare) ⊛ Toks) ⊛ ‵ (O.the-row .own r (w ∷ []))) ⊛ raw (ensured 𝓤 H A callee.ended (callee.clauses 𝓤 H A at-mem run) (ν ∷ [], (κ₁, (κ₂, (κ₃, tt)))) (x l₅ γ, (file, (cells, (saved, tt)))) tt r)))) (id⊢ 𝓤 _) $ await ! tt $ pick ! (λ r.
-        split ! $ move ! (1 ∷ []) $ use1 W (some (λ (ws : ExecutionContext × (Unit {0} × (List ℕ × (List ℕ × (Unit {0}))))). ‵ (lasts callee.ended (ν ∷ [], (κ₁, (κ₂, (κ₃, tt)))) (x l₅ γ, (file, (cells, (saved, tt)))) ws) ⊛ raw (fact 𝓤 (Promise (file .now) (cells .now) (saved .now) h (ws .0) r (ws .1 .1 .0) (ws .1 .1 .1 .0))))) (id⊢ 𝓤 _) $ pick ! (λ ws.
-        split ! $ move ! (1 ∷ []) $ heard ! (Promise (file .now) (cells .now) (saved .now) h (ws .0) r (ws .1 .1 .0) (ws .1 .1 .1 .0)) (λ e.
-        fsplit ! $ move ! (1 ∷ []) $ fsplit ! $ drop ! $ fsplit ! $ fsplit ! $ move ! (1 ∷ []) $ feqL ! (λ lcells. move ! (1 ∷ []) $ fsplit ! $ fsplit ! $ move ! (1 ∷ []) $ feqL ! (λ lsaved. move ! (1 ∷ []) $ drop ! $
-        -- [the last lists, from the last parameter's to the first's; the context's last value; the tokens and the result; the lender's part; _12; …]
-        move ! (3 ∷ []) $ split ! $ split ! $ move ! (2 ∷ []) $ peeks ! O.the-row (Is O.the-row) (shows 𝓤 H A O.the-row) r (w ∷ []) (λ is.
-        -- [the result; ν's token; Toks; the last lists; the context's last value (5); the lender's part (6); _12 (7); …]
-        land ! (from ! (stop !)) (init ! 19 refl (EL.lawful O.the-type O′.the-laws 𝓤 H A W tt .typed r _ is .0)) $
-        rewrite ! 19 (λ (u : Val). ‵ (fat fullShare O′.mir l₆ 0 u)) (ap only (EL.tells O.the-type O′.the-laws r (w ∷ []) is)) refl $
+        use1 W (later (some (λ (γ : GName). ‵ (Lent ν l₆ γ) ⊛ ‵ (flent (ν ∷ []) (Body (mem T.the-row) l₆ 0 γ))))) (lends-ref 𝓤 H A W T.the-row (named 0) (ν ∷ []) h l₆ 0) $ await ! tt $ pick ! (λ γ. split ! $
+        -- [the reference; the lender's part; ν's token; Rest; Toks; _15 (5); …]
+        move ! (2 ∷ 4 ∷ 0 ∷ 3 ∷ []) $ join ! $ use3 W (raw (Callee 𝓤 H A at-mem run .pre (to ν l₆ γ))) (goes ν l₆ γ) $
+        -- [what the callee asks; the lender's part; _15 (2); …; what frees _6 (20); _5 (21); …]
+        calls-at ! fm (Callee 𝓤 H A at-mem run) known (to ν l₆ γ) (and-then ! (load ! (from ! (stop !)) (look ! 16 refl)) (and-then ! (load ! (from ! (stop !)) (look ! 27 refl)) (and-then ! (load ! (from ! (stop !)) (look ! 12 refl)) (and-then ! (load ! (from ! (stop !)) (look ! 8 refl)) (and-then ! (load ! (from ! (stop !)) (look ! 4 refl)) (no-more !)))))) (λ w.
+        use1 W (later (some (λ (r : StatementAnswer). ((‵ (flft (ν ∷ []) fullShare) ⊛ Toks) ⊛ ‵ (O.the-row .own r (w ∷ []))) ⊛ raw (ensured 𝓤 H A callee.ended (callee.clauses 𝓤 H A at-mem run) (ν ∷ [], (κ₁, (κ₂, (κ₃, (κ₄, tt))))) (x l₆ γ, (file, (cells, (saved, (entities, tt))))) tt r)))) (id⊢ 𝓤 _) $ await ! tt $ pick ! (λ r.
+        split ! $ move ! (1 ∷ []) $ use1 W (some (λ (ws : ExecutionContext × (Unit {0} × (List ℕ × (List ℕ × (List ℕ × (Unit {0})))))). ‵ (lasts callee.ended (ν ∷ [], (κ₁, (κ₂, (κ₃, (κ₄, tt))))) (x l₆ γ, (file, (cells, (saved, (entities, tt))))) ws) ⊛ raw (fact 𝓤 (Promise (file .now) (cells .now) (saved .now) (entities .now) h (ws .0) r (ws .1 .1 .0) (ws .1 .1 .1 .0) (ws .1 .1 .1 .1 .0))))) (id⊢ 𝓤 _) $ pick ! (λ ws.
+        split ! $ move ! (1 ∷ []) $ heard ! (Promise (file .now) (cells .now) (saved .now) (entities .now) h (ws .0) r (ws .1 .1 .0) (ws .1 .1 .1 .0) (ws .1 .1 .1 .1 .0)) (λ e.
+        fsplit ! $ move ! (1 ∷ []) $ fsplit ! $ drop ! $ fsplit ! $ fsplit ! $ move ! (1 ∷ []) $ feqL ! (λ lcells. move ! (1 ∷ []) $ fsplit ! $ fsplit ! $ move ! (1 ∷ []) $ feqL ! (λ lsaved. move ! (1 ∷ []) $ fsplit ! $ fsplit ! $ move ! (1 ∷ []) $ feqL ! (λ lentities. move ! (1 ∷ []) $ drop ! $
+        -- [the last lists, from the last parameter's to the first's; the context's last value; the tokens and the result; the lender's part; _15; …]
+        move ! (4 ∷ []) $ split ! $ split ! $ move ! (2 ∷ []) $ peeks ! O.the-row (Is O.the-row) (shows 𝓤 H A O.the-row) r (w ∷ []) (λ is.
+        -- [the result; ν's token; Toks; the last lists; the context's last value (6); the lender's part (7); _15 (8); …]
+        land ! (from ! (stop !)) (init ! 24 refl (EL.lawful O.the-type O′.the-laws 𝓤 H A W tt .typed r _ is .0)) $
+        rewrite ! 24 (λ (u : Val). ‵ (fat fullShare O′.mir l₇ 0 u)) (ap only (EL.tells O.the-type O′.the-laws r (w ∷ []) is)) refl $
         -- the lifetime is ended, and the local comes back at the context's last value
-        move ! (1 ∷ []) $ lft-end ! tt $ move ! (0 ∷ 6 ∷ 5 ∷ []) $ use3 W (later (‵ (mem T.the-row .lies (ws .0) l₅ 0))) (ref-back 𝓤 H A W T.the-row (ν ∷ []) γ (ws .0) l₅ 0) $ await ! tt $
-        use1 W (some (λ (v : Val). ‵ (fat fullShare T′.mir l₅ 0 v) ⊛ ‵ (T.the-row .own (ws .0) (v ∷ [])))) (part-out-at 𝓤 H A W T.the-row refl fullShare (ws .0) l₅ 0 T′.mir refl) $ pick ! (λ v. split ! $
+        move ! (1 ∷ []) $ lft-end ! tt $ move ! (0 ∷ 7 ∷ 6 ∷ []) $ use3 W (later (‵ (mem T.the-row .lies (ws .0) l₆ 0))) (ref-back 𝓤 H A W T.the-row (ν ∷ []) γ (ws .0) l₆ 0) $ await ! tt $
+        use1 W (some (λ (v : Val). ‵ (fat fullShare T′.mir l₆ 0 v) ⊛ ‵ (T.the-row .own (ws .0) (v ∷ [])))) (part-out-at 𝓤 H A W T.the-row refl fullShare (ws .0) l₆ 0 T′.mir refl) $ pick ! (λ v. split ! $
         move ! (1 ∷ []) $ peeks ! T.the-row (Is T.the-row) (shows 𝓤 H A T.the-row) (ws .0) (v ∷ []) (λ gd.
-        rewrite ! 1 (λ (u : Val). ‵ (fat fullShare T′.mir l₅ 0 u)) (ap only (LL.tells T.the-type T′.the-laws (ws .0) (v ∷ []) gd)) refl $
-        -- [what the context owns; _5; the result; Toks; the last lists; _12 (6); …; what frees _5 (20); …; _0 (29); …]
-        assigns ! (of-opd ! (load ! (from ! (stop !)) (look ! 1 refl))) (from ! (stop !)) (init ! 6 refl (t-typed (ws .0) (t-is (ws .0) v gd))) $
-        assigns ! (agg ! (and-then ! (load ! (from ! (stop !)) (look ! 6 refl)) (and-then ! (load ! (from ! (stop !)) (look ! 18 refl)) (no-more !)))) (from ! (stop !)) (init ! 29 refl (LL.lawful S.the-type S′.the-laws 𝓤 H A W .typed (record { context = ws .0; answer = r }) _ (s-is (ws .0) v r w gd is) .0)) $
-        returns ! (look ! 29 refl) $ forget ! 1 refl $ forget ! 6 refl $ forget ! 8 refl $ forget ! 10 refl $ forget ! 12 refl $ forget ! 14 refl $ forget ! 16 refl $ forget ! 18 refl $ forget ! 21 refl $ forget ! 23 refl $ forget ! 25 refl $ forget ! 27 refl $ forget ! 29 refl $
-        move ! (29 ∷ 30 ∷ []) $ free1 ! $ move ! (27 ∷ 28 ∷ []) $ free1 ! $ move ! (25 ∷ 26 ∷ []) $ free1 ! $ move ! (23 ∷ 24 ∷ []) $ free1 ! $ move ! (21 ∷ 22 ∷ []) $ free1 ! $ move ! (1 ∷ 20 ∷ []) $ free1 ! $ move ! (17 ∷ 18 ∷ []) $ free1 ! $ move ! (15 ∷ 16 ∷ []) $ free1 ! $ move ! (13 ∷ 14 ∷ []) $ free1 ! $ move ! (11 ∷ 12 ∷ []) $ free1 ! $ move ! (9 ∷ 10 ∷ []) $ free1 ! $ move ! (7 ∷ 8 ∷ []) $ free1 ! $ move ! (5 ∷ 6 ∷ []) $ free1 ! $ free0 ! $
-        keep ! (2 ∷ 3 ∷ 4 ∷ []) $ by ! (exits (ws .0) v r w (ws .1 .1 .0) (ws .1 .1 .1 .0) gd is e lcells lsaved)))))))))))))))))))))))))
+        rewrite ! 1 (λ (u : Val). ‵ (fat fullShare T′.mir l₆ 0 u)) (ap only (LL.tells T.the-type T′.the-laws (ws .0) (v ∷ []) gd)) refl $
+        -- [what the context owns; _6; the result; Toks; the last lists; _15 (7); …; what frees _6 (25); …; _0 (36); …]
+        assigns ! (of-opd ! (load ! (from ! (stop !)) (look ! 1 refl))) (from ! (stop !)) (init ! 7 refl (t-typed (ws .0) (t-is (ws .0) v gd))) $
+        assigns ! (agg ! (and-then ! (load ! (from ! (stop !)) (look ! 7 refl)) (and-then ! (load ! (from ! (stop !)) (look ! 23 refl)) (no-more !)))) (from ! (stop !)) (init ! 36 refl (LL.lawful S.the-type S′.the-laws 𝓤 H A W .typed (record { context = ws .0; answer = r }) _ (s-is (ws .0) v r w gd is) .0)) $
+        returns ! (look ! 36 refl) $ forget ! 1 refl $ forget ! 7 refl $ forget ! 9 refl $ forget ! 11 refl $ forget ! 13 refl $ forget ! 15 refl $ forget ! 17 refl $ forget ! 19 refl $ forget ! 21 refl $ forget ! 23 refl $ forget ! 26 refl $ forget ! 28 refl $ forget ! 30 refl $ forget ! 32 refl $ forget ! 34 refl $ forget ! 36 refl $
+        move ! (36 ∷ 37 ∷ []) $ free1 ! $ move ! (34 ∷ 35 ∷ []) $ free1 ! $ move ! (32 ∷ 33 ∷ []) $ free1 ! $ move ! (30 ∷ 31 ∷ []) $ free1 ! $ move ! (28 ∷ 29 ∷ []) $ free1 ! $ move ! (26 ∷ 27 ∷ []) $ free1 ! $ move ! (1 ∷ 25 ∷ []) $ free1 ! $ move ! (22 ∷ 23 ∷ []) $ free1 ! $ move ! (20 ∷ 21 ∷ []) $ free1 ! $ move ! (18 ∷ 19 ∷ []) $ free1 ! $ move ! (16 ∷ 17 ∷ []) $ free1 ! $ move ! (14 ∷ 15 ∷ []) $ free1 ! $ move ! (12 ∷ 13 ∷ []) $ free1 ! $ move ! (10 ∷ 11 ∷ []) $ free1 ! $ move ! (8 ∷ 9 ∷ []) $ free1 ! $ move ! (6 ∷ 7 ∷ []) $ free1 ! $ free0 ! $
+        keep ! (2 ∷ 3 ∷ 4 ∷ 5 ∷ []) $ by ! (exits (ws .0) v r w (ws .1 .1 .0) (ws .1 .1 .1 .0) (ws .1 .1 .1 .1 .0) gd is e lcells lsaved lentities)))))))))))))))))))))))))))))
 
 module _ {M : Type 1} (𝓤 : URA M) (H : Heap 𝓤) (A : Atoms 𝓤) (W : Given 𝓤 H A) (mem : Memory → SProp 𝓤) (run : Routine → Fun 𝓤) where
   own-walks : (C : Calls 𝓤 H) (Λ : Loops 𝓤 H) → FmC 𝓤 H (W .laws) C → Triple 𝓤 (C #callee) (Callee 𝓤 H A mem run) → Walks 𝓤 H A own.ended stayed (WpFn 𝓤 H C Λ code.function) (own.clauses 𝓤 H A mem run)
-  own-walks C Λ fm known = walked 𝓤 H A own.ended stayed (own.clauses 𝓤 H A mem run) (WpFn 𝓤 H C Λ code.function) (λ κs. (t-vals, (slice-vals, (slice-vals, (slice-vals, tt)))))
-      (λ κs. (LL.tells T.the-type T′.the-laws, (shr-slice-tells (named 0) (κs .0) u8, (mut-slice-tells (named 1) (κs .1 .0) u32, (mut-slice-tells (named 2) (κs .1 .1 .0) u32, tt)))))
-      (λ κs qs bounds a g are. via 𝓤 _ (fst∗ 𝓤 _ (emp 𝓤)) (walk 𝓤 H A W mem run (κs .0) (κs .1 .0) (κs .1 .1 .0) (qs .0) (qs .1 .0) (qs .1 .1 .0)
-      (a .0) (a .1 .0) (a .1 .1 .0) (a .1 .1 .1 .0) C Λ fm known (are .0) (are .1 .0) (are .1 .1 .0) (are .1 .1 .1 .0)))
+  own-walks C Λ fm known = walked 𝓤 H A own.ended stayed (own.clauses 𝓤 H A mem run) (WpFn 𝓤 H C Λ code.function) (λ κs. (t-vals, (slice-vals, (slice-vals, (slice-vals, (slice-vals, tt))))))
+      (λ κs. (LL.tells T.the-type T′.the-laws, (shr-slice-tells (named 0) (κs .0) u8, (mut-slice-tells (named 1) (κs .1 .0) u32, (mut-slice-tells (named 2) (κs .1 .1 .0) u32, (mut-slice-tells (named 3) (κs .1 .1 .1 .0) u32, tt))))))
+      (λ κs qs bounds a g are. via 𝓤 _ (fst∗ 𝓤 _ (emp 𝓤)) (walk 𝓤 H A W mem run (κs .0) (κs .1 .0) (κs .1 .1 .0) (κs .1 .1 .1 .0) (qs .0) (qs .1 .0) (qs .1 .1 .0) (qs .1 .1 .1 .0)
+      (a .0) (a .1 .0) (a .1 .1 .0) (a .1 .1 .1 .0) (a .1 .1 .1 .1 .0) C Λ fm known (are .0) (are .1 .0) (are .1 .1 .0) (are .1 .1 .1 .0) (are .1 .1 .1 .1 .0)))
 
-  all-go : AllGo 𝓤 H A W 3 (own.signature .params) (own.ended .kept) stayed
-  all-go = (goes-dropped 𝓤 H A W 3 (plain (λ _. T.the-row)) yes (λ κs x f. refl), (goes-dropped 𝓤 H A W 3 (shrSliceOf (0 ∷ []) tt (plain (λ _. u8))) yes (λ κs x f. refl), (goes-gave-slice 𝓤 H A W 3 1 tt (plain (λ _. u32)), (goes-gave-slice 𝓤 H A W 3 2 tt (plain (λ _. u32)), tt))))
+  all-go : AllGo 𝓤 H A W 4 (own.signature .params) (own.ended .kept) stayed
+  all-go = (goes-dropped 𝓤 H A W 4 (plain (λ _. T.the-row)) yes (λ κs x f. refl), (goes-dropped 𝓤 H A W 4 (shrSliceOf (0 ∷ []) tt (plain (λ _. u8))) yes (λ κs x f. refl), (goes-gave-slice 𝓤 H A W 4 1 tt (plain (λ _. u32)), (goes-gave-slice 𝓤 H A W 4 2 tt (plain (λ _. u32)), (goes-gave-slice 𝓤 H A W 4 3 tt (plain (λ _. u32)), tt)))))
 
 own-meets : {M : Type 1} (𝓤 : URA M) (H : Heap 𝓤) (A : Atoms 𝓤) → Given 𝓤 H A → (mem : Memory → SProp 𝓤) (run : Routine → Fun 𝓤) (𝓣 : Tables 𝓤 H) → Triple 𝓤 (𝓣 .C #callee) (Callee 𝓤 H A mem run)
     → Meets 𝓤 H A own.signature (WpFn 𝓤 H (𝓣 .C) (𝓣 .Λ) code.function) (own.spec 𝓤 H A mem run)

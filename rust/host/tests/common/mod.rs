@@ -59,18 +59,30 @@ const FLOATS: [u32; 10] = [
     1,
 ];
 
-/// Floats at 28 to 39, function numbers at 40 to 43, small numbers at 44 to 47, locals from 48 on.
+/// Places of fields at and near the ends of an entity.
+const PLACES: [u32; 8] = [0, 1, 50, 101, 102, 103, 104, 105];
+
+/// Floats at 28 to 35, places of fields at 36 to 39, function numbers at 40 to 43, small numbers, which name entities too, at 44 to
+/// 47, locals from 48 on, among them pointers at 58 and 59.
 pub fn random_assembly(chance: &mut Chance) -> Assembly {
     let count = chance.between(3, 40);
     let mut assembly = Assembly {
         cell_count: chance.pick(&[36, 60, 64, 64, 64, 70]),
         ..Assembly::default()
     };
-    for cell in 28..40 {
+    for cell in 28..36 {
         assembly.cells.push((cell, chance.pick(&FLOATS)));
+    }
+    for cell in 36..40 {
+        assembly.cells.push((cell, chance.pick(&PLACES)));
     }
     for cell in 40..44 {
         assembly.cells.push((cell, chance.below(8) as u32));
+    }
+    for cell in 58..60 {
+        let entity = chance.below(3) as u32;
+        let pointer = 4 * (105 * entity + chance.pick(&PLACES));
+        assembly.cells.push((cell, pointer));
     }
     for cell in 44..48 {
         assembly.cells.push((cell, chance.below(3) as u32));
@@ -84,6 +96,11 @@ pub fn random_assembly(chance: &mut Chance) -> Assembly {
         assembly
             .definitions
             .push((kind, 28 + chance.below(30) as u16, 0));
+    }
+    for _ in 0..chance.below(4) {
+        let kind = chance.pick(&[0, 1, 2, 2, 2, 2, 3, 4, 6]);
+        let place = chance.pick(&PLACES) as u16;
+        assembly.fields.push((kind, place, 0));
     }
     for _ in 0..count {
         let statement = random_statement(chance);
@@ -120,10 +137,14 @@ fn random_function(chance: &mut Chance, statements: i64) -> Function {
 }
 
 fn random_statement(chance: &mut Chance) -> [i16; 4] {
+    if chance.one_in(5) {
+        return random_field_statement(chance);
+    }
     let opcode = match chance.below(10) {
         0 => chance.between(51, 59),
         1 => chance.pick(&[0, 43]),
         2 => chance.pick(&[49, 50, 61]),
+        3..=5 => 60,
         _ => chance.between(0, 65),
     };
     let mut place = || match chance.below(30) {
@@ -138,6 +159,22 @@ fn random_statement(chance: &mut Chance) -> [i16; 4] {
         31..=36 => [opcode as i16, a, b, 0],
         44..=48 => [opcode as i16, a, 0, c],
         _ => [opcode as i16, a, b, c],
+    }
+}
+
+/// A statement over an entity's field. Pointers are at 58 and 59.
+fn random_field_statement(chance: &mut Chance) -> [i16; 4] {
+    let entity = chance.between(44, 47) as i16;
+    let place = chance.between(36, 39) as i16;
+    let pointer = chance.between(58, 59) as i16;
+    let value = chance.pick(&[28, 30, 33, 44, 48, 50, 53]);
+    match chance.below(4) {
+        0 => [30, entity, place, pointer],
+        1 => [chance.between(24, 29) as i16, entity, place, value],
+        _ => {
+            let third = i16::from(chance.one_in(20));
+            [chance.between(37, 42) as i16, value, pointer, third]
+        }
     }
 }
 
@@ -167,7 +204,7 @@ pub fn random_file(chance: &mut Chance) -> Vec<u8> {
     file
 }
 
-/// More cells and a longer saved store than are asked for, or now and then too few; a number in each.
+/// More cells, a longer saved store and more entity cells than are asked for, or now and then too few; a number in each.
 pub fn random_machine(chance: &mut Chance) -> Machine {
     let file = random_file(chance);
     let cells = if chance.one_in(12) { 63 } else { 80 };
@@ -177,9 +214,15 @@ pub fn random_machine(chance: &mut Chance) -> Machine {
         SAVED_STORE + 8
     };
     let numbered = |first: u32, count: usize| (0..count as u32).map(|i| first + i).collect();
-    Machine::new(
+    let entities = if chance.one_in(8) {
+        chance.pick(&[0, 104, 210, 314])
+    } else {
+        320
+    };
+    Machine::with_entities(
         file,
         numbered(0xc000_0000, cells),
         numbered(0xa000_0000, saved),
+        numbered(0x4000_0000, entities),
     )
 }

@@ -11,14 +11,17 @@ pub enum Switch {
     NotV = 4,
     Position = 8,
     NaN = 16,
+    /// Opcodes 28 and 41, which panic in the Rust.
+    Field = 32,
 }
 
-pub const ALL: [Switch; 5] = [
+pub const ALL: [Switch; 6] = [
     Switch::Arguments,
     Switch::Return,
     Switch::NotV,
     Switch::Position,
     Switch::NaN,
+    Switch::Field,
 ];
 
 thread_local! {

@@ -2,6 +2,7 @@
 //! the programs are run by.)
 
 use crate::compare::{Call, Rules, Verdict};
+use crate::entities::Lent;
 use crate::generate::{self, Case, Kind};
 use crate::oracle::{self, End, Level, Variant};
 use crate::ours::{Answer, Left, Ours};
@@ -59,6 +60,7 @@ struct Doing<'a> {
     entered: Option<usize>,
     statement: Option<[i16; 4]>,
     rust: &'a dyn Fn(&mut dyn Level) -> Result<(), String>,
+    entities: usize,
     /// Op functions do not move the position, and a statement does; then it isn't compared.
     position: bool,
 }
@@ -70,7 +72,13 @@ impl Doing<'_> {
         if !self.position {
             seen.observed.pc = left.position as usize;
         }
-        let call = Call { view: View(self.bytes), entered: self.entered, entry_only: self.entered.is_some(), statement: self.statement };
+        let call = Call {
+            view: View(self.bytes),
+            entered: self.entered,
+            entry_only: self.entered.is_some(),
+            statement: self.statement,
+            entities: self.entities,
+        };
         let verdict = runs::verdict(&call, rules, &seen, left);
         (verdict, seen.end == End::Done)
     }
@@ -78,7 +86,8 @@ impl Doing<'_> {
 
 /// A load on its own.
 fn load(totals: &mut Totals, r: &mut Random, number: u64) {
-    let case = Case { kind: Kind::Damaged, bytes: generate::damaged(r), calls: Vec::new() };
+    let entities = generate::entities(r);
+    let case = Case { kind: Kind::Damaged, bytes: generate::damaged(r, entities), calls: Vec::new(), entities, content: number };
     if runs::reserves_too_much(&case.bytes) {
         (totals.unchanged.left_out).add("the Rust would reserve memory for over 1,048,576 records");
         return;
@@ -97,6 +106,7 @@ fn load(totals: &mut Totals, r: &mut Random, number: u64) {
 /// A statement on its own, half of them within function 1, and what this machine did with it.
 struct Single {
     bytes: Vec<u8>,
+    lent: Lent,
     statement: [i16; 4],
     entered: bool,
     left: Left,
@@ -104,19 +114,21 @@ struct Single {
 
 impl Single {
     fn new(r: &mut Random) -> Single {
-        let program = generate::one_statement(r);
+        let entities = generate::entities(r);
+        let program = generate::one_statement(r, entities);
         let bytes = program.bytes();
+        let lent = Lent::random(&bytes, entities, r.next());
         let entered = r.percent(50);
-        let mut ours = Ours::load(&bytes).expect("a whole file");
+        let mut ours = Ours::load(&bytes, &lent).expect("a whole file");
         if entered {
             ours.enter(1);
         }
         let left = ours.statement();
-        Single { bytes, statement: program.statements[0], entered, left }
+        Single { bytes, lent, statement: program.statements[0], entered, left }
     }
 
     fn verdict(&self, variant: Variant, rules: Rules) -> Verdict {
-        let mut level = oracle::load_whole(variant, &self.bytes);
+        let mut level = oracle::load_whole(variant, &self.bytes, &self.lent);
         if self.entered {
             level.enter_function(1).expect("function 1");
         }
@@ -125,6 +137,7 @@ impl Single {
             entered: None,
             statement: Some(self.statement),
             rust: &|level| level.op(self.statement),
+            entities: self.lent.number,
             position: self.statement[0] == 43,
         };
         doing.verdict(&mut *level, rules, &self.left).0
@@ -188,8 +201,9 @@ fn entry_list(r: &mut Random, program: &Program) -> Vec<Option<usize>> {
 
 fn list_of_entries(tally: &mut Tally, program: &Program, list: &[Option<usize>], variant: Variant, number: u64) {
     let bytes = program.bytes();
-    let mut ours = Ours::load(&bytes).expect("a whole file");
-    let mut level = oracle::load_whole(variant, &bytes);
+    let lent = Lent::default();
+    let mut ours = Ours::load(&bytes, &lent).expect("a whole file");
+    let mut level = oracle::load_whole(variant, &bytes, &lent);
     let mut depth = 0;
     for &what in list {
         if what.is_none() && depth == 0 {
@@ -208,6 +222,7 @@ fn list_of_entries(tally: &mut Tally, program: &Program, list: &[Option<usize>],
                 Some(function) => level.enter_function(function),
                 None => level.leave_function(),
             },
+            entities: 0,
             position: true,
         };
         let rules = if variant == Variant::Changed { RULES } else { UNCHANGED };

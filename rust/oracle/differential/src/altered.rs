@@ -10,7 +10,18 @@ use crate::report::{grouped, Counts};
 use crate::runs;
 
 /// What is altered, by name.
-const ALTERATIONS: [&str; 7] = ["answer", "count of statements", "position", "function", "depth", "a cell", "a cell past the file's count"];
+const ALTERATIONS: [&str; 8] = [
+    "answer",
+    "count of statements",
+    "position",
+    "function",
+    "depth",
+    "a cell",
+    "an entity cell",
+    "a cell past the file's count, or past the entities",
+];
+
+const ENTITY_CELL: usize = 6;
 
 fn alter(r: &mut Random, which: usize, left: &mut Left) {
     match which {
@@ -25,6 +36,10 @@ fn alter(r: &mut Random, which: usize, left: &mut Left) {
         5 => {
             let cell = r.below(left.cells.len());
             left.cells[cell] ^= 1 << r.below(32);
+        }
+        ENTITY_CELL => {
+            let cell = r.below(left.entities.len());
+            left.entities[cell] ^= 1 << r.below(32);
         }
         _ => left.rest_untouched = false,
     }
@@ -45,8 +60,11 @@ pub fn run(seed: u64, count: u64) -> bool {
             continue;
         }
         let mut r = Random::new(seed ^ 0xa17e, number);
-        let which = r.below(ALTERATIONS.len());
         let last = performed.calls.len() - 1;
+        let which = match r.below(ALTERATIONS.len()) {
+            ENTITY_CELL if performed.calls[last].entities.is_empty() => ENTITY_CELL + 1,
+            which => which,
+        };
         alter(&mut r, which, &mut performed.calls[last]);
         match runs::changed(&case, &performed).last() {
             Some(Verdict::Differs(_)) => found.add(ALTERATIONS[which]),

@@ -6,11 +6,15 @@ use std::sync::LazyLock;
 
 /// The refusal that an error's text stands for.
 pub fn number_of(error: &str) -> Option<u32> {
-    const TEXTS: [(&str, u32); 18] = [
+    const TEXTS: [(&str, u32); 22] = [
+        ("Entity error: Invalid address", 31),
+        ("Invalid entity ID", 32),
+        ("No entity at list entry", 32),
         ("Invalid address", 15),
         ("type check failed", 16),
         ("Negative entity ID", 17),
         ("Nonzero arg", 18),
+        (": nonzero arg3", 18),
         ("negative string offset", 15),
         ("No function with ID", 20),
         ("Call stack overflow", 22),
@@ -51,6 +55,11 @@ pub enum Class {
     EmptyLocalStack,
     Overflow,
     Runaway,
+    AbsentEntity,
+    FieldCellEqualToCount,
+    PointerMade,
+    PointerRead,
+    FieldOpcode,
     HandedOver,
     Unknown,
 }
@@ -59,7 +68,9 @@ impl Class {
     pub fn of(panic: &Panic) -> Class {
         let m = panic.message.as_str();
         let has = |text: &str| m.contains(text);
-        if has("handed over") || has("not implemented") || has("stub: ") {
+        if has("load_fld not implemented") || has("storep_fld not implemented") {
+            Class::FieldOpcode
+        } else if has("handed over") || has("not implemented") || has("stub: ") {
             Class::HandedOver
         } else if has("runaway program") {
             Class::Runaway
@@ -104,6 +115,14 @@ impl Class {
             }
         } else if has("index out of bounds") && at("progs/globals.rs") {
             Class::CellEqualToCount
+        } else if has("no such entity") || (has("index out of bounds") && at("world/mod.rs")) {
+            Class::AbsentEntity
+        } else if has("index out of bounds") && at("world/entity.rs") {
+            Class::FieldCellEqualToCount
+        } else if has("ent_fld_addr_to_i32: total_addr overflow") {
+            Class::PointerMade
+        } else if has("ent_fld_addr_from_i32: ") {
+            Class::PointerRead
         } else if has("called `Option::unwrap()` on a `None` value") {
             if LOAD_LINES.contains(&line_of(&panic.place)) {
                 Class::TypeOver7
@@ -129,18 +148,28 @@ impl Class {
             Class::CellEqualToCount => "a cell number equal to the count",
             Class::ArgumentCount => "argument count outside 0 to 8",
             Class::FunctionZero => "Call of function 0",
-            Class::NegativeString => "StoreS of a negative number",
-            Class::NegativeFunction => "StoreFnc of a negative number",
+            Class::NegativeString => "a negative string number is stored",
+            Class::NegativeFunction => "a negative function number is stored",
             Class::EntryOfBuiltin => "host entry of a builtin",
             Class::EmptyLocalStack => "leaving with too few saved cells",
             Class::Overflow => "a sum over the type's range (debug build)",
             Class::Runaway => "the 100,000th statement",
+            Class::AbsentEntity => "an entity that isn't there is read, or written by number 600",
+            Class::FieldCellEqualToCount => "a field cell equal to the cells per entity",
+            Class::PointerMade => "a pointer to be made is over 2,147,483,647",
+            Class::PointerRead => "a pointer is negative or no multiple of 4",
+            Class::FieldOpcode => "LoadFld or StorePFld",
             Class::HandedOver => "handed over to the host",
             Class::Unknown => "UNKNOWN",
         }
     }
 
-    /// Whether this machine may answer so where the Rust panics so.
+    /// Whether this machine completes the statement at which the Rust panics so in a run.
+    pub fn goes_on(self) -> bool {
+        matches!(self, Class::NameWithoutZero | Class::NameNotAtCharacter | Class::NegativeFunction | Class::FieldOpcode)
+    }
+
+    /// Whether this machine may answer so where the Rust panics so. `compare` looks at the statement as well.
     pub fn allows(self, answer: Answer) -> bool {
         let refused = |numbers: &[u32]| matches!(answer, Answer::Refused(n) if numbers.contains(&n));
         match self {
@@ -148,8 +177,8 @@ impl Class {
             Class::CheckNumber => refused(&[3, 1]),
             Class::LumpEnds | Class::Capacity => refused(&[4, 1]),
             Class::TypeOver7 => refused(&[8, 4, 1]),
-            // Strings are bytes here, and StoreFnc moves bits: whatever comes after gives the answer.
-            Class::NotUtf8 | Class::NameWithoutZero | Class::NameNotAtCharacter | Class::NegativeFunction => true,
+            // Strings are bytes here, functions are moved as bits, and fields are moved: whatever comes after gives the answer.
+            Class::NotUtf8 | Class::NameWithoutZero | Class::NameNotAtCharacter | Class::NegativeFunction | Class::FieldOpcode => true,
             Class::NoStatement => refused(&[14]),
             // An entry of the Rust stops at a cell; here a wrong count of arguments or locals is found before.
             Class::CellEqualToCount => refused(&[15, 23, 24]),
@@ -158,8 +187,13 @@ impl Class {
             Class::NegativeString => refused(&[17]),
             Class::EntryOfBuiltin => refused(&[21]),
             Class::EmptyLocalStack => refused(&[25]),
-            Class::Overflow => refused(&[1, 4, 5, 15, 16, 23]),
+            Class::Overflow => refused(&[1, 4, 5, 15, 16, 23, 31]),
             Class::Runaway => answer == Answer::Spent,
+            Class::AbsentEntity => refused(&[30, 32]),
+            Class::FieldCellEqualToCount => refused(&[31]),
+            // The destination, the entity and the field are checked before the pointer is made.
+            Class::PointerMade => refused(&[15, 16, 30, 31, 32]),
+            Class::PointerRead => refused(&[32]),
             Class::HandedOver => matches!(answer, Answer::Builtin(_) | Answer::Opcode(_)),
             Class::Unknown => false,
         }

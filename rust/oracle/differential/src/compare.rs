@@ -1,6 +1,7 @@
 //! The rules of the comparison: one call of the Rust beside the same call of this machine.
 
 use crate::classes::{number_of, Class};
+use crate::entities;
 use crate::oracle::{End, Seen};
 use crate::ours::{Answer, Left};
 use crate::program::{Function, Lump, View};
@@ -47,6 +48,8 @@ pub struct Call<'a> {
     pub entry_only: bool,
     /// The statement, where it isn't the one at our position.
     pub statement: Option<[i16; 4]>,
+    /// How many entities there are.
+    pub entities: usize,
 }
 
 pub fn compare(call: &Call, rules: Rules, rust: &Seen, ours: &Left) -> Verdict {
@@ -60,6 +63,9 @@ pub fn compare(call: &Call, rules: Rules, rust: &Seen, ours: &Left) -> Verdict {
         }
         return builtin(rules, rust, ours);
     }
+    if matches!(ours.answer, Answer::Opcode(number) if number != 60) {
+        return differs(format!("{}, which the machine does itself", ours.answer));
+    }
     match &rust.end {
         End::Done => done(rules, rust, ours),
         End::Error(text) => error(call, rules, rust, ours, text),
@@ -68,10 +74,7 @@ pub fn compare(call: &Call, rules: Rules, rust: &Seen, ours: &Left) -> Verdict {
             match class {
                 Class::HandedOver => handed_over(rules, rust.fetched, ours),
                 Class::Runaway => runaway(rules, rust, ours),
-                _ if class.allows(ours.answer) => left_out(class, rules, rust, ours),
-                Class::CellEqualToCount if ours.answer == Answer::Refused(17) && Failing::of(call, ours).is_store_s() => {
-                    left_out(class, rules, rust, ours)
-                }
+                _ if allowed(class, call, rules, rust, ours) => left_out(class, rules, rust, ours),
                 _ => differs(format!("{} where the Rust panics: {:?}", ours.answer, panic)),
             }
         }
@@ -82,7 +85,30 @@ fn differs(text: String) -> Verdict {
     Verdict::Differs(text)
 }
 
+/// Whether this machine may answer so where the Rust panics so, at this statement.
+fn allowed(class: Class, call: &Call, rules: Rules, rust: &Seen, ours: &Left) -> bool {
+    let failing = Failing::of(call, ours);
+    let refused = |numbers: &[u32]| matches!(ours.answer, Answer::Refused(n) if numbers.contains(&n));
+    match class {
+        Class::CellEqualToCount if failing.is_store_s() => refused(&[15, 17]),
+        // A load's destination is checked first here; the Rust doesn't come to it.
+        Class::AbsentEntity => refused(if failing.is_load() { &[15, 16, 30] } else { &[32] }),
+        Class::FieldCellEqualToCount => refused(if failing.is_load() { &[15, 16, 31] } else { &[31] }),
+        // The Rust has checked everything before, so it must be completed here.
+        Class::NegativeFunction if call.statement.is_some() => ours.answer == Answer::Completed,
+        Class::NegativeFunction => !rules.counted || ours.count >= rust.fetched,
+        _ => class.allows(ours.answer),
+    }
+}
+
 fn builtin(rules: Rules, rust: &Seen, ours: &Left) -> Verdict {
+    // The Rust panics at the statement that is handed over here, or at an earlier one that is completed here.
+    if let End::Panic(panic) = &rust.end {
+        let class = Class::of(panic);
+        if class.goes_on() && rust.fetched <= ours.count + 1 {
+            return Verdict::LeftOut(class);
+        }
+    }
     if rules.counted && !rust.builtins_at.contains(&(ours.count + 1)) {
         return differs(format!("{} after {} statements, the Rust calls builtins at {:?}", ours.answer, ours.count, rust.builtins_at));
     }
@@ -101,12 +127,11 @@ fn handed_over(rules: Rules, fetched: u64, ours: &Left) -> Verdict {
 
 /// A panic: the same number of statements was completed, where the Rust got that far and this machine stopped there.
 fn left_out(class: Class, rules: Rules, rust: &Seen, ours: &Left) -> Verdict {
-    let goes_on = matches!(class, Class::NameWithoutZero | Class::NameNotAtCharacter | Class::NegativeFunction);
     let completed = match class {
         Class::NoStatement => rust.fetched,
         _ => rust.fetched.saturating_sub(1),
     };
-    if rules.counted && !goes_on && completed != ours.count {
+    if rules.counted && !class.goes_on() && completed != ours.count {
         return differs(format!("{} statements, the Rust {} and a panic", ours.count, completed));
     }
     Verdict::LeftOut(class)
@@ -116,7 +141,7 @@ fn runaway(rules: Rules, rust: &Seen, ours: &Left) -> Verdict {
     if ours.answer != Answer::Spent || ours.count != 99_999 {
         return differs(format!("{} after {} where the Rust runs away", ours.answer, ours.count));
     }
-    match state(rules, &rust.observed, ours, false).or_else(|| cells(rules, rust, ours, &[])) {
+    match state(rules, &rust.observed, ours, false).or_else(|| cells(rules, rust, ours, &Traces::default())) {
         Some(text) => differs(text),
         None => Verdict::LeftOut(Class::Runaway),
     }
@@ -131,7 +156,7 @@ fn done(rules: Rules, rust: &Seen, ours: &Left) -> Verdict {
     }
     let mut rules = rules;
     rules.entries_ended += rules.ended_adds as i64;
-    match state(rules, &rust.observed, ours, false).or_else(|| cells(rules, rust, ours, &[])) {
+    match state(rules, &rust.observed, ours, false).or_else(|| cells(rules, rust, ours, &Traces::default())) {
         Some(text) => differs(text),
         None => Verdict::Same { traces: false },
     }
@@ -148,7 +173,7 @@ fn error(call: &Call, rules: Rules, rust: &Seen, ours: &Left, text: &str) -> Ver
         return differs(format!("{} statements, the Rust {}", ours.count, rust.fetched.saturating_sub(1)));
     }
     let failing = Failing::of(call, ours);
-    let traces = failing.cells(rules, rusts);
+    let traces = failing.traces(call, rules, rusts, ours);
     let found = state(rules, &rust.observed, ours, failing.is_entry()).or_else(|| cells(rules, rust, ours, &traces));
     if let Some(text) = found {
         return differs(text);
@@ -161,21 +186,30 @@ fn error(call: &Call, rules: Rules, rust: &Seen, ours: &Left, text: &str) -> Ver
             (15 | 16, 17) if failing.is_store_s() => Verdict::OtherNumber(rusts, 17),
             // A negative local count and the saved cells add up to a small number in the release build.
             (15, 23) if failing.has_negative_locals() => Verdict::OtherNumber(15, 23),
+            // A load's destination is checked first here; the Rust meets what is wrong with the field before it.
+            (16 | 17 | 31, 15 | 16) if failing.is_load() && text.starts_with("Entity error") => Verdict::OtherNumber(rusts, number),
             _ => differs(format!("refused {}, the Rust's error stands for {}", number, rusts)),
         };
     }
     let strays = rust.observed.frames.len() != ours.depth || rust.observed.local_stack.len() != ours.saved.len();
-    Verdict::Same { traces: strays || cells(rules, rust, ours, &[]).is_some() }
+    Verdict::Same { traces: strays || cells(rules, rust, ours, &Traces::default()).is_some() }
+}
+
+/// The cells and entity cells that the Rust may have written before it came to an error; they are excepted.
+#[derive(Default)]
+struct Traces {
+    cells: Vec<usize>,
+    entities: Vec<usize>,
 }
 
 /// What failed where the Rust ended with an error.
-enum Failing {
+pub enum Failing {
     Entry(Option<Function>),
     Statement([i16; 4]),
 }
 
 impl Failing {
-    fn of(call: &Call, ours: &Left) -> Failing {
+    pub fn of(call: &Call, ours: &Left) -> Failing {
         if let (Some(function), true) = (call.entered, call.entry_only || ours.depth == 0) {
             return Failing::Entry(call.view.function(function));
         }
@@ -198,11 +232,23 @@ impl Failing {
         matches!(self, Failing::Statement([33, ..]))
     }
 
+    /// Whether it is one of the opcodes that read a field.
+    fn is_load(&self) -> bool {
+        matches!(self, Failing::Statement([24..=29, ..]))
+    }
+
     fn has_negative_locals(&self) -> bool {
         matches!(self, Failing::Entry(Some(f)) if f.locals < 0)
     }
 
-    /// The cells that the Rust may have written before it came to the error.
+    fn traces(&self, call: &Call, rules: Rules, rusts: u32, ours: &Left) -> Traces {
+        let entities = match *self {
+            Failing::Statement([38, _, b, _]) => entities::written(call, ours, b),
+            _ => Vec::new(),
+        };
+        Traces { cells: self.cells(rules, rusts), entities }
+    }
+
     fn cells(&self, rules: Rules, rusts: u32) -> Vec<usize> {
         let three = |first: i16| (0..3).map(|i| first.wrapping_add(i) as usize).collect();
         match *self {
@@ -211,7 +257,7 @@ impl Failing {
                 let cells = if rules.all_arguments { f.components() } else { 1 };
                 (0..cells).map(|i| (f.local as usize).wrapping_add(i) as i16 as usize).collect()
             }
-            Failing::Statement([3 | 4 | 7 | 9 | 45, _, _, c]) => three(c),
+            Failing::Statement([3 | 4 | 7 | 9 | 25 | 45, _, _, c]) => three(c),
             Failing::Statement([32, _, b, _]) => three(b),
             Failing::Statement([0 | 43, ..]) => three(1),
             _ => Vec::new(),
@@ -252,14 +298,22 @@ fn same_cell(rules: Rules, a: u32, b: u32) -> bool {
     a == b || (rules.nan_as_nan && f32::from_bits(a).is_nan() && f32::from_bits(b).is_nan())
 }
 
-fn cells(rules: Rules, rust: &Seen, ours: &Left, excepted: &[usize]) -> Option<String> {
-    if rust.cells.len() != ours.cells.len() {
-        return Some(format!("{} cells, the Rust {}", ours.cells.len(), rust.cells.len()));
+/// The first difference of a cell or an entity cell.
+fn cells(rules: Rules, rust: &Seen, ours: &Left, excepted: &Traces) -> Option<String> {
+    let found = first_difference(rules, &rust.cells, &ours.cells, &excepted.cells);
+    if let Some(text) = found {
+        return Some(format!("cell {}", text));
     }
-    (0..ours.cells.len())
-        .filter(|i| !excepted.contains(i))
-        .find(|&i| !same_cell(rules, rust.cells[i], ours.cells[i]))
-        .map(|i| format!("cell {} {:08x}, the Rust's {:08x}", i, ours.cells[i], rust.cells[i]))
+    first_difference(rules, &rust.entities, &ours.entities, &excepted.entities).map(|text| format!("entity cell {}", text))
+}
+
+fn first_difference(rules: Rules, rust: &[u32], ours: &[u32], excepted: &[usize]) -> Option<String> {
+    if rust.len() != ours.len() {
+        return Some(format!("count {}, the Rust's {}", ours.len(), rust.len()));
+    }
+    (0..ours.len())
+        .find(|&i| !same_cell(rules, rust[i], ours[i]) && !excepted.contains(&i))
+        .map(|i| format!("{} {:08x}, the Rust's {:08x}", i, ours[i], rust[i]))
 }
 
 /// A load of both.

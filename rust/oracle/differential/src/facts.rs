@@ -2,6 +2,7 @@
 //! Rust does is one of these; a line that comes out otherwise fails.
 
 use crate::classes::Class;
+use crate::entities::Lent;
 use crate::oracle::{self, End, Variant};
 use crate::ours::{Answer, Ours};
 use crate::program::{Function, Program, View};
@@ -16,10 +17,41 @@ struct Fact {
     here: &'static str,
     /// A cell that is printed, with what it must be in the Rust and here.
     cell: Option<(usize, u32, u32)>,
+    /// How many entities there are, of zeros.
+    entities: usize,
+    /// An entity cell that is printed, as above.
+    entity_cell: Option<(usize, u32, u32)>,
+}
+
+impl Fact {
+    /// With an entity cell that must be so in the Rust, and so here.
+    fn and_entity_cell(mut self, cell: usize, rust: u32, here: u32) -> Fact {
+        self.entity_cell = Some((cell, rust, here));
+        self
+    }
+
+    fn with_entities(mut self, entities: usize) -> Fact {
+        self.entities = entities;
+        self
+    }
 }
 
 pub fn run() -> bool {
-    let lists = [named(), rust_decides(), overflows(), at_once(), by_design(), panics(), floats(), texts(), loads()];
+    let lists = [
+        named(),
+        rust_decides(),
+        overflows(),
+        at_once(),
+        by_design(),
+        panics(),
+        floats(),
+        texts(),
+        loads(),
+        fields(),
+        pointers(),
+        negative_in_fields(),
+        cut_to_16_bits(),
+    ];
     let mut good = true;
     for fact in lists.iter().flatten() {
         good &= check(fact);
@@ -39,7 +71,7 @@ fn program(statements: &[[i16; 4]], cells: &[(usize, u32)]) -> Program {
 }
 
 fn fact(name: &'static str, program: &Program, rust: &'static str, here: &'static str, cell: Option<(usize, u32, u32)>) -> Fact {
-    Fact { name, bytes: program.bytes(), calls: vec![1], rust, here, cell }
+    Fact { name, bytes: program.bytes(), calls: vec![1], rust, here, cell, entities: 2, entity_cell: None }
 }
 
 const DONE: [i16; 4] = [0; 4];
@@ -239,21 +271,21 @@ fn floats() -> Vec<Fact> {
         fact(
             "NaN read as a function: 0.0/0.0, then StoreFnc",
             &quotient(&[[36, 30, 31, 0]]),
-            "panics: StoreFnc of a negative number",
+            "panics: a negative function number is stored",
             "ended",
             None,
         ),
         fact(
             "StoreFnc of ffffffff",
             &program(&[[36, 28, 29, 0], DONE], &[(28, u32::MAX)]),
-            "panics: StoreFnc of a negative number",
+            "panics: a negative function number is stored",
             "ended",
             Some((29, 0, u32::MAX)),
         ),
         fact(
             "StoreS of ffffffff",
             &program(&[[33, 28, 29, 0], DONE], &[(28, u32::MAX)]),
-            "panics: StoreS of a negative number",
+            "panics: a negative string number is stored",
             "refused 17",
             None,
         ),
@@ -320,7 +352,7 @@ fn loads() -> Vec<Fact> {
         bytes[at..at + 4].copy_from_slice(&number.to_le_bytes());
         bytes
     };
-    let file = |name, bytes, rust, here| Fact { name, bytes, calls: vec![1], rust, here, cell: None };
+    let file = |name, bytes, rust, here| Fact { name, bytes, calls: vec![1], rust, here, cell: None, entities: 0, entity_cell: None };
     let mut cells = whole.clone();
     cells.cells.resize(32_769, 0);
     let mut long = whole.bytes();
@@ -347,6 +379,96 @@ fn loads() -> Vec<Fact> {
     ]
 }
 
+const NO_ENTITY: &str = "panics: an entity that isn't there is read, or written by number 600";
+const NO_FIELD: &str = "panics: a field cell equal to the cells per entity";
+const WRONG_TYPE: &str = "error Entity error: type check failed";
+
+/// Reading and writing fields: entity in cell 28, field in cell 29, pointer in cell 30, two entities of 105 cells.
+fn fields() -> Vec<Fact> {
+    let load = |opcode: i16, entity: u32, field: u32| program(&[[opcode, 28, 29, 31], DONE], &[(28, entity), (29, field)]);
+    let store = |opcode: i16, pointer: u32| program(&[[opcode, 31, 30, 0], DONE], &[(30, pointer), (31, ONE), (32, ONE), (33, ONE)]);
+    let defined = |mut program: Program, definitions: &[(u16, u16)]| {
+        program.fielddefs.extend(definitions.iter().map(|&(type_, cell)| (type_, cell, 0)));
+        program
+    };
+    let string = defined(program(&[[24, 28, 29, 65], DONE], &[(29, 3)]), &[(1, 3)]);
+    let third = program(&[[37, 31, 30, 1], DONE], &[]);
+    vec![
+        fact("fields: StorePF of 1.0 to entity 0, field 3", &store(37, 12), "ends", "ended", None).and_entity_cell(3, ONE, ONE),
+        fact("fields: StorePF with third operand 1", &third, "error storep_f: nonzero arg3", "refused 18", None),
+        fact("fields: LoadF of entity 2 of 2", &load(24, 2, 3), NO_ENTITY, "refused 30", None),
+        fact("fields: LoadF of entity 600", &load(24, 600, 3), NO_ENTITY, "refused 30", None),
+        fact("fields: LoadF without entities", &load(24, 0, 3), NO_ENTITY, "refused 30", None).with_entities(0),
+        fact("fields: LoadF of field 105", &load(24, 0, 105), NO_FIELD, "refused 31", None),
+        fact("fields: LoadF of field 106", &load(24, 0, 106), "error Entity error: Invalid address (106)", "refused 31", None),
+        fact("fields: LoadV of field 103", &load(25, 0, 103), NO_FIELD, "refused 31", None),
+        fact("fields: StorePV to field 103 of entity 0", &store(38, 412), NO_FIELD, "refused 31", None).and_entity_cell(104, ONE, 0),
+        fact("fields: LoadF of field 3, a string", &defined(load(24, 0, 3), &[(1, 3)]), WRONG_TYPE, "refused 16", None),
+        fact("fields: LoadF of field 3, void, then a float", &defined(load(24, 0, 3), &[(0, 3), (2, 3)]), "ends", "ended", None),
+        fact("fields: StorePV to field 3, cell 5 a string", &defined(store(38, 12), &[(1, 5)]), WRONG_TYPE, "refused 16", None)
+            .and_entity_cell(4, ONE, 0),
+        fact("fields: LoadF 28 29 65 of field 3, a string", &string, WRONG_TYPE, "refused 15", None),
+        fact("fields: LoadFld", &load(28, 0, 3), "panics: LoadFld or StorePFld", "ended", None),
+        fact("fields: StorePFld", &store(41, 12), "panics: LoadFld or StorePFld", "ended", None).and_entity_cell(3, 0, ONE),
+    ]
+}
+
+fn pointers() -> Vec<Fact> {
+    let address = |entity: u32, field: u32| program(&[[30, 28, 29, 30], DONE], &[(28, entity), (29, field)]);
+    let store = |pointer: u32| program(&[[37, 31, 30, 0], DONE], &[(30, pointer), (31, ONE)]);
+    let as_float = |mut program: Program| {
+        program.globaldefs.push((2, 30, 0));
+        program
+    };
+    const BAD: &str = "panics: a pointer is negative or no multiple of 4";
+    const OVER: &str = "panics: a pointer to be made is over 2,147,483,647";
+    vec![
+        fact("pointers: Address of entity 1, field 3", &address(1, 3), "ends", "ended", Some((30, 432, 432))),
+        fact("pointers: Address of entity 2 of 2", &address(2, 3), "ends", "refused 30", Some((30, 852, 0))),
+        fact("pointers: Address of field 105", &address(0, 105), "ends", "refused 31", Some((30, 420, 0))),
+        fact("pointers: Address of entity 2,147,483,647", &address(i32::MAX as u32, 3), OVER, "refused 30", None),
+        fact("pointers: Address of field 2,147,483,647", &address(0, i32::MAX as u32), OVER, "refused 31", None),
+        fact("pointers: Address to a cell that is a float", &as_float(address(1, 3)), "ends", "refused 16", Some((30, 432, 0))),
+        fact("pointers: StorePF by a cell that is a float", &as_float(store(12)), "ends", "refused 16", None).and_entity_cell(3, ONE, 0),
+        fact("pointers: StorePF to entity 2 of 2", &store(840), "error No entity at list entry 2", "refused 32", None),
+        fact("pointers: StorePF to entity 600", &store(252_000), NO_ENTITY, "refused 32", None),
+        fact("pointers: StorePF to entity 601", &store(252_420), "error Invalid entity ID (601)", "refused 32", None),
+        fact("pointers: StorePF without entities", &store(0), "error No entity at list entry 0", "refused 32", None).with_entities(0),
+        fact("pointers: StorePF by -4", &store(-4_i32 as u32), BAD, "refused 32", None),
+        fact("pointers: StorePF by 2", &store(2), BAD, "refused 32", None),
+    ]
+}
+
+/// Bits ffffffff are moved to field 3 of entity 0 as a float, and read as something else.
+fn negative_in_fields() -> Vec<Fact> {
+    let moved = |load: [i16; 4]| program(&[[37, 31, 30, 0], load, DONE], &[(29, 3), (30, 12), (31, u32::MAX)]);
+    let store = |opcode: i16| program(&[[opcode, 31, 30, 0], DONE], &[(30, 12), (31, u32::MAX)]);
+    let ends = Some((32, 0, u32::MAX));
+    const NEGATIVE: &str = "error Entity error: Negative entity ID (-1)";
+    const STRING: &str = "panics: a negative string number is stored";
+    const FUNCTION: &str = "panics: a negative function number is stored";
+    vec![
+        fact("negative: LoadS", &moved([26, 28, 29, 32]), STRING, "refused 17", None),
+        fact("negative: LoadEnt", &moved([27, 28, 29, 32]), NEGATIVE, "refused 17", None),
+        fact("negative: LoadEnt to a cell that isn't there", &moved([27, 28, 29, 65]), NEGATIVE, "refused 15", None),
+        fact("negative: LoadFnc", &moved([29, 28, 29, 32]), FUNCTION, "ended", ends),
+        fact("negative: StorePS", &store(39), STRING, "refused 17", None),
+        fact("negative: StorePEnt", &store(40), "error Globals error: Negative entity ID (-1)", "refused 17", None),
+        fact("negative: StorePFnc", &store(42), FUNCTION, "ended", None).and_entity_cell(3, 0, u32::MAX),
+    ]
+}
+
+/// The Rust's field numbers have 16 bits.
+fn cut_to_16_bits() -> Vec<Fact> {
+    let load = |field: u32| program(&[[37, 31, 30, 0], [24, 28, 29, 32], DONE], &[(29, field), (30, 12), (31, ONE)]);
+    let mut long = load(32_768);
+    long.entity_cells = 40_000;
+    vec![
+        fact("16 bits: LoadF of field 65,539", &load(65_539), "ends", "refused 31", Some((32, ONE, 0))),
+        fact("16 bits: LoadF of field 32,768 of 40,000 cells", &long, "error Entity error: Invalid address (-32768)", "ended", None),
+    ]
+}
+
 fn end_text(end: &End) -> String {
     match end {
         End::Done => "ends".into(),
@@ -355,46 +477,73 @@ fn end_text(end: &End) -> String {
     }
 }
 
-fn check(fact: &Fact) -> bool {
-    let count = View(&fact.bytes).cells();
-    let (rust, rusts_cells) = match oracle::load(Variant::Unchanged, &fact.bytes) {
-        Err(end) => (format!("load {}", end_text(&end)), Vec::new()),
+/// How a run ended, and what it left in the cells and in the entity cells.
+struct Ran {
+    end: String,
+    cells: Vec<u32>,
+    entities: Vec<u32>,
+}
+
+impl Ran {
+    fn not_loaded(end: String) -> Ran {
+        Ran { end, cells: Vec::new(), entities: Vec::new() }
+    }
+}
+
+fn by_the_rust(fact: &Fact, lent: &Lent) -> Ran {
+    match oracle::load(Variant::Unchanged, &fact.bytes, lent) {
+        Err(end) => Ran::not_loaded(format!("load {}", end_text(&end))),
         Ok(mut level) => {
-            let seen = oracle::call(&mut *level, count, false, |l| l.execute_program(fact.calls[0]));
-            (end_text(&seen.end), seen.cells)
+            let cells = View(&fact.bytes).cells();
+            let seen = oracle::call(&mut *level, cells, false, |l| l.execute_program(fact.calls[0]));
+            Ran { end: end_text(&seen.end), cells: seen.cells, entities: seen.entities }
         }
-    };
-    let (here, cells) = match Ours::load(&fact.bytes) {
-        Err(number) => (format!("load {}", Answer::Refused(number)), Vec::new()),
+    }
+}
+
+fn here(fact: &Fact, lent: &Lent) -> Ran {
+    match Ours::load(&fact.bytes, lent) {
+        Err(number) => Ran::not_loaded(format!("load {}", Answer::Refused(number))),
         Ok(mut ours) => {
             let left = ours.execute(fact.calls[0]);
-            (left.answer.to_string(), left.cells)
+            Ran { end: left.answer.to_string(), cells: left.cells, entities: left.entities }
         }
+    }
+}
+
+/// Whether a cell is as expected in both, and the text that says what it is.
+fn check_cell(name: &str, expected: Option<(usize, u32, u32)>, rust: &[u32], here: &[u32]) -> (bool, String) {
+    let Some((cell, rusts, ours)) = expected else {
+        return (true, String::new());
     };
-    let values = fact.cell.map(|(cell, ..)| (rusts_cells.get(cell).copied(), cells.get(cell).copied()));
-    let expected = fact.cell.map(|(_, rust, here)| (Some(rust), Some(here)));
-    let good = rust.starts_with(fact.rust) && here == fact.here && values == expected;
-    let shown = match (fact.cell, values) {
-        (Some((cell, ..)), Some((Some(rust), Some(here)))) => {
-            format!("; cell {}: Rust {:08x}, here {:08x}", cell, rust, here)
-        }
-        _ => String::new(),
-    };
+    match (rust.get(cell), here.get(cell)) {
+        (Some(&a), Some(&b)) => ((a, b) == (rusts, ours), format!("; {} {}: Rust {:08x}, here {:08x}", name, cell, a, b)),
+        _ => (false, String::new()),
+    }
+}
+
+fn check(fact: &Fact) -> bool {
+    let lent = Lent::zeros(&fact.bytes, fact.entities);
+    let (rust, here) = (by_the_rust(fact, &lent), here(fact, &lent));
+    let (good, cell) = check_cell("cell", fact.cell, &rust.cells, &here.cells);
+    let (entities_good, entity_cell) = check_cell("entity cell", fact.entity_cell, &rust.entities, &here.entities);
+    let good = good && entities_good && rust.end.starts_with(fact.rust) && here.end == fact.here;
     let mark = if good { "" } else { "NOT AS EXPECTED " };
-    println!("{}{}: Rust {}; here {}{}", mark, fact.name, rust, here, shown);
+    println!("{}{}: Rust {}; here {}{}{}", mark, fact.name, rust.end, here.end, cell, entity_cell);
     good
 }
 
 /// A host entry's position, and what an entry at depth 31 leaves.
 fn positions() -> bool {
     let bytes = program(&[DONE], &[]).bytes();
-    let mut level = oracle::load_whole(Variant::Unchanged, &bytes);
-    let mut ours = Ours::load(&bytes).expect("a whole file");
+    let lent = Lent::default();
+    let mut level = oracle::load_whole(Variant::Unchanged, &bytes, &lent);
+    let mut ours = Ours::load(&bytes, &lent).expect("a whole file");
     let seen = oracle::call(&mut *level, 64, false, |l| l.execute_program(1));
     let left = ours.execute(1);
     println!("position after a host entry that ended: Rust {}, here {}", seen.observed.pc, left.position);
     let good = seen.observed.pc == 1 && left.position == 0;
-    let mut deep = oracle::load_whole(Variant::Unchanged, &bytes);
+    let mut deep = oracle::load_whole(Variant::Unchanged, &bytes, &lent);
     let mut depths = Vec::new();
     for _ in 0..32 {
         let seen = oracle::call(&mut *deep, 64, false, |l| l.enter_function(1));
@@ -414,7 +563,7 @@ fn reserved() -> bool {
     let this = std::env::current_exe().expect("this program");
     let output = (std::process::Command::new(this).arg("load").arg(&path)).output().expect("a process");
     let _ = std::fs::remove_file(&path);
-    let here = Ours::load(&bytes).err();
+    let here = Ours::load(&bytes, &Lent::default()).err();
     let text = String::from_utf8_lossy(&output.stderr);
     let line = text.lines().next().unwrap_or("").trim_end();
     println!("2,147,483,647 functions: Rust {} (\"{}\"); here load refused {:?}", output.status, line, here);
@@ -424,5 +573,5 @@ fn reserved() -> bool {
 /// For `reserved`: a load by the unchanged Rust, in this process.
 pub fn load(path: &str) -> bool {
     let bytes = std::fs::read(path).expect("a file");
-    oracle::load(Variant::Unchanged, &bytes).is_ok()
+    oracle::load(Variant::Unchanged, &bytes, &Lent::default()).is_ok()
 }

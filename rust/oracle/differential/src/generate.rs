@@ -1,5 +1,6 @@
 //! Random program files. A program's number decides everything about it.
 
+use crate::entities::{self, Lent};
 use crate::program::{Function, Program};
 use crate::random::Random;
 
@@ -16,28 +17,54 @@ pub enum Kind {
 
 pub const KINDS: [Kind; 3] = [Kind::Random, Kind::Boundary, Kind::Damaged];
 
-/// A file, and the functions that the host enters one after the other.
+/// A file, the functions that the host enters one after the other, and the entities.
 pub struct Case {
     pub kind: Kind,
     pub bytes: Vec<u8>,
     pub calls: Vec<usize>,
+    /// How many entities are asked for.
+    pub entities: usize,
+    /// Decides what the entities hold.
+    pub content: u64,
+}
+
+impl Case {
+    pub fn lent(&self) -> Lent {
+        Lent::random(&self.bytes, self.entities, self.content)
+    }
+}
+
+/// How many entities a case asks for.
+pub fn entities(r: &mut Random) -> usize {
+    match r.below(500) {
+        0 => r.pick(&[599, 600]),
+        _ => r.pick(&[0, 1, 2, 3, 3, 5, 8, 8, 20]),
+    }
 }
 
 pub fn case(seed: u64, number: u64) -> Case {
     let mut random = Random::new(seed, number);
-    let r = &mut random;
+    let entities = entities(&mut random);
+    with_entities(&mut random, entities)
+}
+
+pub fn case_without_entities(seed: u64, number: u64) -> Case {
+    with_entities(&mut Random::new(seed, number), 0)
+}
+
+fn with_entities(r: &mut Random, entities: usize) -> Case {
     let kind = match r.below(10) {
         0..=5 => Kind::Random,
         6 | 7 => Kind::Boundary,
         _ => Kind::Damaged,
     };
     let bytes = match kind {
-        Kind::Random => whole(r).bytes(),
-        Kind::Boundary => boundary(r).bytes(),
-        Kind::Damaged => damaged(r),
+        Kind::Random => whole(r, entities).bytes(),
+        Kind::Boundary => boundary(r, entities).bytes(),
+        Kind::Damaged => damaged(r, entities),
     };
     let calls = if r.percent(70) { vec![1] } else { (0..r.between(1, 3)).map(|_| r.pick(&[1, 1, 2, 0, 3, 9])).collect() };
-    Case { kind, bytes, calls }
+    Case { kind, bytes, calls, entities, content: r.next() }
 }
 
 // ---- values
@@ -76,6 +103,9 @@ struct Style {
     /// Percent of operands that are chosen without a look at the types.
     careless: u32,
     handed_over: bool,
+    /// Whether there are statements that read and write the entities' fields.
+    fields: bool,
+    entities: usize,
 }
 
 #[derive(Clone, Copy, PartialEq)]
@@ -95,7 +125,7 @@ enum Arguments {
     Many,
 }
 
-fn style(r: &mut Random) -> Style {
+fn style(r: &mut Random, entities: usize) -> Style {
     Style {
         infinities: r.percent(30),
         returns: r.pick(&[Returns::InARow, Returns::InARow, Returns::FirstAlone, Returns::FirstAlone, Returns::Any]),
@@ -103,6 +133,8 @@ fn style(r: &mut Random) -> Style {
         not_v: r.percent(40),
         careless: r.pick(&[0, 0, 1, 3, 15]),
         handed_over: r.percent(10),
+        fields: r.percent(if entities > 0 { 60 } else { 10 }),
+        entities,
     }
 }
 
@@ -126,28 +158,106 @@ const VECTOR: u16 = 3;
 const ENTITY: u16 = 4;
 const FIELD: u16 = 5;
 const FUNCTION: u16 = 6;
+const POINTER: u16 = 7;
 
-/// The types that the definitions give, and one that each cell is used as.
+/// The types that the definitions give, and one that each cell is used as. For a cell with a field number or a pointer also the type of the
+/// field.
 struct Cells {
     types: Vec<u16>,
     uses: Vec<u16>,
+    of_field: Vec<u16>,
+    fields: Fields,
+}
+
+/// The fields that statements use: cell within the entity, and type.
+struct Fields {
+    per_entity: i32,
+    list: Vec<(u16, u16)>,
+}
+
+impl Fields {
+    fn new(r: &mut Random, program: &mut Program, style: &Style) -> Fields {
+        if style.fields {
+            program.entity_cells = r.pick(&[105, 105, 105, 106, 107, 120]);
+        }
+        let mut fields = Fields { per_entity: program.entity_cells, list: Vec::new() };
+        let share = r.pick(&[0, 30, 70, 95]);
+        let mut cell = r.below(60) as u16;
+        for _ in 0..if style.fields { 10 } else { 1 } {
+            let type_ = r.pick(&[FLOAT, FLOAT, VECTOR, VECTOR, STRING, ENTITY, ENTITY, FIELD, FUNCTION]);
+            fields.list.push((cell, type_));
+            if style.fields && r.percent(share) {
+                fields.define(r, program, cell, type_);
+            }
+            cell += if type_ == VECTOR { 3 } else { 1 } + r.pick(&[0, 0, 1]);
+        }
+        if style.fields && r.percent(20) {
+            // A vector that ends with the entity, or after it.
+            fields.list.push((program.entity_cells as u16 - r.pick(&[1, 2, 3, 3]), VECTOR));
+        }
+        fields
+    }
+
+    fn define(&self, r: &mut Random, program: &mut Program, cell: u16, type_: u16) {
+        // Void definitions are passed over.
+        if r.percent(10) {
+            program.fielddefs.push((0, cell, 0));
+        }
+        program.fielddefs.push((type_, cell, 0));
+        if type_ == VECTOR && r.percent(50) {
+            program.fielddefs.push((FLOAT, cell, 0));
+        } else if r.percent(3) {
+            let other = r.below(8) as u16;
+            program.fielddefs.push((other, cell + r.below(3) as u16, 0));
+        }
+    }
+
+    /// A field number, mostly of one of the fields, and the field's type.
+    fn number(&self, r: &mut Random) -> (u32, u16) {
+        let (cell, type_) = r.pick(&self.list);
+        let number = match r.below(100) {
+            0 => u32::MAX,
+            1 => r.pick(&[32_767, 32_768, 65_535, 65_536 + cell as u32, 0x7fff_ffff]),
+            2 => (self.per_entity + r.between(-3, 1) as i32) as u32,
+            _ => cell as u32,
+        };
+        (number, type_)
+    }
+
+    /// A pointer, mostly to one of the fields of an entity, and the field's type.
+    fn pointer(&self, r: &mut Random, entities: usize) -> (u32, u16) {
+        let (cell, type_) = r.pick(&self.list);
+        let entity = entities::some_entity(r, entities) as i64;
+        let pointer = 4 * (entity * self.per_entity as i64 + cell as i64);
+        let number = match r.below(100) {
+            0 => r.pick(&[u32::MAX, 0x8000_0000, 0x7fff_fffc, 0x7fff_ffff]),
+            1 => pointer as u32 + r.between(1, 3) as u32,
+            2 => 4 * 600 * self.per_entity as u32,
+            _ => pointer as u32,
+        };
+        (number, type_)
+    }
 }
 
 impl Cells {
     fn new(r: &mut Random, program: &mut Program, functions: usize, style: &Style) -> Cells {
         let count = program.cells.len();
         let share = r.pick(&[0, 0, 20, 60, 95]);
-        let mut cells = Cells { types: vec![UNTYPED; count], uses: vec![FLOAT; count] };
+        let fields = Fields::new(r, program, style);
+        let mut cells = Cells { types: vec![UNTYPED; count], uses: vec![FLOAT; count], of_field: vec![UNTYPED; count], fields };
         let mut cell = 28;
         while cell < count {
-            let type_ = r.pick(&[FLOAT, FLOAT, FLOAT, FLOAT, VECTOR, VECTOR, STRING, ENTITY, FIELD, FUNCTION, FUNCTION]);
+            let type_ = match style.fields {
+                true => r.pick(&WITH_FIELDS),
+                false => r.pick(&[FLOAT, FLOAT, FLOAT, FLOAT, VECTOR, VECTOR, STRING, ENTITY, FIELD, FUNCTION, FUNCTION]),
+            };
             let width = if type_ == VECTOR { 3 } else { 1 };
             cells.uses[cell] = type_;
             if r.percent(share) {
                 cells.define(r, program, cell, type_);
             }
             for c in cell..(cell + width).min(count) {
-                program.cells[c] = cells.value(r, type_, functions, style);
+                program.cells[c] = cells.value(r, c, type_, functions, style);
             }
             cell += width;
         }
@@ -170,9 +280,20 @@ impl Cells {
         }
     }
 
-    fn value(&self, r: &mut Random, type_: u16, functions: usize, style: &Style) -> u32 {
+    fn value(&mut self, r: &mut Random, cell: usize, type_: u16, functions: usize, style: &Style) -> u32 {
         match type_ {
             STRING => r.pick(&[0, 1, 2, 3]) as u32,
+            FIELD if style.fields => {
+                let (number, of) = self.fields.number(r);
+                self.of_field[cell] = of;
+                number
+            }
+            POINTER => {
+                let (number, of) = self.fields.pointer(r, style.entities);
+                self.of_field[cell] = of;
+                number
+            }
+            ENTITY if style.fields && r.percent(97) => entities::some_entity(r, style.entities) as u32,
             ENTITY | FIELD if r.percent(3) => u32::MAX - r.below(3) as u32,
             ENTITY | FIELD => r.below(5) as u32,
             FUNCTION if r.percent(3) => r.pick(&[0, 77, u32::MAX, functions as u32]),
@@ -200,11 +321,26 @@ impl Cells {
         r.below(28 - 2) as i16
     }
 
+    /// A cell that is used as the type, for a field of that type.
+    fn for_field(&self, r: &mut Random, want: u16, of: u16, style: &Style) -> i16 {
+        for _ in 0..40 {
+            let cell = 28 + r.below(self.uses.len() - 28);
+            if self.uses[cell] == want && self.of_field[cell] == of {
+                return cell as i16;
+            }
+        }
+        self.operand(r, want, style)
+    }
+
     fn fits(&self, cell: usize, want: u16) -> bool {
         let type_ = self.types[cell];
         type_ == UNTYPED || type_ == want || (type_ == VECTOR && want == FLOAT)
     }
 }
+
+/// What the cells of a program with statements on fields are used as.
+const WITH_FIELDS: [u16; 17] =
+    [FLOAT, FLOAT, FLOAT, VECTOR, VECTOR, STRING, ENTITY, ENTITY, ENTITY, FIELD, FIELD, FIELD, FIELD, FUNCTION, FUNCTION, POINTER, POINTER];
 
 /// A cell number at a limit.
 fn edge(r: &mut Random, count: usize) -> i16 {
@@ -280,6 +416,9 @@ const SHAPES: [(i16, [u16; 3]); 37] = [
     (65, [FLOAT, FLOAT, FLOAT]),
 ];
 const NOT_V: (i16, [u16; 3]) = (45, [VECTOR, NONE, FLOAT]);
+/// The opcodes that read a field and those that write one, by its type.
+const ACCESSES: [(u16, i16, i16); 6] =
+    [(FLOAT, 24, 37), (VECTOR, 25, 38), (STRING, 26, 39), (ENTITY, 27, 40), (FIELD, 28, 41), (FUNCTION, 29, 42)];
 /// The operand isn't used and should be 0.
 const NONE: u16 = 98;
 
@@ -302,6 +441,26 @@ impl Maker<'_> {
         let shape = if self.style.not_v && self.r.percent(8) { NOT_V } else { self.r.pick(&SHAPES) };
         let (opcode, [a, b, c]) = shape;
         [opcode, self.operand(a), self.operand(b), self.operand(c)]
+    }
+
+    fn load(&mut self) -> [i16; 4] {
+        let (type_, opcode, _) = self.r.pick(&ACCESSES);
+        let field = self.cells.for_field(self.r, FIELD, type_, &self.style);
+        [opcode, self.operand(ENTITY), field, self.operand(type_)]
+    }
+
+    /// Makes a pointer and stores through it, as compilers write it; or one of the two alone.
+    fn store(&mut self, program: &mut Program) {
+        let (type_, _, opcode) = self.r.pick(&ACCESSES);
+        let field = self.cells.for_field(self.r, FIELD, type_, &self.style);
+        let pointer = self.cells.for_field(self.r, POINTER, type_, &self.style);
+        let (entity, from) = (self.operand(ENTITY), self.operand(type_));
+        let (address, store) = ([30, entity, field, pointer], [opcode, from, pointer, self.operand(NONE)]);
+        match self.r.below(4) {
+            0 => program.statements.push(address),
+            1 => program.statements.push(store),
+            _ => program.statements.extend([address, store]),
+        }
     }
 
     /// A branch, mostly forward.
@@ -339,7 +498,7 @@ impl Maker<'_> {
     }
 
     fn handed_over(&mut self) -> [i16; 4] {
-        let opcode = self.r.pick(&[24, 25, 26, 27, 28, 29, 30, 37, 38, 39, 40, 41, 42, 60]);
+        let opcode = self.r.pick(&[24, 25, 26, 27, 28, 29, 30, 37, 38, 39, 40, 41, 42, 60, 60, 60, 60, 60]);
         [opcode, self.operand(ENTITY), self.operand(FIELD), self.operand(FLOAT)]
     }
 
@@ -363,7 +522,7 @@ impl Maker<'_> {
         }
         let inner = self.r.between(0, 4);
         for _ in 0..inner {
-            let statement = self.calculation();
+            let statement = if self.style.fields && self.r.percent(40) { self.load() } else { self.calculation() };
             program.statements.push(statement);
         }
         program.statements.push([8, counter, one, counter]);
@@ -373,11 +532,17 @@ impl Maker<'_> {
     fn body(&mut self, program: &mut Program) {
         let length = self.r.pick(&[1, 2, 3, 4, 6, 9, 14]);
         for _ in 0..length {
-            if self.r.percent(2) {
-                self.counted_loop(program);
-            } else {
-                let statement = self.statement();
-                program.statements.push(statement);
+            match self.r.below(100) {
+                0 | 1 => self.counted_loop(program),
+                2..=20 if self.style.fields => self.store(program),
+                21..=40 if self.style.fields => {
+                    let statement = self.load();
+                    program.statements.push(statement);
+                }
+                _ => {
+                    let statement = self.statement();
+                    program.statements.push(statement);
+                }
             }
         }
         let statement = self.give_back();
@@ -417,14 +582,14 @@ fn arguments(r: &mut Random, arguments: Arguments, function: &mut Function) {
     }
 }
 
-fn whole(r: &mut Random) -> Program {
-    let mut program = Program::new(r.pick(&[36, 40, 64, 64, 64, 100, 180]));
+fn whole(r: &mut Random, entities: usize) -> Program {
+    let style = style(r, entities);
+    let mut program = Program::new(r.pick(if style.fields { &[64, 64, 64, 64, 100, 100, 180] } else { &[36, 40, 64, 64, 64, 100, 180] }));
     program.strings = b"\0main\0".to_vec();
     if r.percent(3) {
         program.strings = r.pick(&[&b"\0main"[..], &b"\0m\xc3\xa9in\0"[..], &b"\0m\xffin\0"[..]]).to_vec();
     }
     let functions = r.between(2, 6) as usize;
-    let style = style(r);
     let cells = Cells::new(r, &mut program, functions, &style);
     let mut maker = Maker { r, style, cells, functions };
     for _ in 1..maker.functions {
@@ -448,20 +613,73 @@ fn whole(r: &mut Random) -> Program {
 
 // ---- at the limits
 
-fn boundary(r: &mut Random) -> Program {
-    match r.below(20) {
+fn boundary(r: &mut Random, entities: usize) -> Program {
+    match r.below(26) {
         0..=9 => statements_at_edges(r),
         10..=13 => entry_at_edges(r),
         14 | 15 => recursion(r),
         16 | 17 => endless(r),
         18 => branches_out(r),
-        _ => sizes_at_edges(r),
+        19 => sizes_at_edges(r),
+        _ => fields_at_edges(r, entities),
     }
+}
+
+/// Entities, fields and pointers at their limits.
+fn fields_at_edges(r: &mut Random, asked: usize) -> Program {
+    let mut program = few_cells(r);
+    let per_entity = match r.below(40) {
+        0 => r.pick(&[32_767, 32_768, 32_769, 40_000, 65_536]),
+        _ => r.pick(&[105, 105, 106, 110]),
+    };
+    program.entity_cells = per_entity;
+    let per_entity = per_entity as i64;
+    let number = entities::number(program.entity_cells, asked) as i64;
+    let field = |r: &mut Random| r.pick(&[0, 1, 2, 50, per_entity - 4, per_entity - 3, per_entity - 2, per_entity - 1]);
+    let past = [per_entity, per_entity + 1, per_entity + 2, 32_766, 32_767, 32_768, 65_535, 65_536, 65_541, i32::MAX as i64, -1];
+    let (inside, pointed) = (field(r), field(r));
+    let entity = r.pick(&[0, 0, 1, number - 1, number - 1, number, number + 1, 599, 600, 601, i32::MAX as i64, -1]);
+    let to = r.pick(&[0, number - 1, number - 1, number, 599, 600, 601]).max(0);
+    let pointer = match r.below(12) {
+        0 => r.pick(&[-4, -1, 1, 2, 3, i32::MAX as i64, 0x7fff_fffc, i32::MIN as i64]),
+        1 => 4 * number * per_entity - r.pick(&[0, 4]),
+        _ => 4 * (to * per_entity + pointed),
+    };
+    program.cells[28] = entity as u32;
+    program.cells[29] = if r.percent(25) { r.pick(&past) } else { inside } as u32;
+    program.cells[30] = pointer as u32;
+    for cell in 31..34 {
+        program.cells[cell] = r.pick(&[0, 1, 2, 5, u32::MAX, 0x8000_0000, 0x3f80_0000, 0x7fa0_0001]);
+    }
+    program.globaldefs.retain(|_| r.percent(40));
+    for _ in 0..r.below(4) {
+        let cell = r.pick(&[inside, pointed]) + r.between(0, 2);
+        program.fielddefs.push((r.pick(&[0, 1, 2, 2, 3, 3, 4, 5, 6, 7]), cell as u16, 0));
+    }
+    for _ in 0..r.between(1, 3) {
+        program.statements.push(field_statement(r));
+    }
+    program.statements.push([0, 0, 0, 0]);
+    program
+}
+
+/// On entity cell 28, field cell 29, pointer cell 30 and the cells from 31 on; some operands are others.
+fn field_statement(r: &mut Random) -> [i16; 4] {
+    let mut statement = match r.below(13) as i16 {
+        load @ 0..=5 => [24 + load, 28, 29, 31],
+        6 => [30, 28, 29, 30],
+        store => [30 + store, 31, 30, 0],
+    };
+    if r.percent(15) {
+        let operand = 1 + r.below(3);
+        statement[operand] = edge(r, 36);
+    }
+    statement
 }
 
 fn few_cells(r: &mut Random) -> Program {
     let mut program = Program::new(r.pick(&[36, 37, 64]));
-    let plain = Style { infinities: true, ..style(r) };
+    let plain = Style { infinities: true, ..style(r, 0) };
     for cell in 0..program.cells.len() {
         program.cells[cell] = float(r, &plain);
         if r.percent(30) {
@@ -493,7 +711,7 @@ fn statements_at_edges(r: &mut Random) -> Program {
             }
         };
         let (a, mut b, mut c) = (operand(), operand(), operand());
-        if (31..=36).contains(&opcode) && r.percent(90) {
+        if matches!(opcode, 31..=42) && r.percent(90) {
             c = 0;
         }
         if (44..=48).contains(&opcode) && r.percent(90) {
@@ -581,8 +799,8 @@ fn sizes_at_edges(r: &mut Random) -> Program {
 
 // ---- damaged
 
-pub fn damaged(r: &mut Random) -> Vec<u8> {
-    let mut bytes = if r.percent(60) { whole(r).bytes() } else { boundary(r).bytes() };
+pub fn damaged(r: &mut Random, entities: usize) -> Vec<u8> {
+    let mut bytes = if r.percent(60) { whole(r, entities).bytes() } else { boundary(r, entities).bytes() };
     for _ in 0..r.between(1, 3) {
         damage(r, &mut bytes);
     }
@@ -644,9 +862,9 @@ fn header_number(r: &mut Random, bytes: &mut [u8]) {
 // ---- for the functions alone
 
 /// A file whose statement 0 is a call-free statement or a Return, and whose function 1 begins there.
-pub fn one_statement(r: &mut Random) -> Program {
-    let style = style(r);
-    let mut program = Program::new(r.pick(&[36, 40, 64]));
+pub fn one_statement(r: &mut Random, entities: usize) -> Program {
+    let style = style(r, entities);
+    let mut program = Program::new(if style.fields { 64 } else { r.pick(&[36, 40, 64]) });
     let cells = Cells::new(r, &mut program, 3, &style);
     for cell in 1..28 {
         program.cells[cell] = float(r, &style);
@@ -654,14 +872,17 @@ pub fn one_statement(r: &mut Random) -> Program {
     let (opcode, types) = match r.below(20) {
         0 => (43, [UNTYPED; 3]),
         1 => NOT_V,
+        2..=12 if style.fields => on_a_field(r),
         _ => r.pick(&SHAPES),
     };
+    let of = ACCESSES.iter().find(|(_, load, store)| opcode == *load || opcode == *store).map_or(FLOAT, |&(type_, ..)| type_);
     let count = program.cells.len();
     let careless = r.pick(&[0, 10, 40]);
     let mut operands = types.map(|want| match want {
         NONE => r.percent(5) as i16,
         _ if r.percent(careless) => edge(r, count),
         UNTYPED => r.below(count) as i16,
+        FIELD | POINTER if types.contains(&ENTITY) || types.contains(&POINTER) => cells.for_field(r, want, of, &style),
         want => cells.operand(r, want, &style),
     });
     if r.percent(10) {
@@ -676,6 +897,17 @@ pub fn one_statement(r: &mut Random) -> Program {
     program.functions[0].locals = r.percent(20) as i32;
     program.functions.push(Function { local: 30, locals: r.pick(&[0, 1, 4]), ..Function::default() });
     program
+}
+
+/// An opcode that reads or writes a field, or makes a pointer, with the types of its operands. The Rust has no functions of 28 and 41.
+fn on_a_field(r: &mut Random) -> (i16, [u16; 3]) {
+    let (type_, load, store) = r.pick(&ACCESSES);
+    match r.below(5) {
+        0 => (30, [ENTITY, FIELD, POINTER]),
+        1 | 2 if load != 28 => (load, [ENTITY, FIELD, type_]),
+        _ if store != 41 => (store, [type_, POINTER, NONE]),
+        _ => (24, [ENTITY, FIELD, FLOAT]),
+    }
 }
 
 /// A file of functions with local ranges and arguments, for lists of entries and leavings.

@@ -4,6 +4,7 @@ mod alone;
 mod altered;
 mod classes;
 mod compare;
+mod entities;
 mod facts;
 mod generate;
 mod oracle;

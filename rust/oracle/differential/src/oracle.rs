@@ -1,5 +1,6 @@
 //! Runs richter's functions and keeps how they ended: by themselves, with an error, or in a panic.
 
+use crate::entities::{Lent, NAMED};
 use richter::count;
 use richter::observe::{observe, Observed};
 use std::cell::RefCell;
@@ -29,35 +30,57 @@ pub trait Level {
     /// The function of a call-free opcode, or of Return.
     fn op(&mut self, statement: [i16; 4]) -> Result<(), String>;
     fn cell(&self, cell: usize) -> u32;
+    /// All entity cells; 0 for those that the Rust can't name.
+    fn entities(&self) -> Vec<u32>;
     fn observe(&self) -> Observed;
 }
 
 macro_rules! level {
     ($name:ident, $load:ident, $from:ident) => {
-        struct $name($from::server::LevelState);
+        struct $name {
+            level: $from::server::LevelState,
+            entities: usize,
+            per_entity: usize,
+        }
 
         impl Level for $name {
             fn execute_program(&mut self, function: usize) -> Result<(), String> {
                 let id = $from::server::progs::FunctionId(function);
-                self.0.execute_program(id).map_err(|e| e.to_string())
+                self.level.execute_program(id).map_err(|e| e.to_string())
             }
 
             fn enter_function(&mut self, function: usize) -> Result<(), String> {
                 let id = $from::server::progs::FunctionId(function);
-                let level = &mut self.0;
+                let level = &mut self.level;
                 (level.cx.enter_function(&mut level.globals, id)).map_err(|e| e.to_string())
             }
 
             fn leave_function(&mut self) -> Result<(), String> {
-                let level = &mut self.0;
+                let level = &mut self.level;
                 (level.cx.leave_function(&mut level.globals)).map_err(|e| e.to_string())
             }
 
             fn op(&mut self, [opcode, a, b, c]: [i16; 4]) -> Result<(), String> {
-                if opcode == 0 || opcode == 43 {
-                    return self.0.op_return(a, b, c).map_err(|e| e.to_string());
+                let level = &mut self.level;
+                let of_level = match opcode {
+                    0 | 43 => Some(level.op_return(a, b, c)),
+                    24 => Some(level.op_load_f(a, b, c)),
+                    25 => Some(level.op_load_v(a, b, c)),
+                    26 => Some(level.op_load_s(a, b, c)),
+                    27 => Some(level.op_load_ent(a, b, c)),
+                    29 => Some(level.op_load_fnc(a, b, c)),
+                    30 => Some(level.op_address(a, b, c)),
+                    37 => Some(level.op_storep_f(a, b, c)),
+                    38 => Some(level.op_storep_v(a, b, c)),
+                    39 => Some(level.op_storep_s(a, b, c)),
+                    40 => Some(level.op_storep_ent(a, b, c)),
+                    42 => Some(level.op_storep_fnc(a, b, c)),
+                    _ => None,
+                };
+                if let Some(result) = of_level {
+                    return result.map_err(|e| e.to_string());
                 }
-                let g = &mut self.0.globals;
+                let g = &mut level.globals;
                 match opcode {
                     1 => g.op_mul_f(a, b, c),
                     2 => g.op_mul_v(a, b, c),
@@ -103,17 +126,35 @@ macro_rules! level {
             }
 
             fn cell(&self, cell: usize) -> u32 {
-                u32::from_le_bytes(self.0.globals.get_bytes(cell as i16).unwrap())
+                u32::from_le_bytes(self.level.globals.get_bytes(cell as i16).unwrap())
+            }
+
+            fn entities(&self) -> Vec<u32> {
+                let mut cells = Vec::with_capacity(self.entities * self.per_entity);
+                for number in 0..self.entities {
+                    let entity = self.level.world.entity($from::server::progs::EntityId(number));
+                    let named = self.per_entity.min(NAMED);
+                    cells.extend((0..named).map(|field| u32::from_le_bytes(entity.get_bytes(field as i16).unwrap())));
+                    cells.resize((number + 1) * self.per_entity, 0);
+                }
+                cells
             }
 
             fn observe(&self) -> Observed {
-                observe(&self.0.cx)
+                observe(&self.level.cx)
             }
         }
 
-        fn $load(bytes: &[u8]) -> Result<Box<dyn Level>, String> {
+        fn $load(bytes: &[u8], lent: &Lent) -> Result<Box<dyn Level>, String> {
             let progs = $from::server::progs::load(Cursor::new(bytes)).map_err(|e| e.to_string())?;
-            Ok(Box::new($name($from::server::LevelState::new(progs))))
+            let mut level = $from::server::LevelState::new(progs, lent.number);
+            for (number, cells) in lent.cells.chunks(lent.per_entity.max(1)).enumerate() {
+                let entity = level.world.entity_mut($from::server::progs::EntityId(number)).unwrap();
+                for (field, cell) in cells.iter().take(NAMED).enumerate() {
+                    entity.put_bytes(cell.to_le_bytes(), field as i16).unwrap();
+                }
+            }
+            Ok(Box::new($name { level, entities: lent.number, per_entity: lent.per_entity }))
         }
     };
 }
@@ -159,16 +200,17 @@ pub fn ended<T>(call: impl FnOnce() -> Result<T, String>) -> Result<T, End> {
     }
 }
 
-pub fn load(variant: Variant, bytes: &[u8]) -> Result<Box<dyn Level>, End> {
+/// A load, with what is lent in the entities.
+pub fn load(variant: Variant, bytes: &[u8], lent: &Lent) -> Result<Box<dyn Level>, End> {
     ended(|| match variant {
-        Variant::Unchanged => load_unchanged(bytes),
-        Variant::Changed => load_changed(bytes),
+        Variant::Unchanged => load_unchanged(bytes, lent),
+        Variant::Changed => load_changed(bytes, lent),
     })
 }
 
 /// A file that the Rust is known to load.
-pub fn load_whole(variant: Variant, bytes: &[u8]) -> Box<dyn Level> {
-    match load(variant, bytes) {
+pub fn load_whole(variant: Variant, bytes: &[u8], lent: &Lent) -> Box<dyn Level> {
+    match load(variant, bytes, lent) {
         Ok(level) => level,
         Err(end) => panic!("a whole file isn't loaded: {:?}", end),
     }
@@ -182,6 +224,7 @@ pub struct Seen {
     pub builtins_at: Vec<u64>,
     pub observed: Observed,
     pub cells: Vec<u32>,
+    pub entities: Vec<u32>,
 }
 
 /// A call on a level. Counting logs, and a log message of richter's converts names; `counted` says whether to.
@@ -193,5 +236,12 @@ pub fn call(level: &mut dyn Level, cells: usize, counted: bool, what: impl FnOnc
     };
     let (fetched, builtins_at) = (count::fetched(), count::builtins_at());
     count::start(false);
-    Seen { end, fetched, builtins_at, observed: level.observe(), cells: (0..cells.min(32_768)).map(|i| level.cell(i)).collect() }
+    Seen {
+        end,
+        fetched,
+        builtins_at,
+        observed: level.observe(),
+        cells: (0..cells.min(32_768)).map(|i| level.cell(i)).collect(),
+        entities: level.entities(),
+    }
 }

@@ -1,7 +1,8 @@
 //! Runs this machine, through the host's crate, and keeps what it answered and left.
 
+use crate::entities::Lent;
 use crate::program::View;
-use host::{Handover, LoadError, Machine, Outcome, RunOutcome};
+use host::{Handover, LoadError, Machine, Outcome, RunOutcome, Settings};
 
 #[derive(Clone, Copy, Debug, PartialEq, Eq, PartialOrd, Ord)]
 pub enum Answer {
@@ -39,27 +40,32 @@ pub struct Left {
     /// The saved cells in use.
     pub saved: Vec<u32>,
     pub cells: Vec<u32>,
-    /// Whether the lent cells past the file's count, the saved store past its 2,048, and frames not in use are as they must be.
+    pub entities: Vec<u32>,
+    /// Whether the lent cells past the file's count, the lent entity cells past the last entity, the saved store past its 2,048, and frames
+    /// not in use are as they must be.
     pub rest_untouched: bool,
 }
 
 /// What the lent cells and the saved store hold before a load, and past what may be written.
 const FILL: u32 = 0xdead_beef;
-/// How many cells more than the file has are lent.
+/// How many cells more than the file has are lent, and entity cells more than the entities have.
 const MORE: usize = 5;
 
 pub struct Ours {
     machine: Machine,
     count: usize,
+    entity_cells: usize,
 }
 
 impl Ours {
     /// The loaded machine, or the refusal's number.
-    pub fn load(bytes: &[u8]) -> Result<Ours, u32> {
+    pub fn load(bytes: &[u8], lent: &Lent) -> Result<Ours, u32> {
         let count = View(bytes).cells().min(40_000);
-        let mut machine = Machine::new(bytes.to_vec(), vec![FILL; count + MORE], vec![FILL; 2_048 + MORE]);
-        match machine.load() {
-            Ok(()) => Ok(Ours { machine, count }),
+        let mut entities = lent.cells.clone();
+        entities.extend([FILL; MORE]);
+        let mut machine = Machine::with_entities(bytes.to_vec(), vec![FILL; count + MORE], vec![FILL; 2_048 + MORE], entities);
+        match machine.load_with(Settings { entities: lent.number as i64 }) {
+            Ok(()) => Ok(Ours { machine, count, entity_cells: lent.cells.len() }),
             Err(LoadError::Refused(refusal)) => Err(refusal.number()),
             Err(error) => panic!("{error}"),
         }
@@ -123,7 +129,9 @@ impl Ours {
             frames: (frames[..depth].iter()).map(|f| (f.instr_id, f.func_id)).collect(),
             saved: m.saved()[..saved].to_vec(),
             cells: m.cells()[..self.count].to_vec(),
+            entities: m.entities()[..self.entity_cells].to_vec(),
             rest_untouched: m.cells()[self.count..].iter().all(|&c| c == FILL)
+                && m.entities()[self.entity_cells..] == [FILL; MORE]
                 && m.saved()[2_048..].iter().all(|&c| c == FILL)
                 && frames[depth..].iter().all(zeros),
         }

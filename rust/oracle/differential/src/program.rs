@@ -173,6 +173,23 @@ impl View<'_> {
         })
     }
 
+    /// Type and cell of each field definition.
+    pub fn field_definitions(&self) -> Vec<(u16, u16)> {
+        self.definitions(Lump::FieldDefs)
+    }
+
+    /// The type that the first definition of a cell gives it.
+    pub fn global_type(&self, cell: i16) -> Option<u16> {
+        let found = self.definitions(Lump::GlobalDefs).into_iter().find(|&(_, c)| c as i32 == cell as i32);
+        found.map(|(type_, _)| type_ & 0x7fff)
+    }
+
+    fn definitions(&self, lump: Lump) -> Vec<(u16, u16)> {
+        let (at, count) = (self.offset(lump).max(0) as usize, self.count(lump).max(0) as usize);
+        let inside = count.min(self.0.len() / 8);
+        (0..inside).map(|i| (self.i16_at(at + 8 * i) as u16, self.i16_at(at + 8 * i + 2) as u16)).collect()
+    }
+
     /// The strings, where the file has them whole.
     pub fn strings(&self) -> Option<&[u8]> {
         let (at, count) = (self.offset(Lump::Strings), self.count(Lump::Strings));

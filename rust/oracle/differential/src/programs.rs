@@ -159,7 +159,7 @@ fn shrink(case: &Case) -> Vec<u8> {
             let mut tried = smaller.clone();
             let end = (at + size).min(tried.len());
             tried[at..end].fill(0);
-            let case = Case { kind: case.kind, bytes: tried, calls: case.calls.clone() };
+            let case = Case { bytes: tried, calls: case.calls.clone(), ..*case };
             if smaller != case.bytes && is_unexplained(&case) {
                 smaller = case.bytes;
             }
@@ -196,11 +196,13 @@ fn print_totals(totals: &Totals) {
     changed.print("programs and richter changed:");
     either.print("programs and either:");
     println!("    {} statements completed in the programs compared in full", grouped(totals.statements));
+    println!("    of the runs by richter changed:");
     println!(
-        "    {} runs without a known count of statements: a name is no text, and counting would convert it",
+        "      {:>9}  without a known count of statements: a name is no text, and counting would convert it",
         grouped(runs::uncounted())
     );
-    println!("    {} equal runs with calls of fabs, floor, ceil or rint", grouped(runs::rounded()));
+    println!("      {:>9}  equal, with calls of fabs, floor, ceil or rint", grouped(runs::rounded()));
+    println!("      {:>9}  equal, and entity cells were changed", grouped(runs::wrote()));
     totals.unchanged.print("loads and runs, richter unchanged");
     totals.covered_by_changed.print("programs with such a difference, and the changed Rust:");
     totals.changed.print("loads and runs, richter with the named differences changed, NaN canonical");
@@ -214,8 +216,8 @@ fn print_totals(totals: &Totals) {
 
 /// Everything about one program. Whether nothing is unexplained.
 pub fn show(case: &Case) -> bool {
-    println!("{} bytes, calls {:?}", case.bytes.len(), case.calls);
     let performed = runs::perform(case);
+    println!("{} bytes, calls {:?}, {} entities", case.bytes.len(), case.calls, performed.lent.number);
     if let Err(number) = performed.load {
         println!("here load refused {}", number);
     }
@@ -238,6 +240,9 @@ pub fn show(case: &Case) -> bool {
     !is_unexplained(case)
 }
 
+/// How many entities the rule files of a folder get.
+const PLAYERS: usize = 33;
+
 /// Every function of every program file in a folder, entered by the host right after the load.
 pub fn run_folder(folder: &str) -> bool {
     let mut files: Vec<_> = (std::fs::read_dir(folder).into_iter().flatten().flatten())
@@ -250,7 +255,7 @@ pub fn run_folder(folder: &str) -> bool {
         let functions = View(&bytes).count(Lump::Functions).max(0) as usize;
         (0..functions).map(move |function| (bytes.clone(), function))
     });
-    run_files("functions of compiled rule files", functions)
+    run_files("functions of compiled rule files", PLAYERS, functions)
 }
 
 /// The files of tests/model: `NAME LENGTH HEX LINE`, bytes not given are zeros. The host enters function 1.
@@ -264,15 +269,15 @@ pub fn run_cases(path: &str) -> bool {
         bytes.resize(words[1].parse().expect("a length"), 0);
         (bytes, 1)
     });
-    run_files("files of the model's cases", files)
+    run_files("files of the model's cases", 0, files)
 }
 
-/// Files, each with the function that the host enters.
-fn run_files(what: &str, files: impl Iterator<Item = (Vec<u8>, usize)>) -> bool {
+/// Files, each with the function that the host enters, and with so many entities.
+fn run_files(what: &str, entities: usize, files: impl Iterator<Item = (Vec<u8>, usize)>) -> bool {
     let mut totals = Totals::default();
     let mut count = 0;
     for (bytes, function) in files {
-        let case = Case { kind: generate::Kind::Random, bytes, calls: vec![function] };
+        let case = Case { kind: generate::Kind::Random, bytes, calls: vec![function], entities, content: count };
         let performed = runs::perform(&case);
         count += 1;
         if runs::reserves_too_much(&case.bytes) {
@@ -295,5 +300,5 @@ pub fn show_file(path: &str, functions: &[String]) -> bool {
     };
     let calls = functions.iter().filter_map(|f| f.parse().ok()).collect();
     let kind = generate::Kind::Random;
-    show(&Case { kind, bytes, calls })
+    show(&Case { kind, bytes, calls, entities: PLAYERS, content: 1 })
 }

@@ -2,26 +2,30 @@
 
 use crate::classes::Class;
 use crate::compare::{compare, compare_load, wraps_an_address, Call, Rules, Verdict};
+use crate::entities::{self, Lent};
 use crate::generate::Case;
 use crate::oracle::{self, End, Level, Seen, Variant};
 use crate::ours::{Answer, Left, Ours};
 use crate::program::{Lump, View};
 use changed::switches::{self, Switch};
 use std::cell::Cell;
+use std::thread::LocalKey;
 
 /// What came of a case, for one variant: the verdict of the load, then of each call.
 pub type Verdicts = Vec<Verdict>;
 
 /// What this machine did with a case.
 pub struct Performed {
+    pub lent: Lent,
     pub load: Result<Left, u32>,
     /// Each call up to the first that did not end.
     pub calls: Vec<Left>,
 }
 
 pub fn perform(case: &Case) -> Performed {
-    match Ours::load(&case.bytes) {
-        Err(number) => Performed { load: Err(number), calls: Vec::new() },
+    let lent = case.lent();
+    match Ours::load(&case.bytes, &lent) {
+        Err(number) => Performed { lent, load: Err(number), calls: Vec::new() },
         Ok(mut ours) => {
             let load = Ok(ours.left(Answer::Completed, 0));
             let mut calls = Vec::new();
@@ -31,7 +35,7 @@ pub fn perform(case: &Case) -> Performed {
                     break;
                 }
             }
-            Performed { load, calls }
+            Performed { lent, load, calls }
         }
     }
 }
@@ -63,8 +67,17 @@ pub fn rules(variant: Variant, nan_as_nan: bool) -> Rules {
 }
 
 thread_local! {
+    /// Whether runs are being tallied below: those of the changed Rust with all switches on, each once.
+    static TALLIED: Cell<bool> = const { Cell::new(false) };
     static UNCOUNTED: Cell<u64> = const { Cell::new(0) };
     static ROUNDED: Cell<u64> = const { Cell::new(0) };
+    static WROTE: Cell<u64> = const { Cell::new(0) };
+}
+
+fn tally(counter: &'static LocalKey<Cell<u64>>, which: bool) {
+    if which && TALLIED.with(Cell::get) {
+        counter.with(|n| n.set(n.get() + 1));
+    }
 }
 
 /// How many runs of the Rust were compared without their count of statements.
@@ -75,6 +88,11 @@ pub fn uncounted() -> u64 {
 /// How many equal runs called builtins: those that are done here, fabs, floor, ceil and rint.
 pub fn rounded() -> u64 {
     ROUNDED.with(Cell::get)
+}
+
+/// How many equal runs left other entity cells than were lent.
+pub fn wrote() -> u64 {
+    WROTE.with(Cell::get)
 }
 
 /// The Rust's level, and a second one that counts where counting could panic.
@@ -110,7 +128,7 @@ impl Levels {
 pub fn verdicts(case: &Case, performed: &Performed, variant: Variant, rules: Rules) -> Verdicts {
     let view = View(&case.bytes);
     let cells = view.cells();
-    let loaded = oracle::load(variant, &case.bytes);
+    let loaded = oracle::load(variant, &case.bytes, &performed.lent);
     let ours = performed.load.as_ref().map_err(|&n| n);
     let mut level = match loaded {
         Err(end) => return vec![compare_load(&view, Err(&end), ours)],
@@ -118,18 +136,19 @@ pub fn verdicts(case: &Case, performed: &Performed, variant: Variant, rules: Rul
     };
     let seen = oracle::call(&mut *level, cells, false, |_| Ok(()));
     let mut all = vec![compare_load(&view, Ok(&seen), ours)];
-    let mut levels = Levels { level, counting: oracle::load(variant, &case.bytes).ok(), names_are_texts: names_are_texts(&view) };
+    let names_are_texts = names_are_texts(&view);
+    let counting = if names_are_texts { None } else { oracle::load(variant, &case.bytes, &performed.lent).ok() };
+    let mut levels = Levels { level, counting, names_are_texts };
     for (i, (&function, left)) in case.calls.iter().zip(&performed.calls).enumerate() {
         let (seen, counted) = levels.execute(cells, function);
-        let call = Call { view: View(&case.bytes), entered: Some(function), entry_only: false, statement: None };
+        let call =
+            Call { view: View(&case.bytes), entered: Some(function), entry_only: false, statement: None, entities: performed.lent.number };
         let rules = Rules { entries_ended: if rules.ended_adds { i as i64 } else { 0 }, counted, ..rules };
-        if !counted {
-            UNCOUNTED.with(|n| n.set(n.get() + 1));
-        }
         let verdict = verdict(&call, rules, &seen, left);
-        if matches!(verdict, Verdict::Same { .. }) && !seen.builtins_at.is_empty() {
-            ROUNDED.with(|n| n.set(n.get() + 1));
-        }
+        let equal = matches!(verdict, Verdict::Same { .. });
+        tally(&UNCOUNTED, !counted);
+        tally(&ROUNDED, equal && !seen.builtins_at.is_empty());
+        tally(&WROTE, equal && left.entities != performed.lent.cells);
         let goes_on = verdict == Verdict::Same { traces: false } && seen.end == End::Done;
         all.push(verdict);
         if !goes_on {
@@ -139,7 +158,7 @@ pub fn verdicts(case: &Case, performed: &Performed, variant: Variant, rules: Rul
     all
 }
 
-/// The comparison, with the addresses that the Rust wraps set apart.
+/// The comparison, with the addresses that the Rust wraps, and what it does otherwise with entities, set apart.
 pub fn verdict(call: &Call, rules: Rules, seen: &Seen, left: &Left) -> Verdict {
     if !rules.counted && matches!(left.answer, Answer::Builtin(_)) {
         return Verdict::LeftOut(Class::HandedOver);
@@ -148,6 +167,10 @@ pub fn verdict(call: &Call, rules: Rules, seen: &Seen, left: &Left) -> Verdict {
         Verdict::Differs(_) if wraps_an_address(call, left) => {
             Verdict::ByDesign("cells of an entry past 32,767, which the Rust wraps to 16 bits")
         }
+        Verdict::Differs(text) => match entities::by_design(call, rules.counted, seen, left) {
+            Some(name) => Verdict::ByDesign(name),
+            None => Verdict::Differs(text),
+        },
         verdict => verdict,
     }
 }
@@ -155,7 +178,10 @@ pub fn verdict(call: &Call, rules: Rules, seen: &Seen, left: &Left) -> Verdict {
 /// The changed Rust with all switches on.
 pub fn changed(case: &Case, performed: &Performed) -> Verdicts {
     switches::set(&switches::ALL);
-    verdicts(case, performed, Variant::Changed, rules(Variant::Changed, false))
+    TALLIED.with(|t| t.set(true));
+    let verdicts = verdicts(case, performed, Variant::Changed, rules(Variant::Changed, false));
+    TALLIED.with(|t| t.set(false));
+    verdicts
 }
 
 pub fn unchanged(case: &Case, performed: &Performed) -> Verdicts {

@@ -1,9 +1,10 @@
 //! A sample of the Rust's answers, as lines that the show program must print. Nothing in it comes from this machine.
 
 use crate::classes::{number_of, Class};
+use crate::entities::Lent;
 use crate::generate::{self, Case};
 use crate::oracle::{self, End, Seen, Variant};
-use crate::program::View;
+use crate::program::{Lump, View};
 use crate::runs::{names_are_texts, reserves_too_much};
 use changed::switches;
 use std::collections::BTreeMap;
@@ -13,11 +14,42 @@ use std::fmt::Write;
 const BYTES: usize = 640;
 const TRIED: u64 = 40_000;
 
-/// How many cases of one answer and one variant are kept. A spent run takes long, and loads are alike.
-fn most(line: &str) -> usize {
+/// An answer of the Rust: the show program's line, and the numbers of the builtins that the run called.
+struct Answered {
+    line: String,
+    builtins: Vec<i32>,
+}
+
+impl Answered {
+    /// Outcome and detail, and the builtins if there are any: what the cases are counted by.
+    fn kind(&self) -> String {
+        let answer = self.line.split(',').take(2).collect::<Vec<_>>().join(",");
+        let names: Vec<&str> = self.builtins.iter().map(|&number| builtin_name(number)).collect();
+        match names.is_empty() {
+            true => answer,
+            false => format!("{} with {}", answer, names.join(" and ")),
+        }
+    }
+}
+
+/// Of the builtins that the machine does itself; empty for another.
+fn builtin_name(number: i32) -> &'static str {
+    match number {
+        36 => "rint",
+        37 => "floor",
+        38 => "ceil",
+        43 => "fabs",
+        _ => "",
+    }
+}
+
+/// How many cases of one kind and one variant are kept. A spent run takes long, and loads are alike.
+fn most(answered: &Answered) -> usize {
+    let line = &answered.line;
     match line.split(',').next() {
-        Some("ended") => 120,
         Some("spent") => 6,
+        _ if !answered.builtins.is_empty() => 12,
+        Some("ended") => 120,
         _ if line.split(',').count() == 2 => 12,
         _ => 25,
     }
@@ -28,20 +60,20 @@ pub fn write(seed: u64, path: &str) -> bool {
     let mut kept: BTreeMap<String, usize> = BTreeMap::new();
     let mut text = String::from(HOW);
     for number in 0..TRIED {
-        let mut case = generate::case(seed ^ 0x5a, number);
+        let mut case = generate::case_without_entities(seed ^ 0x5a, number);
         case.calls = vec![1];
         if case.bytes.len() > BYTES || reserves_too_much(&case.bytes) || !names_are_texts(&View(&case.bytes)) {
             continue;
         }
-        let unchanged = line(&case, Variant::Unchanged).map(|line| ("unchanged", line));
-        let either = unchanged.or_else(|| line(&case, Variant::Changed).map(|line| ("changed", line)));
-        let Some((name, line)) = either else {
+        let unchanged = answered(&case, Variant::Unchanged).map(|answered| ("unchanged", answered));
+        let either = unchanged.or_else(|| answered(&case, Variant::Changed).map(|answered| ("changed", answered)));
+        let Some((name, answered)) = either else {
             continue;
         };
-        let count = kept.entry(format!("{} {}", name, answer(&line))).or_default();
-        if *count < most(&line) {
+        let count = kept.entry(format!("{} {}", name, answered.kind())).or_default();
+        if *count < most(&answered) {
             *count += 1;
-            writeln!(text, "{}-{} {} {}", name, number, file(&case.bytes), line).unwrap();
+            writeln!(text, "{}-{} {} {}", name, number, file(&case.bytes), answered.line).unwrap();
         }
     }
     let lines = text.lines().filter(|l| !l.starts_with('#')).count();
@@ -56,13 +88,9 @@ const HOW: &str = "\
 # Answers of richter's program machine, as the show program's lines: NAME LENGTH HEX LINE, bytes not given are zeros.
 # Made by `rust/oracle/differential.sh sample`, from the Rust alone: load, then execute_program of function 1. unchanged: richter as it
 # is, where no named difference of document 01 plays a part. changed: the others, with the named differences changed to pr_exec.c's
-# way and NaN made canonical. An error is written as the refusal it stands for, the panic at the 100,000th statement as spent.
+# way and NaN made canonical. There are no entities. An error is written as the refusal it stands for, the panic at the 100,000th
+# statement as spent.
 ";
-
-/// Outcome and detail.
-fn answer(line: &str) -> String {
-    line.split(',').take(2).collect::<Vec<_>>().join(",")
-}
 
 fn file(bytes: &[u8]) -> String {
     let given = bytes.iter().rposition(|&b| b != 0).map_or(0, |last| last + 1);
@@ -70,28 +98,70 @@ fn file(bytes: &[u8]) -> String {
     format!("{} {}", bytes.len(), if hex.is_empty() { "-" } else { &hex })
 }
 
-fn line(case: &Case, variant: Variant) -> Option<String> {
+fn answered(case: &Case, variant: Variant) -> Option<Answered> {
     let view = View(&case.bytes);
     switches::set(&switches::ALL);
     if variant == Variant::Unchanged && !agrees_with_pr_exec(case) {
         return None;
     }
-    let mut level = match oracle::load(variant, &case.bytes) {
+    let mut level = match oracle::load(variant, &case.bytes, &Lent::default()) {
         Ok(level) => level,
-        Err(End::Error(text)) => return refused_load(&view, &text),
+        Err(End::Error(text)) => return refused_load(&view, &text).map(|line| Answered { line, builtins: Vec::new() }),
         Err(_) => return None,
     };
     // What 01's sizes refuse and the Rust takes.
-    if view.cells() > 32_768 || view.entity_cells() < 0 || negative_offset(&view) || wraps(&view) {
+    if view.cells() > 32_768 || view.entity_cells() < 0 || negative_offset(&view) || wraps(&view) || has_pointers_by_design(&view) {
         return None;
     }
     let seen = oracle::call(&mut *level, view.cells(), true, |l| l.execute_program(1));
-    ended(&view, variant, &seen)
+    let builtins = if seen.builtins_at.is_empty() { Vec::new() } else { builtins_called(case, variant)? };
+    if builtins.iter().any(|&number| builtin_name(number).is_empty()) {
+        return None;
+    }
+    let line = ended(&view, variant, &seen)?;
+    Some(Answered { line, builtins })
+}
+
+/// The numbers of the builtins that the run calls, the least first. The Rust's log doesn't tell them apart, so the run is made again with
+/// each builtin function replaced by one that panics. None where that can't tell: other parts of the file overlap the functions.
+fn builtins_called(case: &Case, variant: Variant) -> Option<Vec<i32>> {
+    let view = View(&case.bytes);
+    let functions = (0..).map_while(|i| view.function(i)).enumerate();
+    let mut numbers = Vec::new();
+    for (function, builtin) in functions.map(|(i, f)| (i, -f.first)).filter(|&(_, builtin)| builtin > 0) {
+        if calls(case, variant, function)? {
+            numbers.push(builtin);
+        }
+    }
+    numbers.sort_unstable();
+    numbers.dedup();
+    (!numbers.is_empty()).then_some(numbers)
+}
+
+/// Whether the run calls the function, a builtin. None where the file with another builtin in its place isn't loaded.
+fn calls(case: &Case, variant: Variant, function: usize) -> Option<bool> {
+    const SET_ORIGIN: i32 = -2;
+    let mut bytes = case.bytes.clone();
+    let at = View(&case.bytes).offset(Lump::Functions) as usize + 36 * function;
+    bytes[at..at + 4].copy_from_slice(&SET_ORIGIN.to_le_bytes());
+    let mut level = oracle::load(variant, &bytes, &Lent::default()).ok()?;
+    let end = oracle::call(&mut *level, 0, false, |l| l.execute_program(1)).end;
+    Some(matches!(end, End::Panic(panic) if panic.message.contains("builtin_set_origin")))
 }
 
 fn negative_offset(view: &View) -> bool {
     use crate::program::Lump::*;
     [Statements, GlobalDefs, FieldDefs, Functions, Strings, Cells].iter().any(|&l| view.offset(l) < 0)
+}
+
+/// Whether a statement would make a pointer, which the Rust does without entities too, or take one from a cell of another type.
+fn has_pointers_by_design(view: &View) -> bool {
+    let mut statements = (0..).map_while(|position| view.statement(position));
+    statements.any(|[opcode, _, b, _]| match opcode {
+        30 => true,
+        37..=42 => view.global_type(b).is_some_and(|type_| type_ != 7),
+        _ => false,
+    })
 }
 
 /// Whether the cells of an entry could be wrapped to 16 bits.
@@ -118,7 +188,7 @@ fn refused_load(view: &View, text: &str) -> Option<String> {
 fn agrees_with_pr_exec(case: &Case) -> bool {
     let cells = View(&case.bytes).cells();
     let seen = [Variant::Unchanged, Variant::Changed].map(|variant| {
-        let mut level = oracle::load(variant, &case.bytes).ok()?;
+        let mut level = oracle::load(variant, &case.bytes, &Lent::default()).ok()?;
         Some(oracle::call(&mut *level, cells, true, |l| l.execute_program(1)))
     });
     match seen {
@@ -129,9 +199,6 @@ fn agrees_with_pr_exec(case: &Case) -> bool {
 }
 
 fn ended(view: &View, variant: Variant, seen: &Seen) -> Option<String> {
-    if !seen.builtins_at.is_empty() {
-        return None;
-    }
     let state = &seen.observed;
     let (word, count) = match &seen.end {
         End::Done => ("ended,0".to_string(), seen.fetched),

@@ -1,5 +1,6 @@
 //! The customer's story: a match whose calls are refused again and again, and the call at its end.
 
+use crate::entities::Lent;
 use crate::oracle::{self, End, Variant};
 use crate::ours::{Answer, Ours};
 use crate::program::{Function, Program};
@@ -37,8 +38,9 @@ pub fn run() -> bool {
 fn one_match(title: &str, locals: i32) -> bool {
     println!("{}", title);
     let bytes = rules(locals).bytes();
-    let mut level = oracle::load_whole(Variant::Unchanged, &bytes);
-    let mut ours = Ours::load(&bytes).expect("a whole file");
+    let lent = Lent::default();
+    let mut level = oracle::load_whole(Variant::Unchanged, &bytes, &lent);
+    let mut ours = Ours::load(&bytes, &lent).expect("a whole file");
     let mut good = true;
     for hit in 1..=40 {
         let rust = oracle::call(&mut *level, 160, false, |l| l.execute_program(HIT));

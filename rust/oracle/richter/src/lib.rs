@@ -1,8 +1,8 @@
 //! The program machine of richter (cormac-obrien/richter, 506504d5f9, MIT, see ../LICENSE) as an oracle.
 //!
-//! `server/progs` is byte for byte richter's. `server/mod.rs` holds `execute_program` and `op_return` byte for byte, and stubs for what
-//! they call beside the machine. `server/world.rs` is a stub but for the two places that a load reaches. `check_carried_over.py` compares
-//! with the committed checksums, or with a checkout of richter.
+//! `server/progs` is byte for byte richter's. `server/mod.rs` holds `execute_program`, `op_return` and the loads and stores of fields byte
+//! for byte, and stubs for what they call beside the machine. `server/world` is a stub around richter's accessors of entities and its
+//! pointers. `check_carried_over.py` compares with the committed checksums, or with a checkout of richter.
 
 #![allow(dead_code)]
 #![allow(unused_imports)]

@@ -20,7 +20,7 @@ fetched-there c =
 returns : tie.Need-returns
 returns c =
     let s = c .before .before .before .before .before .before .before .before .before .before in
-    carry-unfetched _ (s .args .self) _ (s .args .store .now) (s .pre .loaded) _ (sym (c .before .fetched .given .1) ∙ fetched-there (c .before .before .before))
+    λ e. carry-unfetched _ (s .args .self) (s .pre .loaded) e _ _ (sym (c .before .fetched .given .1) ∙ fetched-there (c .before .before .before))
 
 hands-over-requires : tie.Need-hands-over-requires
 hands-over-requires c κs =
@@ -31,22 +31,14 @@ hands-over-requires c κs =
 returns-2 : tie.Need-returns-2
 returns-2 c =
     let s = c .before .before .before .before .before .before .before .before .before .before .before .before in
-    carry-handed _ (s .args .self) _ (s .args .store .now) (s .pre .loaded) _ _ (sym (c .before .before .before .fetched2 .given .1) ∙ fetched-there (c .before .before .before .before .before)) _ (c .before .hands-over .ensures (s .args .self .pc)) (c .if1 .taken)
+    λ e. carry-handed _ (s .args .self) (s .pre .loaded) e _ _ _ (sym (c .before .before .before .fetched2 .given .1) ∙ fetched-there (c .before .before .before .before .before)) _ (c .before .hands-over .ensures (s .args .self .pc) e) (c .if1 .taken)
 
 returns-3 : tie.Need-returns-3
 returns-3 c =
     let s = c .before .before .before .before .before .before .before .before .before .before .before .before in
-    carry-27 _ (s .args .self) _ (s .args .store .now) (s .pre .loaded) _ _ (sym (c .before .before .before .fetched2 .given .1) ∙ fetched-there (c .before .before .before .before .before)) _ (c .before .hands-over .ensures (s .args .self .pc)) (c .if1 .left)
+    λ e. carry-27 _ (s .args .self) (s .pre .loaded) e _ _ _ (sym (c .before .before .before .fetched2 .given .1) ∙ fetched-there (c .before .before .before .before .before)) _ (c .before .hands-over .ensures (s .args .self .pc) e) (c .if1 .left)
 
 pub carry-on-refusal-spec : {M : Type 1} → statement M
 carry-on-refusal-spec =
     tie.close
-    (tie.spec
-    (λ c κs. search needs)
-    (λ c κs. search needs)
-    (λ c. search needs)
-    returns
-    (λ c. search needs)
-    hands-over-requires
-    returns-2
-    returns-3)
+    (tie.spec (λ c κs. search needs) (λ c κs. search needs) (λ c. search needs) returns (λ c. search needs) hands-over-requires returns-2 returns-3)

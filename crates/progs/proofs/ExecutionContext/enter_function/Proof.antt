@@ -17,7 +17,7 @@ did c =
     c .enter-cells .ensures (programOf (s .args .file .now)) (functions-here _ _ (s .pre .loaded) _ (c .before .before .before .before .functions .ensures)) ∙ by-count _ _ _ _ _ _ (c .before .before .before .cell-count .ensures)
 
 returns : tie.Need-returns
-returns c = refused-entry _ _ _ _ _ _ _ _ (did (c .before .before .before .before .before .before .before)) (c .before .if1 .taken) _ _ (c .refused .ensures)
+returns c = λ entities. refused-entry _ _ _ _ _ _ _ _ (did (c .before .before .before .before .before .before .before)) (c .before .if1 .taken) entities _ _ (c .refused .ensures)
 
 push-frame-requires : tie.Need-push-frame-requires
 push-frame-requires c κs = entry-room _ _ _ _ _ _ _ _ (did (c .before .before .before .before .before .before .before)) (c .before .if1 .left)
@@ -27,20 +27,10 @@ returns-2 c =
     let s = c .before .before .before .before .before .before .before .before .before .before .before .before .before .before .before .before in
     let g : SFits w64 (s .args .back) = search needs in
     let k : SFits w64 (c .before .before .before .before .before .before .before .before .enter-cells .result .first) = search needs in
-    accepted-entry _ _ _ _ _ _ _ _ (did (c .before .before .before .before .before .before .before .before)) (c .before .before .if1 .left) _ _ (rw (toZ-ofZ g, toZ-ofZ k) at (c .push-frame .ensures))
+    λ entities. accepted-entry _ _ _ _ _ _ _ _ (did (c .before .before .before .before .before .before .before .before)) (c .before .before .if1 .left) entities _ _ (rw (toZ-ofZ g, toZ-ofZ k) at (c .push-frame .ensures))
 
 pub enter-function-spec : {M : Type 1} → statement M
 enter-function-spec =
     tie.close
-    (tie.spec
-    (λ c κs. search needs)
-    (λ c κs. search needs)
-    (λ c κs. search needs)
-    (λ c κs. search needs)
-    (λ c. search needs)
-    (λ c. search needs)
-    returns
-    push-frame-requires
-    (λ c. search needs)
-    (λ c. search needs)
-    returns-2)
+    (tie.spec (λ c κs. search needs) (λ c κs. search needs) (λ c κs. search needs) (λ c κs. search needs) (λ c. search needs) (λ c. search needs)
+    returns push-frame-requires (λ c. search needs) (λ c. search needs) returns-2)

@@ -10,7 +10,7 @@ move-cells-requires : tie.Need-move-cells-requires
 move-cells-requires c κs = let s = c .before .before .before .before .before in (present-of _ _ _ (omega arith), s .pre .1 .1)
 
 returns : tie.Need-returns
-returns c = λ P e. left-config _ _ P e _ _ _ _ (left-of _ _ P e _ (c .pop-frame .ensures)) (c .before .before .before .move-cells .ensures)
+returns c = λ P entities e. left-config _ _ P e _ _ _ _ entities (left-of _ _ P e _ (c .pop-frame .ensures)) (c .before .before .before .move-cells .ensures)
 
 pub leave-function-spec : {M : Type 1} → statement M
 leave-function-spec =

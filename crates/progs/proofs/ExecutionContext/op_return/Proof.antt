@@ -14,24 +14,16 @@ did c =
     c .return-cells .ensures (programOf (s .args .file .now)) (functions-here _ _ (s .pre .loaded) _ (c .before .before .before .functions .ensures)) ∙ return-by-count _ _ _ _ _ _ (c .before .before .cell-count .ensures)
 
 returns : tie.Need-returns
-returns c = refused-return _ _ _ _ _ _ _ (did (c .before .before .before .before .before)) (c .before .if1 .taken) _ (c .refused .ensures)
+returns c = λ entities. refused-return _ _ _ _ _ _ _ (did (c .before .before .before .before .before)) (c .before .if1 .taken) entities _ (c .refused .ensures)
 
 pop-frame-requires : tie.Need-pop-frame-requires
 pop-frame-requires c κs = let r = return-room _ _ _ _ _ _ _ (did (c .before .before .before .before)) (c .if1 .left) in (r .0, (c .before .before .before .before .before .before .before .before .before .before .before .pre .depth, r .1))
 
 returns-2 : tie.Need-returns-2
-returns-2 c = accepted-return _ _ _ _ _ _ _ (did (c .before .before .before .before .before)) (c .before .if1 .left) _ (c .pop-frame .ensures)
+returns-2 c = λ entities. accepted-return _ _ _ _ _ _ _ (did (c .before .before .before .before .before)) (c .before .if1 .left) entities _ (c .pop-frame .ensures)
 
 pub op-return-spec : {M : Type 1} → statement M
 op-return-spec =
     tie.close
-    (tie.spec
-    (λ c κs. search needs)
-    (λ c κs. search needs)
-    (λ c κs. search needs)
-    (λ c κs. search needs)
-    (λ c. search needs)
-    returns
-    pop-frame-requires
-    (λ c. search needs)
-    returns-2)
+    (tie.spec (λ c κs. search needs) (λ c κs. search needs) (λ c κs. search needs) (λ c κs. search needs) (λ c. search needs) returns
+    pop-frame-requires (λ c. search needs) returns-2)

@@ -14,43 +14,35 @@ use Rattle.progs.proofs.ExecutionContext.write.Statement.{statement}
 use Rattle.progs.proofs.ExecutionContext.write.Tie as tie
 
 -- the number that is found is that of the conditions
-number : (c : tie.After-raw-refusal) → let s = c .before .before .before .before .before in c .raw-refusal .result ≡ judge (rawConditions (programOf (s .args .file .now)) (s .args .address) (config (s .args .self) (s .args .cells .now) (s .args .store .now)))
+number : (c : tie.After-raw-refusal) → let s = c .before .before .before .before .before .before in c .raw-refusal .result ≡ judge (rawConditions (programOf (s .args .file .now)) (s .args .address) (config (s .args .self) (s .args .cells .now) (s .args .store .now) (s .args .entities .now)))
 number c =
-    let g : SFits w64 (c .before .before .before .before .before .args .address) = search needs in
+    let g : SFits w64 (c .before .before .before .before .before .before .args .address) = search needs in
     (rw (toZ-ofZ g) at (c .raw-refusal .ensures))
 
 -- none refuses
-clear : (c : tie.Else1) → let s = c .before .before .before .before .before .before in judge (rawConditions (programOf (s .args .file .now)) (s .args .address) (config (s .args .self) (s .args .cells .now) (s .args .store .now))) ≡ 0
+clear : (c : tie.Else1) → let s = c .before .before .before .before .before .before .before in judge (rawConditions (programOf (s .args .file .now)) (s .args .address) (config (s .args .self) (s .args .cells .now) (s .args .store .now) (s .args .entities .now))) ≡ 0
 clear c = sym (number (c .before)) ∙ c .if1 .left
 
 -- the place that the address names
-place : (c : tie.After-place-of) → c .place-of .result ≡ placeOf 0 (c .before .before .before .before .before .before .before .args .address)
+place : (c : tie.After-place-of) → c .place-of .result ≡ placeOf 0 (c .before .before .before .before .before .before .before .before .args .address)
 place c =
-    let g : SFits w64 (c .before .before .before .before .before .before .before .args .address) = search needs in
+    let g : SFits w64 (c .before .before .before .before .before .before .before .before .args .address) = search needs in
     (rw (toZ-ofZ g) at (c .place-of .ensures))
 
 returns : tie.Need-returns
-returns c = write-refused _ _ _ _ (c .before .before .before .before .before .before .before .args .address) _ _ _ (number (c .before .before)) (search needs) (search needs)
+returns c = write-refused _ _ _ _ _ (c .before .before .before .before .before .before .before .before .args .address) _ _ _ (number (c .before .before)) (search needs) (search needs)
 
 mul-cells : tie.Need-mul-cells
-mul-cells c = omega (arith, raw-there _ _ _ _ (c .before .before .before .before .before .before .before .args .address) _ (place c) (clear (c .before)))
+mul-cells c = omega (arith, raw-there _ _ _ _ _ (c .before .before .before .before .before .before .before .before .args .address) _ (place c) (clear (c .before)))
 
 slice-write-cells : tie.Need-slice-write-cells
-slice-write-cells c = raw-there _ _ _ _ (c .before .before .before .before .before .before .before .args .address) _ (place c) (clear (c .before))
+slice-write-cells c = raw-there _ _ _ _ _ (c .before .before .before .before .before .before .before .before .args .address) _ (place c) (clear (c .before))
 
 returns-2 : tie.Need-returns-2
-returns-2 c = write-done _ _ _ _ (c .before .before .before .before .before .before .before .args .address) _ (place c) (clear (c .before)) _
+returns-2 c = write-done _ _ _ _ _ (c .before .before .before .before .before .before .before .before .args .address) _ (place c) (clear (c .before)) _
 
 pub write-spec : {M : Type 1} → statement M
 write-spec =
     tie.close
-    (tie.spec
-    (λ c κs. search needs)
-    (λ c κs. search needs)
-    (λ c. search needs)
-    returns
-    (λ c κs. search needs)
-    mul-cells
-    slice-write-cells
-    (λ c. search needs)
-    returns-2)
+    (tie.spec (λ c κs. search needs) (λ c κs. search needs) (λ c. search needs) returns (λ c κs. search needs) mul-cells slice-write-cells
+    (λ c. search needs) returns-2)

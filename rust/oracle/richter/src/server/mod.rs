@@ -1,5 +1,6 @@
-//! `execute_program` and `op_return` are richter's (`server/mod.rs`), byte for byte. Everything else here is a STUB: a level without a
-//! world, whose builtins and entity opcodes panic with the text `handed over`, so that the runner can leave such a run out.
+//! `execute_program`, `op_return` and `op_load_f` to `op_storep_fnc` are richter's (`server/mod.rs`), byte for byte. Everything else here
+//! is a STUB: a level whose world has nothing but entities, and whose builtins and State opcode panic with the text `handed over`, so that
+//! the runner can leave such a run out.
 
 // Carried-over text is neither laid out anew nor linted.
 #[rustfmt::skip]
@@ -10,25 +11,28 @@ pub mod world;
 use std::{cell::RefCell, rc::Rc};
 
 use self::progs::{
-    functions::FunctionKind, globals::GLOBAL_ADDR_RETURN, ExecutionContext, FunctionId, Globals,
-    LoadProgs, Opcode, ProgsError, StringTable,
+    functions::FunctionKind, globals::GLOBAL_ADDR_RETURN, EntityFieldAddr, ExecutionContext,
+    FunctionId, Globals, LoadProgs, Opcode, ProgsError, StringTable,
 };
+use self::world::World;
 
-/// STUB: richter's has the world, precaches, cvars and time beside these.
+/// STUB: richter's has precaches, cvars and time beside these.
 #[derive(Debug)]
 pub struct LevelState {
     pub string_table: Rc<RefCell<StringTable>>,
     pub cx: ExecutionContext,
     pub globals: Globals,
+    pub world: World,
 }
 
 impl LevelState {
-    /// STUB: richter's makes the world, and spawns the entities of a map.
-    pub fn new(progs: LoadProgs) -> LevelState {
+    /// STUB: richter's reads a map, and spawns its entities. Here there are as many as are asked for, of zeros.
+    pub fn new(progs: LoadProgs, entities: usize) -> LevelState {
         LevelState {
-            string_table: progs.string_table,
+            string_table: progs.string_table.clone(),
             cx: progs.cx,
             globals: progs.globals,
+            world: World::create(progs.entity_def, progs.string_table, entities),
         }
     }
 
@@ -259,21 +263,213 @@ impl LevelState {
 
         Ok(())
     }
+
+    // LOAD_F: load float field from entity
+    pub fn op_load_f(&mut self, e_ofs: i16, e_f: i16, dest_ofs: i16) -> Result<(), ProgsError> {
+        let ent_id = self.globals.entity_id(e_ofs)?;
+
+        let fld_ofs = self.globals.get_field_addr(e_f)?;
+
+        let f = self.world.entity(ent_id).get_float(fld_ofs.0 as i16)?;
+        self.globals.put_float(f, dest_ofs)?;
+
+        Ok(())
+    }
+
+    // LOAD_V: load vector field from entity
+    pub fn op_load_v(
+        &mut self,
+        ent_id_addr: i16,
+        ent_vector_addr: i16,
+        dest_addr: i16,
+    ) -> Result<(), ProgsError> {
+        let ent_id = self.globals.entity_id(ent_id_addr)?;
+        let ent_vector = self.globals.get_field_addr(ent_vector_addr)?;
+        let v = self.world.entity(ent_id).get_vector(ent_vector.0 as i16)?;
+        self.globals.put_vector(v, dest_addr)?;
+
+        Ok(())
+    }
+
+    pub fn op_load_s(
+        &mut self,
+        ent_id_addr: i16,
+        ent_string_id_addr: i16,
+        dest_addr: i16,
+    ) -> Result<(), ProgsError> {
+        let ent_id = self.globals.entity_id(ent_id_addr)?;
+        let ent_string_id = self.globals.get_field_addr(ent_string_id_addr)?;
+        let s = self
+            .world
+            .entity(ent_id)
+            .string_id(ent_string_id.0 as i16)?;
+        self.globals.put_string_id(s, dest_addr)?;
+
+        Ok(())
+    }
+
+    pub fn op_load_ent(
+        &mut self,
+        ent_id_addr: i16,
+        ent_entity_id_addr: i16,
+        dest_addr: i16,
+    ) -> Result<(), ProgsError> {
+        let ent_id = self.globals.entity_id(ent_id_addr)?;
+        let ent_entity_id = self.globals.get_field_addr(ent_entity_id_addr)?;
+        let e = self
+            .world
+            .entity(ent_id)
+            .entity_id(ent_entity_id.0 as i16)?;
+        self.globals.put_entity_id(e, dest_addr)?;
+
+        Ok(())
+    }
+
+    pub fn op_load_fnc(
+        &mut self,
+        ent_id_addr: i16,
+        ent_function_id_addr: i16,
+        dest_addr: i16,
+    ) -> Result<(), ProgsError> {
+        let ent_id = self.globals.entity_id(ent_id_addr)?;
+        let fnc_function_id = self.globals.get_field_addr(ent_function_id_addr)?;
+        let f = self
+            .world
+            .entity(ent_id)
+            .function_id(fnc_function_id.0 as i16)?;
+        self.globals.put_function_id(f, dest_addr)?;
+
+        Ok(())
+    }
+
+    pub fn op_address(
+        &mut self,
+        ent_id_addr: i16,
+        fld_addr_addr: i16,
+        dest_addr: i16,
+    ) -> Result<(), ProgsError> {
+        let ent_id = self.globals.entity_id(ent_id_addr)?;
+        let fld_addr = self.globals.get_field_addr(fld_addr_addr)?;
+        self.globals.put_entity_field(
+            self.world.ent_fld_addr_to_i32(EntityFieldAddr {
+                entity_id: ent_id,
+                field_addr: fld_addr,
+            }),
+            dest_addr,
+        )?;
+
+        Ok(())
+    }
+
+    pub fn op_storep_f(
+        &mut self,
+        src_float_addr: i16,
+        dst_ent_fld_addr: i16,
+        unused: i16,
+    ) -> Result<(), ProgsError> {
+        if unused != 0 {
+            return Err(ProgsError::with_msg("storep_f: nonzero arg3"));
+        }
+
+        let f = self.globals.get_float(src_float_addr)?;
+        let ent_fld_addr = self
+            .world
+            .ent_fld_addr_from_i32(self.globals.get_entity_field(dst_ent_fld_addr)?);
+        self.world
+            .entity_mut(ent_fld_addr.entity_id)?
+            .put_float(f, ent_fld_addr.field_addr.0 as i16)?;
+
+        Ok(())
+    }
+
+    pub fn op_storep_v(
+        &mut self,
+        src_vector_addr: i16,
+        dst_ent_fld_addr: i16,
+        unused: i16,
+    ) -> Result<(), ProgsError> {
+        if unused != 0 {
+            return Err(ProgsError::with_msg("storep_v: nonzero arg3"));
+        }
+
+        let v = self.globals.get_vector(src_vector_addr)?;
+        let ent_fld_addr = self
+            .world
+            .ent_fld_addr_from_i32(self.globals.get_entity_field(dst_ent_fld_addr)?);
+        self.world
+            .entity_mut(ent_fld_addr.entity_id)?
+            .put_vector(v, ent_fld_addr.field_addr.0 as i16)?;
+
+        Ok(())
+    }
+
+    pub fn op_storep_s(
+        &mut self,
+        src_string_id_addr: i16,
+        dst_ent_fld_addr: i16,
+        unused: i16,
+    ) -> Result<(), ProgsError> {
+        if unused != 0 {
+            return Err(ProgsError::with_msg("storep_s: nonzero arg3"));
+        }
+
+        let s = self.globals.string_id(src_string_id_addr)?;
+        let ent_fld_addr = self
+            .world
+            .ent_fld_addr_from_i32(self.globals.get_entity_field(dst_ent_fld_addr)?);
+        self.world
+            .entity_mut(ent_fld_addr.entity_id)?
+            .put_string_id(s, ent_fld_addr.field_addr.0 as i16)?;
+
+        Ok(())
+    }
+
+    pub fn op_storep_ent(
+        &mut self,
+        src_entity_id_addr: i16,
+        dst_ent_fld_addr: i16,
+        unused: i16,
+    ) -> Result<(), ProgsError> {
+        if unused != 0 {
+            return Err(ProgsError::with_msg("storep_ent: nonzero arg3"));
+        }
+
+        let e = self.globals.entity_id(src_entity_id_addr)?;
+        let ent_fld_addr = self
+            .world
+            .ent_fld_addr_from_i32(self.globals.get_entity_field(dst_ent_fld_addr)?);
+        self.world
+            .entity_mut(ent_fld_addr.entity_id)?
+            .put_entity_id(e, ent_fld_addr.field_addr.0 as i16)?;
+
+        Ok(())
+    }
+
+    pub fn op_storep_fnc(
+        &mut self,
+        src_function_id_addr: i16,
+        dst_ent_fld_addr: i16,
+        unused: i16,
+    ) -> Result<(), ProgsError> {
+        if unused != 0 {
+            return Err(ProgsError::with_msg("storep_fnc: nonzero arg3"));
+        }
+
+        let f = self.globals.function_id(src_function_id_addr)?;
+        let ent_fld_addr = self
+            .world
+            .ent_fld_addr_from_i32(self.globals.get_entity_field(dst_ent_fld_addr)?);
+        self.world
+            .entity_mut(ent_fld_addr.entity_id)?
+            .put_function_id(f, ent_fld_addr.field_addr.0 as i16)?;
+
+        Ok(())
+    }
 }
 
 /// STUB: what reaches the world in richter, and goes to the host in the machine that is compared.
 fn handed_over(name: &str) -> Result<(), ProgsError> {
     panic!("handed over: {}", name)
-}
-
-macro_rules! handed_over_opcodes {
-    ($($name:ident),*) => {
-        impl LevelState {
-            $(pub fn $name(&mut self, _a: i16, _b: i16, _c: i16) -> Result<(), ProgsError> {
-                handed_over(stringify!($name))
-            })*
-        }
-    };
 }
 
 macro_rules! handed_over_builtins {
@@ -286,20 +482,12 @@ macro_rules! handed_over_builtins {
     };
 }
 
-handed_over_opcodes!(
-    op_load_f,
-    op_load_v,
-    op_load_s,
-    op_load_ent,
-    op_load_fnc,
-    op_address,
-    op_storep_f,
-    op_storep_v,
-    op_storep_s,
-    op_storep_ent,
-    op_storep_fnc,
-    op_state
-);
+impl LevelState {
+    /// STUB: it is handed to the host in the machine that is compared.
+    pub fn op_state(&mut self, _a: i16, _b: i16, _c: i16) -> Result<(), ProgsError> {
+        handed_over("op_state")
+    }
+}
 
 handed_over_builtins!(
     builtin_set_origin,
