@@ -3,6 +3,7 @@ pub mod Checks
 pub mod File
 pub mod Floats
 pub mod Cells
+pub mod Strings
 pub mod Statements
 pub mod Machine
 pub mod Load
