@@ -12,6 +12,7 @@ pub mod Answers
 pub mod Starred
 pub mod Rounding
 pub mod Fields
+pub mod StringRows
 pub mod Calls
 pub mod Log
 pub mod Trace

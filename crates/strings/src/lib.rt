@@ -115,14 +115,14 @@ fn check_strings(
     typed::check_cell(defs, count, typed::FLOAT, c)
 }
 
-fn same_strings(strings: &[u8], cells: &[u32], a: usize, b: usize) -> bool
-    requires { ⌜ ((a ≡ b → ⊥) → (a < length (now cells)) × (b < length (now cells))) ⌝ }
-    ensures { λ r. ⌜ r ≡ sameStrings (now (strings .entry)) a b (now (cells .entry)) ⌝ }
+fn same_strings(strings: &[u8], cells: &[u32], first: usize, second: usize) -> bool
+    requires { ⌜ ((first ≡ second → ⊥) → (first < length (now cells)) × (second < length (now cells))) ⌝ }
+    ensures { λ r. ⌜ r ≡ sameStrings (now (strings .entry)) first second (now (cells .entry)) ⌝ }
 {
-    if a == b {
+    if first == second {
         return true;
     }
-    same_text(strings, cells[a], cells[b])
+    same_text(strings, cells[first], cells[second])
 }
 
 // op_eq_s, op_ne_s; EqS gives 1.0 where the texts are the same, NeS where they are not.
