@@ -6,6 +6,7 @@ use crate::generate::{self, Case};
 use crate::oracle::{self, End, Seen, Variant};
 use crate::program::{Lump, View};
 use crate::runs::{names_are_texts, reserves_too_much};
+use crate::strings::{self, Met};
 use changed::switches;
 use std::collections::BTreeMap;
 use std::fmt::Write;
@@ -88,7 +89,7 @@ const HOW: &str = "\
 # Answers of richter's program machine, as the show program's lines: NAME LENGTH HEX LINE, bytes not given are zeros.
 # Made by `rust/oracle/differential.sh sample`, from the Rust alone: load, then execute_program of function 1. unchanged: richter as it
 # is, where no named difference of document 01 plays a part. changed: the others, with the named differences changed to pr_exec.c's
-# way and NaN made canonical. There are no entities. An error is written as the refusal it stands for, the panic at the 100,000th
+# way and NaN made canonical. There are no entities, and EqS, NeS and NotS are within the limit of 02's R-4. An error is written as the refusal it stands for, the panic at the 100,000th
 # statement as spent.
 ";
 
@@ -118,8 +119,28 @@ fn answered(case: &Case, variant: Variant) -> Option<Answered> {
     if builtins.iter().any(|&number| builtin_name(number).is_empty()) {
         return None;
     }
+    if !within_r4(case, variant, seen.fetched) {
+        return None;
+    }
     let line = ended(&view, variant, &seen)?;
     Some(Answered { line, builtins })
+}
+
+/// Whether all of a run's EqS, NeS and NotS are within R-4's limit. The run is made again and stopped at each of its statements; a long one
+/// isn't, and counts as outside.
+fn within_r4(case: &Case, variant: Variant, fetched: u64) -> bool {
+    const LONG: u64 = 200;
+    let view = View(&case.bytes);
+    if !strings::in_file(&view) {
+        return true;
+    }
+    fetched <= LONG
+        && (1..=fetched).all(|count| {
+            let mut level = oracle::load_whole(variant, &case.bytes, &Lent::default());
+            let seen = oracle::execute_until(&mut *level, view.cells(), count, 1);
+            let statement = view.statement(seen.observed.pc as i64);
+            seen.stopped() && statement.is_some_and(|statement| !matches!(strings::met(&view, &seen.cells, statement), Met::Outside(_)))
+        })
 }
 
 /// The numbers of the builtins that the run calls, the least first. The Rust's log doesn't tell them apart, so the run is made again with
