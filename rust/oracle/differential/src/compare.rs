@@ -94,7 +94,7 @@ fn allowed(class: Class, call: &Call, rules: Rules, rust: &Seen, ours: &Left) ->
     let refused = |numbers: &[u32]| matches!(ours.answer, Answer::Refused(n) if numbers.contains(&n));
     match class {
         Class::CellEqualToCount if failing.is_store_s() => refused(&[15, 17]),
-        Class::CellEqualToCount if failing.compares_strings() => refused(&[15, 33]),
+        Class::CellEqualToCount if failing.first_string_is_out(call, ours) => refused(&[33]),
         // A load's destination is checked first here; the Rust doesn't come to it.
         Class::AbsentEntity => refused(if failing.is_load() { &[15, 16, 30] } else { &[32] }),
         Class::FieldCellEqualToCount => refused(if failing.is_load() { &[15, 16, 31] } else { &[31] }),
@@ -207,7 +207,7 @@ fn error(call: &Call, rules: Rules, rust: &Seen, ours: &Left, text: &str) -> Ver
             // A negative string is refused where it is read; the Rust looks at the destination first.
             (15 | 16, 17) if failing.is_store_s() => Verdict::OtherNumber(rusts, 17),
             // The first number is outside the strings; the Rust doesn't look at it, and meets the second operand.
-            (15 | 16, 33) if failing.compares_strings() => Verdict::OtherNumber(rusts, 33),
+            (15 | 16, 33) if failing.first_string_is_out(call, ours) => Verdict::OtherNumber(rusts, 33),
             // A negative local count and the saved cells add up to a small number in the release build.
             (15, 23) if failing.has_negative_locals() => Verdict::OtherNumber(15, 23),
             // A load's destination is checked first here; the Rust meets what is wrong with the field before it.
@@ -256,8 +256,8 @@ impl Failing {
         matches!(self, Failing::Statement([33, ..]))
     }
 
-    fn compares_strings(&self) -> bool {
-        matches!(*self, Failing::Statement([opcode, ..]) if strings::compares(opcode))
+    fn first_string_is_out(&self, call: &Call, ours: &Left) -> bool {
+        matches!(*self, Failing::Statement(statement) if strings::first_out_of_range(&call.view, &ours.cells, statement))
     }
 
     /// Whether it is one of the opcodes that read a field.

@@ -105,7 +105,7 @@ const AT_LIMITS: [u32; 6] = [26, 27, 28, 0x7fff_ffff, 0x8000_0000, u32::MAX];
 pub fn string_number(r: &mut Random) -> u32 {
     match r.below(60) {
         0 => r.pick(&AT_LIMITS),
-        1 | 2 => r.pick(&AGAIN),
+        1..=8 => r.pick(&AGAIN),
         _ => r.pick(&DIFFERENT),
     }
 }
@@ -916,10 +916,22 @@ pub fn one_statement(r: &mut Random, entities: usize) -> Program {
         operands[1] = operands[0];
     }
     program.statements[0] = [opcode, operands[0], operands[1], operands[2]];
+    if types[0] == STRING && r.percent(85) {
+        set_strings(r, &mut program, operands);
+    }
     // A Return at depth 0 leaves function 0.
     program.functions[0].locals = r.percent(20) as i32;
     program.functions.push(Function { local: 30, locals: r.pick(&[0, 1, 4]), ..Function::default() });
     program
+}
+
+/// Most cells hold no strings, and few of them a number in range.
+fn set_strings(r: &mut Random, program: &mut Program, operands: [i16; 3]) {
+    for operand in operands {
+        if let Some(cell) = usize::try_from(operand).ok().and_then(|cell| program.cells.get_mut(cell)) {
+            *cell = string_number(r);
+        }
+    }
 }
 
 /// An opcode that reads or writes a field, or makes a pointer, with the types of its operands. The Rust has no functions of 28 and 41.

@@ -98,7 +98,7 @@ impl Tally {
             self.left_out.print("left out: the Rust panics, or hands to the host:");
         }
         if self.outside.total() > 0 {
-            self.outside.print("left out from a statement on that is outside R-4's limit, up to it equal:");
+            self.outside.print("outside R-4's limit; runs are left out from that statement on, and equal up to it:");
         }
         if self.named.total() > 0 {
             self.named.print("differences by pr_exec.c's way or NaN, by what explains them:");

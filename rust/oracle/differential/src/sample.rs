@@ -6,7 +6,7 @@ use crate::generate::{self, Case};
 use crate::oracle::{self, End, Seen, Variant};
 use crate::program::{Lump, View};
 use crate::runs::{names_are_texts, reserves_too_much};
-use crate::strings::{self, Met};
+use crate::strings::{self, Trace};
 use changed::switches;
 use std::collections::BTreeMap;
 use std::fmt::Write;
@@ -15,17 +15,24 @@ use std::fmt::Write;
 const BYTES: usize = 640;
 const TRIED: u64 = 40_000;
 
-/// An answer of the Rust: the show program's line, and the numbers of the builtins that the run called.
+/// An answer of the Rust: the show program's line, the numbers of the builtins that the run called, and which of EqS, NeS and NotS compared
+/// or tested string numbers.
 struct Answered {
     line: String,
     builtins: Vec<i32>,
+    strings: Trace,
 }
 
 impl Answered {
-    /// Outcome and detail, and the builtins if there are any: what the cases are counted by.
+    fn load(line: String) -> Answered {
+        Answered { line, builtins: Vec::new(), strings: Trace::default() }
+    }
+
+    /// Outcome and detail, and the builtins and string opcodes if there are any: what the cases are counted by.
     fn kind(&self) -> String {
         let answer = self.line.split(',').take(2).collect::<Vec<_>>().join(",");
-        let names: Vec<&str> = self.builtins.iter().map(|&number| builtin_name(number)).collect();
+        let mut names: Vec<&str> = self.builtins.iter().map(|&number| builtin_name(number)).collect();
+        names.extend(self.strings.names());
         match names.is_empty() {
             true => answer,
             false => format!("{} with {}", answer, names.join(" and ")),
@@ -49,7 +56,7 @@ fn most(answered: &Answered) -> usize {
     let line = &answered.line;
     match line.split(',').next() {
         Some("spent") => 6,
-        _ if !answered.builtins.is_empty() => 12,
+        _ if !answered.builtins.is_empty() || answered.strings.any() => 12,
         Some("ended") => 120,
         _ if line.split(',').count() == 2 => 12,
         _ => 25,
@@ -107,7 +114,7 @@ fn answered(case: &Case, variant: Variant) -> Option<Answered> {
     }
     let mut level = match oracle::load(variant, &case.bytes, &Lent::default()) {
         Ok(level) => level,
-        Err(End::Error(text)) => return refused_load(&view, &text).map(|line| Answered { line, builtins: Vec::new() }),
+        Err(End::Error(text)) => return refused_load(&view, &text).map(Answered::load),
         Err(_) => return None,
     };
     // What 01's sizes refuse and the Rust takes.
@@ -119,28 +126,33 @@ fn answered(case: &Case, variant: Variant) -> Option<Answered> {
     if builtins.iter().any(|&number| builtin_name(number).is_empty()) {
         return None;
     }
-    if !within_r4(case, variant, seen.fetched) {
-        return None;
-    }
+    let strings = strings_met(case, variant, seen.fetched)?;
     let line = ended(&view, variant, &seen)?;
-    Some(Answered { line, builtins })
+    Some(Answered { line, builtins, strings })
 }
 
-/// Whether all of a run's EqS, NeS and NotS are within R-4's limit. The run is made again and stopped at each of its statements; a long one
-/// isn't, and counts as outside.
-fn within_r4(case: &Case, variant: Variant, fetched: u64) -> bool {
+/// What the EqS, NeS and NotS of a run met; none where one is outside R-4's limit, or refused here by another number. The run is made again
+/// and stopped at each of its statements; a long one isn't, and counts as outside.
+fn strings_met(case: &Case, variant: Variant, fetched: u64) -> Option<Trace> {
     const LONG: u64 = 200;
     let view = View(&case.bytes);
+    let mut trace = Trace::default();
     if !strings::in_file(&view) {
-        return true;
+        return Some(trace);
     }
-    fetched <= LONG
-        && (1..=fetched).all(|count| {
-            let mut level = oracle::load_whole(variant, &case.bytes, &Lent::default());
-            let seen = oracle::execute_until(&mut *level, view.cells(), count, 1);
-            let statement = view.statement(seen.observed.pc as i64);
-            seen.stopped() && statement.is_some_and(|statement| !matches!(strings::met(&view, &seen.cells, statement), Met::Outside(_)))
-        })
+    if fetched > LONG {
+        return None;
+    }
+    for count in 1..=fetched {
+        let mut level = oracle::load_whole(variant, &case.bytes, &Lent::default());
+        let seen = oracle::execute_until(&mut *level, view.cells(), count, 1);
+        let statement = view.statement(seen.observed.pc as i64).filter(|_| seen.stopped())?;
+        if strings::first_out_of_range(&view, &seen.cells, statement) {
+            return None;
+        }
+        trace.add(strings::met(&view, &seen.cells, statement));
+    }
+    trace.outside.is_none().then_some(trace)
 }
 
 /// The numbers of the builtins that the run calls, the least first. The Rust's log doesn't tell them apart, so the run is made again with

@@ -8,15 +8,10 @@ const EQ_S: i16 = 12;
 const NE_S: i16 = 17;
 const NOT_S: i16 = 46;
 
-/// Whether the opcode compares two strings.
-pub fn compares(opcode: i16) -> bool {
-    matches!(opcode, EQ_S | NE_S)
-}
-
 /// Whether the file has a statement of the three at all.
 pub fn in_file(view: &View) -> bool {
     let mut statements = (0..).map_while(|position| view.statement(position));
-    statements.any(|[opcode, ..]| compares(opcode) || opcode == NOT_S)
+    statements.any(|[opcode, ..]| matches!(opcode, EQ_S | NE_S | NOT_S))
 }
 
 /// What puts a run outside the limit.
@@ -58,6 +53,13 @@ pub fn met(view: &View, cells: &[u32], [opcode, a, b, _]: [i16; 4]) -> Met {
         NOT_S if b == 0 => number(a).map_or(Met::Nothing, |number| tested(view, number)),
         _ => Met::Nothing,
     }
+}
+
+/// Whether EqS or NeS is refused 33 for its first number here. Where its second operand can't be read nothing is compared, and the Rust, which
+/// doesn't look at the number's range, refuses the statement too, for that operand.
+pub fn first_out_of_range(view: &View, cells: &[u32], [opcode, a, b, _]: [i16; 4]) -> bool {
+    let compares = matches!(opcode, EQ_S | NE_S) && a != b && b >= 0;
+    compares && number_in(view, cells, a).is_some_and(|number| text(view, number).is_none())
 }
 
 /// The number in a cell, where the cell is there and may be read as a string.
@@ -109,6 +111,12 @@ impl Trace {
             Met::Within(_) => self.not_s = true,
             Met::Outside(outside) => self.outside = Some(outside),
         }
+    }
+
+    /// The opcodes that compared or tested within the limit.
+    pub fn names(&self) -> impl Iterator<Item = &'static str> {
+        let met = [(self.eq_s, "EqS"), (self.ne_s, "NeS"), (self.not_s, "NotS")];
+        met.into_iter().filter(|(met, _)| *met).map(|(_, name)| name)
     }
 
     /// Whether a number was compared or tested at all.
