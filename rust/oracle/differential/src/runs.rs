@@ -226,14 +226,15 @@ fn one_call(levels: &mut Levels, call: &Call, rules: Rules, performed: &Performe
 
 /// A call outside R-4's limit. The Rust must come to the same statement after as many others, and everything be equal there.
 fn outside_r4(levels: &mut Levels, call: &Call, rules: Rules, left: &Left, outside: Outside) -> Verdict {
-    tally(Tallied::MetStrings, true);
-    tally(Tallied::Outside, true);
     let until = levels.execute_until(call.view.cells(), call.entered.unwrap_or(0), left.count + 1);
-    tally(Tallied::Uncounted, until.is_none());
-    match until {
-        Some(seen) => set_apart(call, rules, &seen, left, stopped(rules, &seen, left, outside)),
+    let verdict = match &until {
+        Some(seen) => set_apart(call, rules, seen, left, stopped(rules, seen, left, outside)),
         None => Verdict::Outside(outside),
-    }
+    };
+    tally(Tallied::Uncounted, until.is_none());
+    tally(Tallied::MetStrings, true);
+    tally(Tallied::Outside, verdict == Verdict::Outside(outside));
+    verdict
 }
 
 /// The comparison, with the addresses that the Rust wraps, and what it does otherwise with entities, set apart.
