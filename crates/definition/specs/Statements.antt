@@ -165,7 +165,7 @@ operandGiven cell = (ltb cell 32768 otherwise 15) ∷ []
 abbrev pub stringAccess : Typing → List ℕ → ℕ → ℕ → List ℕ → Conditions
 stringAccess g bytes a b cells = cond (eqb a b) [] (textAccess g bytes a cells ++ textAccess g bytes b cells)
 
--- the bytes of the strings: "compare bytes up to a zero byte or the end of the strings"
+-- R-4: "compare bytes up to a zero byte or the end of the strings", which are `bytes`
 abbrev pub sameStrings : List ℕ → ℕ → ℕ → List ℕ → Bool
 sameStrings bytes a b cells = eqb a b || sameText (textOf bytes (getD cells a 0)) (textOf bytes (getD cells b 0))
 
