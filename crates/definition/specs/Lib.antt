@@ -11,6 +11,7 @@ pub mod Answers
 pub mod Starred
 pub mod Rounding
 pub mod Fields
+pub mod Voids
 pub mod Calls
 pub mod Log
 pub mod Trace
