@@ -5,7 +5,7 @@ ghost use lib.ListN.{length};
 ghost use Rattle.definition.specs.Checks.{judge};
 ghost use Rattle.functions.specs.Parts.{definitionsIn};
 ghost use Rattle.definition.specs.Cells.{lookup, scalar, passes, cellAccess, vectorAccess, access, mustBeNatural, readAccess, fieldCellAccess, fieldAccess};
-ghost use Rattle.typed.specs.Typing.{typing, fieldTyping, bindingIn, typeCheck};
+ghost use Rattle.typed.specs.Typing.{typing, typeCheck};
 ghost use Rattle.typed.specs.Checking.{threeRefusal, moveRefusal};
 use definition::DEFINITION_SIZE;
 use definition::SAVE_FLAG;
@@ -37,10 +37,10 @@ pub enum TypeCheck {
     Failed,
 }
 
-// The type of the first definition of a cell, where a void one counts only if it binds. A turn of the loop looks at two definitions, so that the test
-// for the end is made half as often; the first one of an odd number comes before them. Whether a type is void is asked of definitions of the cell alone.
-pub fn find(defs: &[u8], cell: usize, void_binds: bool) -> u16
-    ensures { λ r. ⌜ r ≡ lookup (bindingIn «void_binds» (definitionsIn (now (defs .entry)))) cell ⌝ }
+// The type of the first definition of a cell that isn't void. A turn of the loop looks at two definitions, so that the test for the end is made half as
+// often; the first one of an odd number comes before them. Whether a type is void is asked of definitions of the cell alone.
+pub fn find(defs: &[u8], cell: usize) -> u16
+    ensures { λ r. ⌜ r ≡ lookup (definitionsIn (now (defs .entry))) cell ⌝ }
 {
     if 65536 <= cell {
         return UNTYPED;
@@ -51,7 +51,7 @@ pub fn find(defs: &[u8], cell: usize, void_binds: bool) -> u16
     if i == 1 {
         if reads::u16_at(defs, 2) == wanted {
             let t = reads::u16_at(defs, 0) % SAVE_FLAG;
-            if void_binds | (t != VOID) {
+            if t != VOID {
                 return t;
             }
         }
@@ -63,13 +63,13 @@ pub fn find(defs: &[u8], cell: usize, void_binds: bool) -> u16
         let at = DEFINITION_SIZE * i;
         if reads::u16_at(defs, at + 2) == wanted {
             let t = reads::u16_at(defs, at) % SAVE_FLAG;
-            if void_binds | (t != VOID) {
+            if t != VOID {
                 break t;
             }
         }
         if reads::u16_at(defs, at + 10) == wanted {
             let t = reads::u16_at(defs, at + 8) % SAVE_FLAG;
-            if void_binds | (t != VOID) {
+            if t != VOID {
                 break t;
             }
         }
@@ -90,25 +90,18 @@ fn passes(t: u16, want: u16) -> bool
     (t == UNTYPED) | (scalar(t) == scalar(want))
 }
 
-// Where there are no definitions nothing is looked up.
-fn check_type(defs: &[u8], cell: usize, want: u16, void_binds: bool) -> TypeCheck
-    ensures { λ r. ⌜ r ≡ typeCheck (bindingIn «void_binds» (definitionsIn (now (defs .entry)))) want cell ⌝ }
+// The type check of a cell by global definitions, of an entity's cell by field definitions. Where there are none nothing is looked up.
+pub fn type_check(defs: &[u8], cell: usize, want: u16) -> TypeCheck
+    ensures { λ r. ⌜ r ≡ typeCheck (definitionsIn (now (defs .entry))) want cell ⌝ }
 {
     if defs.len() == 0 {
         return TypeCheck::Passed;
     }
-    if passes(find(defs, cell, void_binds), want) {
+    if passes(find(defs, cell), want) {
         TypeCheck::Passed
     } else {
         TypeCheck::Failed
     }
-}
-
-// The type check of a cell, by global definitions.
-pub fn type_check(defs: &[u8], cell: usize, want: u16) -> TypeCheck
-    ensures { λ r. ⌜ r ≡ typeCheck (definitionsIn (now (defs .entry))) want cell ⌝ }
-{
-    check_type(defs, cell, want, true)
 }
 
 // A typed access of one cell.
@@ -226,11 +219,11 @@ pub fn check_move(
     check_access(defs, count, tb, b)
 }
 
-// An access of one field cell, by field definitions, of which void ones are passed over: 31 if an entity hasn't so many cells.
+// An access of one field cell, by field definitions: 31 if an entity hasn't so many cells.
 fn check_field_cell(fields: &[u8], size: usize, want: u16, field: usize) -> u8
-    ensures { λ r. ⌜ r ≡ judge (fieldCellAccess (fieldTyping (now (fields .entry)) size) want field) ⌝ }
+    ensures { λ r. ⌜ r ≡ judge (fieldCellAccess (typing (now (fields .entry)) size) want field) ⌝ }
 {
-    let t = check_type(fields, field, want, false);
+    let t = type_check(fields, field, want);
     match t {
         TypeCheck::Failed => return 16,
         TypeCheck::Passed => {
@@ -244,7 +237,7 @@ fn check_field_cell(fields: &[u8], size: usize, want: u16, field: usize) -> u8
 
 // An access of a field: a vector is three cells, each typed as float.
 pub fn check_field(fields: &[u8], size: usize, want: u16, field: usize) -> u8
-    ensures { λ r. ⌜ r ≡ judge (fieldAccess (fieldTyping (now (fields .entry)) size) want field) ⌝ }
+    ensures { λ r. ⌜ r ≡ judge (fieldAccess (typing (now (fields .entry)) size) want field) ⌝ }
 {
     if want != VECTOR {
         return check_field_cell(fields, size, want, field);
