@@ -62,15 +62,15 @@ pub fn find(defs: &[u8], cell: usize) -> u16
         }
         let at = DEFINITION_SIZE * i;
         if reads::u16_at(defs, at + 2) == wanted {
-            let t = reads::u16_at(defs, at) % SAVE_FLAG;
-            if t != VOID {
-                break t;
+            let first = reads::u16_at(defs, at) % SAVE_FLAG;
+            if first != VOID {
+                break first;
             }
         }
         if reads::u16_at(defs, at + 10) == wanted {
-            let t = reads::u16_at(defs, at + 8) % SAVE_FLAG;
-            if t != VOID {
-                break t;
+            let second = reads::u16_at(defs, at + 8) % SAVE_FLAG;
+            if second != VOID {
+                break second;
             }
         }
         i += 2;

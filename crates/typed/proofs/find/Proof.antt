@@ -42,7 +42,7 @@ first-over : (c : tie.Joined6 Inv-loop μ-loop) →
 first-over c =
     let s = c .before .before .before .before .before .before .before .args in
     ⊎-elim
-    (λ w. void-over (s .defs .now) (s .cell) _ (omega arith) _ _ _ _ refl refl (c .before .u16-at3 .ensures) (w .1 .ensures) (w .0 .taken) (w .2 .left))
+    (λ w. void-over (s .defs .now) (s .cell) _ (omega arith) _ _ _ _ refl refl (c .before .u16-at3 .ensures) (w .1 .ensures) (w .0 .taken) (omega (arith, w .2 .left)))
     (λ w. passed-over (s .defs .now) (s .cell) _ (omega arith) _ _ refl (c .before .u16-at3 .ensures) (w .left))
     (c .if6 .came)
     ∙ c .before .before .before .loop .inv .2
@@ -55,7 +55,7 @@ loop-again c =
       omega arith,
       omega arith,
       rw two (⊎-elim
-          (λ w. void-over (s .defs .now) (s .cell) _ (omega arith) _ _ _ _ (omega arith) (omega arith) (c .before .u16-at5 .ensures) (w .1 .ensures) (w .0 .taken) (w .2 .left))
+          (λ w. void-over (s .defs .now) (s .cell) _ (omega arith) _ _ _ _ (omega arith) (omega arith) (c .before .u16-at5 .ensures) (w .1 .ensures) (w .0 .taken) (omega (arith, w .2 .left)))
           (λ w. passed-over (s .defs .now) (s .cell) _ (omega arith) _ _ (omega arith) (c .before .u16-at5 .ensures) (w .left))
           (c .if8 .came)
           ∙ first-over (c .before .before)),
