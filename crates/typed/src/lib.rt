@@ -1,11 +1,11 @@
 // Typed access to cells. A refusal is its number here, and 0 stands for none.
 ghost use mathlib.Core.Path.{_≡_};
-ghost use Prim.Native.Nat.{_≤_};
+ghost use Prim.Native.Nat.{_+_, _≤_};
 ghost use lib.ListN.{length};
 ghost use Rattle.definition.specs.Checks.{judge};
 ghost use Rattle.functions.specs.Parts.{definitionsIn};
 ghost use Rattle.definition.specs.Cells.{lookup, scalar, passes, cellAccess, vectorAccess, access, mustBeNatural, readAccess, fieldCellAccess, fieldAccess};
-ghost use Rattle.typed.specs.Typing.{typing, typeCheck};
+ghost use Rattle.typed.specs.Typing.{typing, givenBy, typeCheck};
 ghost use Rattle.typed.specs.Checking.{threeRefusal, moveRefusal};
 use definition::DEFINITION_SIZE;
 use definition::SAVE_FLAG;
@@ -37,8 +37,46 @@ pub enum TypeCheck {
     Failed,
 }
 
-// The type of the first definition of a cell that isn't void. A turn of the loop looks at two definitions, so that the test for the end is made half as
-// often; the first one of an odd number comes before them. Whether a type is void is asked of definitions of the cell alone.
+// The type that the definition at a place gives a cell: none if it is another cell's, or void.
+fn given(defs: &[u8], at: usize, wanted: u16) -> u16
+    requires { ⌜ at + 8 ≤ length (now defs) ⌝ }
+    ensures { λ r. ⌜ r ≡ givenBy 1 (now (defs .entry)) at wanted ⌝ }
+{
+    if reads::u16_at(defs, at + 2) != wanted {
+        return UNTYPED;
+    }
+    let kind = reads::u16_at(defs, at);
+    if kind % SAVE_FLAG == VOID {
+        return UNTYPED;
+    }
+    kind % SAVE_FLAG
+}
+
+// The same of two definitions, and of four.
+fn given_by_two(defs: &[u8], at: usize, wanted: u16) -> u16
+    requires { ⌜ at + 16 ≤ length (now defs) ⌝ }
+    ensures { λ r. ⌜ r ≡ givenBy 2 (now (defs .entry)) at wanted ⌝ }
+{
+    let t = given(defs, at, wanted);
+    if t != UNTYPED {
+        return t;
+    }
+    given(defs, at + DEFINITION_SIZE, wanted)
+}
+
+fn given_by_four(defs: &[u8], at: usize, wanted: u16) -> u16
+    requires { ⌜ at + 32 ≤ length (now defs) ⌝ }
+    ensures { λ r. ⌜ r ≡ givenBy 4 (now (defs .entry)) at wanted ⌝ }
+{
+    let t = given_by_two(defs, at, wanted);
+    if t != UNTYPED {
+        return t;
+    }
+    given_by_two(defs, at + 2 * DEFINITION_SIZE, wanted)
+}
+
+// The type of the first definition of a cell that isn't void. A turn of the second loop looks at four definitions, so that the test for the end is made once
+// for them; those that are over come before, one by one. Whether a definition is void is asked of definitions of the cell alone.
 pub fn find(defs: &[u8], cell: usize) -> u16
     ensures { λ r. ⌜ r ≡ lookup (definitionsIn (now (defs .entry))) cell ⌝ }
 {
@@ -47,33 +85,24 @@ pub fn find(defs: &[u8], cell: usize) -> u16
     }
     let wanted = cell as u16;
     let end = defs.len() / DEFINITION_SIZE;
-    let mut i = end % 2;
-    if i == 1 {
-        if reads::u16_at(defs, 2) == wanted {
-            let t = reads::u16_at(defs, 0) % SAVE_FLAG;
-            if t != VOID {
-                return t;
-            }
+    let over = end % 4;
+    let mut i: usize = 0;
+    while i < over {
+        let t = given(defs, DEFINITION_SIZE * i, wanted);
+        if t != UNTYPED {
+            return t;
         }
+        i += 1;
     }
     let found = loop {
         if i == end {
             break UNTYPED;
         }
-        let at = DEFINITION_SIZE * i;
-        if reads::u16_at(defs, at + 2) == wanted {
-            let first = reads::u16_at(defs, at) % SAVE_FLAG;
-            if first != VOID {
-                break first;
-            }
+        let t = given_by_four(defs, DEFINITION_SIZE * i, wanted);
+        if t != UNTYPED {
+            break t;
         }
-        if reads::u16_at(defs, at + 10) == wanted {
-            let second = reads::u16_at(defs, at + 8) % SAVE_FLAG;
-            if second != VOID {
-                break second;
-            }
-        }
-        i += 2;
+        i += 4;
     };
     found
 }
