@@ -67,14 +67,7 @@ fn check_string(defs: &[u8], count: usize, strings: &[u8], cells: &[u32], cell: 
 }
 
 // Equal operands are neither read nor checked further.
-fn check_pair(
-    defs: &[u8],
-    count: usize,
-    strings: &[u8],
-    cells: &[u32],
-    a: usize,
-    b: usize,
-) -> u8
+fn check_pair(defs: &[u8], count: usize, strings: &[u8], cells: &[u32], a: usize, b: usize) -> u8
     requires { ⌜ count ≤ length (now cells) ⌝ }
     ensures { λ r. ⌜ r ≡ pairRefusal (typing (now (defs .entry)) count) (now (strings .entry)) a b (now (cells .entry)) ⌝ }
 {
