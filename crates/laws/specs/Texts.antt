@@ -1,18 +1,20 @@
 -- TEXTS, document 02's R-4, for all strings and string numbers: what the text of a number is, when two texts are the same, by what EqS, NeS and NotS go, and
 -- which numbers are refused 33. (The rows of the definition's StringRows are cases of short texts; these laws hold of texts of any length and of all bytes.)
-use Prim.Native.Nat.{ℕ, zero, suc, _≤_, _<_}
+use Prim.Native.Nat.{ℕ, suc, _≤_, _<_}
 use mathlib.Core.Path.{_≡_, refl, sym, ap, _∙_, subst}
 use mathlib.Core.Logic.{_⊎_, inl, inr}
 use mathlib.Core.List.{List, [], _∷_, _++_}
 use mathlib.Core.Bool.{Bool, true, false, _&&_, _||_, Bool·beq, cond}
 use borrow.Author.Tests.{eqb-true, eqb-false, eq-eqb, ne-eqb, lt-ltb, le-ltb}
+use lib.IntN.{ℤ}
 use lib.ListN.{length, getD, set, drop}
 use lib.Dec.{eqb, ltb, eqb·suc-zero}
 use Rattle.definition.specs.Checks.{Conditions, _otherwise_, judge}
 use Rattle.definition.specs.Floats.{flag}
-use Rattle.definition.specs.Cells.{string, Typing, access}
+use Rattle.definition.specs.File.{Contents}
+use Rattle.definition.specs.Cells.{string, cellOf, Typing, typingOf, access}
 use Rattle.definition.specs.Strings.{upToZero, textOf, sameText, textAccess}
-use Rattle.definition.specs.Statements.{stringsEffect, negatesSEffect, sameStrings}
+use Rattle.definition.specs.Statements.{Entities, Does, effectDoes, stringsEffect, negatesSEffect, sameStrings, execute, shapeOf}
 use Rattle.definition.specs.CheckLaws.{and-left, and-right, or-cases, judge-append}
 use Rattle.laws.specs.Loadable.{Every}
 
@@ -183,3 +185,21 @@ module _ (g : Typing) (bytes : List ℕ) (cell : ℕ) (cells : List ℕ) where
   pub number-out-of-range : judge (access g string cell) ≡ 0 → length bytes ≤ getD cells cell 0 → judge (textAccess g bytes cell cells) ≡ 33
   unfolding textAccess judge
   number-out-of-range e h = rw (judge-append (access g string cell) _, e, le-ltb _ _ h)
+
+-- ---- the strings are the file's, all of them
+
+module _ (k : Contents) (p : ℤ) (a b c : ℕ) (e : Entities) (cells : List ℕ) where
+  abbrev statement : ℕ → Does
+  statement opcode = execute k p (record { opcode = opcode; arg1 = a; arg2 = b; arg3 = c }) e cells
+
+  pub eqs-is : statement 12 ≡ effectDoes p (stringsEffect true (typingOf k) (k .strings) (cellOf a) (cellOf b) (cellOf c) cells)
+  unfolding execute shapeOf
+  eqs-is = refl
+
+  pub nes-is : statement 17 ≡ effectDoes p (stringsEffect false (typingOf k) (k .strings) (cellOf a) (cellOf b) (cellOf c) cells)
+  unfolding execute shapeOf
+  nes-is = refl
+
+  pub nots-is : statement 46 ≡ effectDoes p (negatesSEffect (typingOf k) (k .strings) (cellOf a) (cellOf b) (cellOf c) cells)
+  unfolding execute shapeOf
+  nots-is = refl
