@@ -167,6 +167,9 @@ order =
     ∷ row "15 before 16 of the destination: NotS" (after teams (define string 30 ∷ []) (op 46 38 0 30) 0 4) (refused 15)
     ∷ row "33 before 16 of the destination: NotS" (after teams (define string 30 ∷ []) (op 46 28 0 30) 22 4) (refused 33)
     ∷ row "33 before 15 of the destination: NotS" (after teams [] (op 46 28 0 38) 22 4) (refused 33)
+    ∷ row "16 of the destination: NotS" (after teams (define string 30 ∷ []) (op 46 28 0 30) 4 4) (refused 16)
+    ∷ row "18 before 33: NotS" (after teams [] (op 46 28 1 30) 22 4) (refused 18)
+    ∷ row "18 before 33 of operand 0: NotS" (withZero (op 46 0 1 30) 22 0) (refused 18)
     ∷ []
 
 -- "Equal operands of EqS and NeS are still answered unread"
