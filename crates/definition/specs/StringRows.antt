@@ -26,18 +26,25 @@ teams =
     ++ (0xe9 ∷ 0 ∷ 0x69 ∷ 0 ∷ [])
     ++ (114 ∷ 101 ∷ 100 ∷ [])
 
--- x in cell 28, y in cell 29; every other cell has its own number in it
-abbrev contents : List ℕ → List Definition → Statement → ℕ → ℕ → Contents
-contents strings definitions st x y =
+abbrev over : List ℕ → List Definition → Statement → List ℕ → Contents
+over strings definitions st cells =
     record {
       statements = op 0 0 0 0 ∷ st ∷ [];
       globaldefs = definitions;
       fielddefs = [];
       functions = fn 0 0 0 0 [] ∷ plain ∷ [];
       strings = strings;
-      globals = set (set (numbers 36 0) 28 x) 29 y;
+      globals = cells;
       entityfields = 105;
     }
+
+-- x in cell 28, y in cell 29; every other cell has its own number in it
+abbrev contents : List ℕ → List Definition → Statement → ℕ → ℕ → Contents
+contents strings definitions st x y = over strings definitions st (set (set (numbers 36 0) 28 x) 29 y)
+
+-- all bytes but 0, once each, and one more, which a zero byte ends: 257 bytes
+abbrev allBytes : ℕ → List ℕ
+allBytes last = numbers 255 1 ++ (last ∷ 0 ∷ [])
 
 -- what stands in cell 30 after the statement
 abbrev after : List ℕ → List Definition → Statement → ℕ → ℕ → Seen
@@ -51,6 +58,10 @@ unequal x y = after teams [] (op 17 28 29 30) x y
 
 abbrev no : ℕ → Seen
 no x = after teams [] (op 46 28 0 30) x 29
+
+-- with x in cell 0 and y in cell 28
+abbrev withZero : Statement → ℕ → ℕ → Seen
+withZero st x y = from (over teams [] st (set (set (numbers 36 0) 0 x) 28 y)) (enter 1 (complete (cells 1 30)))
 
 abbrev one : Seen
 one = accepted (0x3f800000 ∷ [])
@@ -86,6 +97,14 @@ comparisons =
     ∷ row "the first byte differs" (equal 0 5) zero′
     ∷ row "both end with the strings" (equal 20 20) one
     ∷ row "what stands behind the zero byte isn't compared" (after (114 ∷ 0 ∷ 1 ∷ 114 ∷ 0 ∷ 2 ∷ []) [] (op 12 28 29 30) 0 3) one
+    ∷ row "a capital letter is another" (after (114 ∷ 0 ∷ 82 ∷ 0 ∷ []) [] (op 12 28 29 30) 0 2) zero′
+    ∷ row "a capital letter first" (after (114 ∷ 0 ∷ 82 ∷ 0 ∷ []) [] (op 12 28 29 30) 2 0) zero′
+    ∷ row "only a zero byte ends a text" (after (allBytes 1 ++ allBytes 2) [] (op 12 28 29 30) 0 257) zero′
+    ∷ row "a long text at a number over 255" (after (allBytes 1 ++ allBytes 1) [] (op 12 28 29 30) 0 257) one
+    ∷ row "operand 0 has the text of its number" (withZero (op 12 0 28 30) 4 0) one
+    ∷ row "and another text" (withZero (op 12 0 28 30) 4 3) zero′
+    ∷ row "the second operand 0" (withZero (op 12 28 0 30) 4 0) one
+    ∷ row "and another text" (withZero (op 12 28 0 30) 4 3) zero′
     ∷ row "a single zero byte" (after (0 ∷ []) [] (op 12 28 29 30) 0 0) one
     ∷ row "one completed statement, and no other cell"
     (from (contents teams [] (op 12 28 29 30) 0 4) (enter 1 (complete (state and cells 4 28)))) (accepted (2 ∷ 1 ∷ 1 ∷ 0 ∷ 0 ∷ 4 ∷ 0x3f800000 ∷ 31 ∷ []))
@@ -102,8 +121,9 @@ nots =
     ∷ row "a byte over 127" (no 15) zero′
     ∷ row "the last byte" (no 21) zero′
     ∷ row "the last byte, a zero byte" (after (114 ∷ 0 ∷ []) [] (op 46 28 0 30) 1 29) one
-    ∷ row "operand 0, whose number has a text" (from (contents teams [] (op 46 0 0 30) 0 0) (enter 1 (complete (cells 1 30)))) one
-    ∷ row "33: operand 0, whose number is out of range" (from (record { statements = op 0 0 0 0 ∷ op 46 0 0 30 ∷ []; globaldefs = []; fielddefs = []; functions = fn 0 0 0 0 [] ∷ plain ∷ []; strings = teams; globals = set (numbers 36 0) 0 22; entityfields = 105 }) (enter 1 (complete (cells 1 30)))) (refused 33)
+    ∷ row "operand 0, whose number has a text" (withZero (op 46 0 0 30) 4 4) one
+    ∷ row "operand 1, whose number has a text" (after teams [] (op 46 1 0 30) 0 0) zero′
+    ∷ row "33: operand 0, whose number is out of range" (withZero (op 46 0 0 30) 22 0) (refused 33)
     ∷ []
 
 -- ---- "a string number below 0 or not below the string length is refused 33, in each access after type and address"
@@ -119,6 +139,8 @@ refusals =
     ∷ row "33: NotS" (no 22) (refused 33)
     ∷ row "33: NotS below 0" (no 0x80000000) (refused 33)
     ∷ row "33: one byte of strings" (after (0 ∷ []) [] (op 12 28 29 30) 0 1) (refused 33)
+    ∷ row "33: operand 0 of EqS" (withZero (op 12 0 28 30) 22 0) (refused 33)
+    ∷ row "33: the second operand 0 of EqS" (withZero (op 12 28 0 30) 22 0) (refused 33)
     ∷ row "StoreS asks for no text" (after teams [] (op 33 28 30 0) 22 0) (accepted (22 ∷ []))
     ∷ []
 
@@ -145,6 +167,9 @@ order =
     ∷ row "15 before 16 of the destination: NotS" (after teams (define string 30 ∷ []) (op 46 38 0 30) 0 4) (refused 15)
     ∷ row "33 before 16 of the destination: NotS" (after teams (define string 30 ∷ []) (op 46 28 0 30) 22 4) (refused 33)
     ∷ row "33 before 15 of the destination: NotS" (after teams [] (op 46 28 0 38) 22 4) (refused 33)
+    ∷ row "16 of the destination: NotS" (after teams (define string 30 ∷ []) (op 46 28 0 30) 4 4) (refused 16)
+    ∷ row "18 before 33: NotS" (after teams [] (op 46 28 1 30) 22 4) (refused 18)
+    ∷ row "18 before 33 of operand 0: NotS" (withZero (op 46 0 1 30) 22 0) (refused 18)
     ∷ []
 
 -- "Equal operands of EqS and NeS are still answered unread"
@@ -177,6 +202,8 @@ noStrings =
     row "33: number 0, EqS" (bare (op 12 28 29 30)) (refused 33)
     ∷ row "33: number 0, NotS" (bare (op 46 28 0 30)) (refused 33)
     ∷ row "33: number 0 of operand 0, NotS" (bare (op 46 0 0 30)) (refused 33)
+    ∷ row "15 before 33, EqS" (bare (op 12 38 29 30)) (refused 15)
+    ∷ row "15 before 33, NotS" (bare (op 46 38 0 30)) (refused 15)
     ∷ row "equal operands are answered unread" (bare (op 17 28 28 30)) (accepted [])
     ∷ []
 
