@@ -91,16 +91,11 @@ module _ (n : ℕ) (defs : List ℕ) (cell : ℕ) where
 
   -- t is what the first m of them give
   module _ (m t : ℕ) (there : m ≤ n) (e : t ≡ givenBy m defs 0 cell) where
-    whole : m + (n - m) ≡ n
-    whole = omega arith
-
     pub found-first : (t ≡ 32768 → ⊥) → t ≡ givenBy n defs 0 cell
-    found-first h = rw (← whole) (found-in defs cell m (n - m) 0 t e h)
+    found-first h = found-from m 0 t (omega arith) e h ∙ all-of-them
 
     pub go-on-after : t ≡ 32768 → remaining n defs cell m ≡ givenBy n defs 0 cell
-    go-on-after h =
-        let place : 0 + 8 * m ≡ 8 * m = omega arith in
-        rw (← place) (passed-over defs cell m (n - m) 0 t e h ∙ ap (λ k. givenBy k defs 0 cell) whole)
+    go-on-after h = let next : m ≡ 0 + m = omega arith in ap (remaining n defs cell) next ∙ go-on-from m 0 t (omega arith) e h ∙ all-of-them
 
 module _ (defs : List ℕ) (cell : ℕ) where
   -- a definition's cell has 16 bits

@@ -1,8 +1,7 @@
 -- Of the first definitions those from number i on give what all of them give.
-use Prim.Native.Nat.{_+_, _-_, _*_, _≤_}
+use Prim.Native.Nat.{_-_, _≤_}
 use mathlib.Core.Path.{_≡_, _∙_}
 use native.Mathlib.Omega.{arith}
-use lib.ListN.{length}
 use borrow.Author.Needs.{needs}
 use Rattle.typed.specs.Typing.{givenBy}
 use Rattle.typed.proofs.Lookup.{remaining, all-of-them, none-left, found-from, go-on-from}
