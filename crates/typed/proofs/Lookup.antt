@@ -1,6 +1,6 @@
 -- Laws of the type lookup, definition by definition. Assumes nothing.
 use Prim.Native.Nat.{ℕ, zero, suc, _+_, _-_, _*_, _/_, _%_, _≤_, _<_}
-use mathlib.Core.Path.{_≡_, refl}
+use mathlib.Core.Path.{_≡_, refl, ap, _∙_}
 use mathlib.Core.List.{List}
 use mathlib.Core.Bool.{Bool, true, false, cond}
 use native.Mathlib.Omega.{arith}
@@ -63,32 +63,41 @@ module _ (defs : List ℕ) (cell : ℕ) where
     pub passed-over : t ≡ 32768 → givenBy n defs (at + 8 * m) cell ≡ givenBy (m + n) defs at cell
     passed-over h = rw (parts m n at, ← e, eq-eqb t 32768 h)
 
--- ---- the definitions from number i on
+-- ---- of the first n definitions those from number i on
 
-abbrev pub remaining : List ℕ → ℕ → ℕ → ℕ
-remaining defs cell i = givenBy (length defs / 8 - i) defs (8 * i) cell
+abbrev pub remaining : ℕ → List ℕ → ℕ → ℕ → ℕ
+remaining n defs cell i = givenBy (n - i) defs (8 * i) cell
 
-module _ (defs : List ℕ) (cell : ℕ) where
-  pub all-of-them : remaining defs cell 0 ≡ lookup (definitionsIn defs) cell
-  all-of-them = let all : length defs / 8 - 0 ≡ length defs / 8 = omega arith in rw all
+module _ (n : ℕ) (defs : List ℕ) (cell : ℕ) where
+  pub all-of-them : remaining n defs cell 0 ≡ givenBy n defs 0 cell
+  all-of-them = let all : n - 0 ≡ n = omega arith in rw all
 
-  pub none-left : (i : ℕ) → i ≡ length defs / 8 → 32768 ≡ remaining defs cell i
+  pub none-left : (i : ℕ) → i ≡ n → 32768 ≡ remaining n defs cell i
   unfolding records lookup
-  none-left i e = let none : length defs / 8 - i ≡ 0 = omega arith in rw none
+  none-left i e = let none : n - i ≡ 0 = omega arith in rw none
 
   -- t is what m of them give
-  module _ (m i t : ℕ) (there : i + m ≤ length defs / 8) (e : t ≡ givenBy m defs (8 * i) cell) where
-    split : m + (length defs / 8 - (i + m)) ≡ length defs / 8 - i
+  module _ (m i t : ℕ) (there : i + m ≤ n) (e : t ≡ givenBy m defs (8 * i) cell) where
+    split : m + (n - (i + m)) ≡ n - i
     split = omega arith
 
-    pub found-from : (t ≡ 32768 → ⊥) → t ≡ remaining defs cell i
-    found-from h = rw (← split) (found-in defs cell m (length defs / 8 - (i + m)) (8 * i) t e h)
+    pub found-from : (t ≡ 32768 → ⊥) → t ≡ remaining n defs cell i
+    found-from h = rw (← split) (found-in defs cell m (n - (i + m)) (8 * i) t e h)
 
-    pub go-on-from : t ≡ 32768 → remaining defs cell (i + m) ≡ remaining defs cell i
+    pub go-on-from : t ≡ 32768 → remaining n defs cell (i + m) ≡ remaining n defs cell i
     go-on-from h =
         let place : 8 * (i + m) ≡ 8 * i + 8 * m = omega arith in
-        rw (← split, place) (passed-over defs cell m (length defs / 8 - (i + m)) (8 * i) t e h)
+        rw (← split, place) (passed-over defs cell m (n - (i + m)) (8 * i) t e h)
 
+  -- t is what the first m of them give
+  module _ (m t : ℕ) (there : m ≤ n) (e : t ≡ givenBy m defs 0 cell) where
+    pub found-first : (t ≡ 32768 → ⊥) → t ≡ givenBy n defs 0 cell
+    found-first h = found-from m 0 t (omega arith) e h ∙ all-of-them
+
+    pub go-on-after : t ≡ 32768 → remaining n defs cell m ≡ givenBy n defs 0 cell
+    go-on-after h = let next : m ≡ 0 + m = omega arith in ap (remaining n defs cell) next ∙ go-on-from m 0 t (omega arith) e h ∙ all-of-them
+
+module _ (defs : List ℕ) (cell : ℕ) where
   -- a definition's cell has 16 bits
   pub none-so-high : ((k : ℕ) → getD defs k 0 < 256) → 65536 ≤ cell → 32768 ≡ lookup (definitionsIn defs) cell
   unfolding records lookup u16At byteAt

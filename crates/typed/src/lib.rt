@@ -1,6 +1,6 @@
 // Typed access to cells. A refusal is its number here, and 0 stands for none.
 ghost use mathlib.Core.Path.{_≡_};
-ghost use Prim.Native.Nat.{_+_, _≤_};
+ghost use Prim.Native.Nat.{_+_, _*_, _≤_};
 ghost use lib.ListN.{length};
 ghost use Rattle.definition.specs.Checks.{judge};
 ghost use Rattle.functions.specs.Parts.{definitionsIn};
@@ -75,8 +75,27 @@ fn given_by_four(defs: &[u8], at: usize, wanted: u16) -> u16
     given_by_two(defs, at + 2 * DEFINITION_SIZE, wanted)
 }
 
-// The type of the first definition of a cell that isn't void. A turn of the second loop looks at four definitions, so that the test for the end is made once
-// for them; those that are over come before, one by one. Whether a definition is void is asked of definitions of the cell alone.
+// The type that the first definitions, so many, give a cell.
+fn given_by_first(defs: &[u8], number: usize, wanted: u16) -> u16
+    requires { ⌜ 8 * number ≤ length (now defs) ⌝ }
+    ensures { λ r. ⌜ r ≡ givenBy number (now (defs .entry)) 0 wanted ⌝ }
+{
+    let mut i: usize = 0;
+    let found = loop {
+        if i == number {
+            break UNTYPED;
+        }
+        let t = given(defs, DEFINITION_SIZE * i, wanted);
+        if t != UNTYPED {
+            break t;
+        }
+        i += 1;
+    };
+    found
+}
+
+// The type of the first definition of a cell that isn't void. A turn of the loop looks at four definitions, so that the test for the end is made once for
+// them; those that are over come before. Whether a definition is void is asked of definitions of the cell alone.
 pub fn find(defs: &[u8], cell: usize) -> u16
     ensures { λ r. ⌜ r ≡ lookup (definitionsIn (now (defs .entry))) cell ⌝ }
 {
@@ -86,14 +105,11 @@ pub fn find(defs: &[u8], cell: usize) -> u16
     let wanted = cell as u16;
     let end = defs.len() / DEFINITION_SIZE;
     let over = end % 4;
-    let mut i: usize = 0;
-    while i < over {
-        let t = given(defs, DEFINITION_SIZE * i, wanted);
-        if t != UNTYPED {
-            return t;
-        }
-        i += 1;
+    let first = given_by_first(defs, over, wanted);
+    if first != UNTYPED {
+        return first;
     }
+    let mut i = over;
     let found = loop {
         if i == end {
             break UNTYPED;
