@@ -12,6 +12,7 @@ use Rattle.definition.specs.declared.Definition.{Definition}
 use Rattle.definition.specs.declared.FunctionDef.{FunctionDef}
 use Rattle.definition.specs.File.{byteAt, u16At, u32At, records, readStatement, readDefinition, readFunction}
 use Rattle.definition.specs.Written.{u16Bytes, u32Bytes, statementBytes, definitionBytes, functionBytes, bytesOf}
+use Rattle.writing_laws.specs.Copied.{bytes-same}
 use Rattle.functions.specs.PartLaws.{Same, Local, byte-local, u32-local, statement-local, definition-local, function-local}
 
 -- ---- the bytes of f from a place on are these
@@ -77,12 +78,6 @@ module _ {A : Type 0} {read : List ℕ → ℕ → A} {write : A → List ℕ} {
 pub bytes : Inverse byteAt (λ x. x ∷ []) 1 Any
 unfolding byteAt
 bytes = record { own = byte-local; sized = λ x ok. refl; back = λ x ok. refl }
-
--- a lump of bytes is written as it stands
-pub bytes-same : (xs : List ℕ) → bytesOf (λ x. x ∷ []) xs ≡ xs
-unfolding bytesOf
-bytes-same [] = refl
-bytes-same (x ∷ xs) = ap (λ (ys : List ℕ). x ∷ ys) (bytes-same xs)
 
 u16-value : (x : ℕ) → x % 256 + 256 * (x / 256) ≡ x
 u16-value x = mod-add-div x 256

@@ -10,7 +10,8 @@ use Rattle.definition.specs.declared.FileRecord.{FileRecord}
 use Rattle.definition.specs.File.{versionOf, checkNumberOf, lumpAt, fileOf, u32At, byteAt, records, Contents, contentsAt, contentsOf}
 use Rattle.definition.specs.RecordLaws.{getD-records}
 use Rattle.definition.specs.Written.{u32Bytes, statementBytes, definitionBytes, functionBytes, bytesOf, layout, layoutOf, headerNumbers, written}
-use Rattle.writing_laws.specs.ReadBack.{Holds, holds-itself, holds-front, holds-back, Each, Any, each-any, Inverse, length-bytes, records-back, bytes, bytes-same, numbers, statements, definitions, Eight, functions}
+use Rattle.writing_laws.specs.ReadBack.{Holds, holds-itself, holds-front, holds-back, Each, Any, each-any, Inverse, length-bytes, records-back, bytes, numbers, statements, definitions, Eight, functions}
+use Rattle.writing_laws.specs.Copied.{bytes-same}
 
 -- every function has eight argument sizes: so it is in the contents of any file
 abbrev pub AllEight : Contents → Type 0
