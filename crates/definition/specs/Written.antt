@@ -124,30 +124,33 @@ written check k =
     ++ k .strings
     ++ bytesOf u32Bytes (k .globals)
 
--- ---- the operation, on a state and a lent output buffer
+-- ---- into a lent output buffer
 
 -- the output buffer after it, and the length of what was written
 pub record Image : Type 0 where
   pub output : List ℕ
   pub length : ℕ
 
+-- "An output buffer that is too short, or a written length over 1,048,576, is refused 34"
+abbrev pub roomConditions : List ℕ → ℕ → Conditions
+roomConditions bytes room = (leb (length bytes) room && leb (length bytes) longestFile otherwise 34) ∷ []
+
+-- at the front; 01: "A buffer written in part keeps the rest"
+abbrev pub atFront : List ℕ → List ℕ → Image
+atFront bytes output = record { output = bytes ++ drop (length bytes) output; length = length bytes }
+
+-- ---- the operation, on a state
+
 -- "The writer works from the file's own cells and not from the running ones"
 abbrev pub image : List ℕ → List ℕ
 image file = written checkNumber (contentsOf file)
 
--- 13 as in any operation on a state; "An output buffer that is too short, or a written length over 1,048,576, is refused 34"
+-- 13 as in any operation on a state, then 34
 unfoldable pub writeConditions : List ℕ → ℕ → Config → Conditions
-writeConditions file room c =
-    (sound (programOf file) c otherwise 13)
-    ∷ (leb (length (image file)) room && leb (length (image file)) longestFile otherwise 34)
-    ∷ []
+writeConditions file room c = (sound (programOf file) c otherwise 13) ∷ roomConditions (image file) room
 
--- 01: "A buffer written in part keeps the rest"
 unfoldable pub writeFile : List ℕ → List ℕ → Config → Checked Image
-writeFile file output c =
-    guard
-    (writeConditions file (length output) c)
-    (record { output = image file ++ drop (length (image file)) output; length = length (image file) })
+writeFile file output c = guard (writeConditions file (length output) c) (atFront (image file) output)
 
 -- what is answered
 abbrev pub writeAnswer : Checked Image → WriteAnswer
