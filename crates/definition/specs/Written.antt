@@ -136,8 +136,8 @@ abbrev pub roomConditions : List ℕ → ℕ → Conditions
 roomConditions bytes room = (leb (length bytes) room && leb (length bytes) longestFile otherwise 34) ∷ []
 
 -- at the front; 01: "A buffer written in part keeps the rest"
-abbrev pub atFront : List ℕ → List ℕ → Image
-atFront bytes output = record { output = bytes ++ drop (length bytes) output; length = length bytes }
+abbrev pub placed : List ℕ → List ℕ → Image
+placed bytes output = record { output = bytes ++ drop (length bytes) output; length = length bytes }
 
 -- ---- the operation, on a state
 
@@ -150,7 +150,7 @@ unfoldable pub writeConditions : List ℕ → ℕ → Config → Conditions
 writeConditions file room c = (sound (programOf file) c otherwise 13) ∷ roomConditions (image file) room
 
 unfoldable pub writeFile : List ℕ → List ℕ → Config → Checked Image
-writeFile file output c = guard (writeConditions file (length output) c) (atFront (image file) output)
+writeFile file output c = guard (writeConditions file (length output) c) (placed (image file) output)
 
 -- what is answered
 abbrev pub writeAnswer : Checked Image → WriteAnswer

@@ -20,7 +20,7 @@ use Rattle.definition.specs.Operations.{sound}
 use Rattle.definition.specs.CheckLaws.{All, and-both, and-left, and-right, all-both, guard-accepts, accepted-all}
 use Rattle.definition.specs.LoadLaws.{LoadRows, load-rows}
 use Rattle.definition.specs.RecordLaws.{length-records, length-globals}
-use Rattle.definition.specs.Written.{endOf, layout, layoutOf, written, Image, atFront, image, writeConditions, writeFile}
+use Rattle.definition.specs.Written.{endOf, layout, layoutOf, written, Image, placed, image, writeConditions, writeFile}
 use Rattle.writing_laws.specs.ReadBack.{Each, Eight}
 use Rattle.writing_laws.specs.Written.{AllEight, length-written, version-written, check-written, file-written, contents-written}
 
@@ -166,7 +166,7 @@ module _ (file output : List ℕ) where
       let all = accepted-all _ _ _ e in
       let fits : Bool = leb (length (image file)) (length output) in
       let short : Bool = leb (length (image file)) longestFile in
-      let made : atFront (image file) output ≡ i = all .1 in
+      let made : placed (image file) output ≡ i = all .1 in
       subst Writes made
       (record {
         front = take-at (image file) (drop (length (image file)) output) (length (image file)) refl;

@@ -1,0 +1,2 @@
+-- What the proofs of `writer` share.
+mod Copying
