@@ -90,6 +90,13 @@ module _ (f : List ℕ) (b : Bytes f) where
       (regroup (span f at 12) (u32Bytes 0) (span f (at + 16) 4) (span f (at + 20) 4) (span f (at + 24) 4) (span f (at + 28) 8)
       ∙ ap (λ (xs : List ℕ). span f at 12 ++ u32Bytes 0 ++ xs) (rw (e1, e2, e3, span-append f 4 4 (at + 16), span-append f 8 4 (at + 16)) (span-append f 12 8 (at + 16))))
 
+  -- in two parts of the bytes
+  pub function-parts : (at : ℕ) → at + 36 ≤ length f → functionBytes (readFunction f at) ≡ take 12 (drop at f) ++ (u32Bytes 0 ++ take 20 (drop (at + 16) f))
+  function-parts at h =
+      function-again at
+      ∙ append-assoc (span f at 12) (u32Bytes 0) (span f (at + 16) 20)
+      ∙ rw (span-take f 12 at (omega arith), span-take f 20 (at + 16) (omega arith)) refl
+
 -- ---- lumps
 
 module _ {A : Type 0} (read : List ℕ → ℕ → A) (write : A → List ℕ) (size : ℕ) where

@@ -3,3 +3,4 @@ pub mod Copied
 pub mod ReadBack
 pub mod Written
 pub mod Loads
+pub mod Lumps

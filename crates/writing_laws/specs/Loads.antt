@@ -31,9 +31,12 @@ unfolding records
 eight-records file zero at = tt
 eight-records file (suc n) at = (length-records (byteAt file) 1 8 (at + 28), eight-records file n (at + 36))
 
-eight : (file : List ℕ) → AllEight (contentsOf file)
+pub eight-at : (r : FileRecord) (file : List ℕ) → AllEight (contentsAt r file)
 unfolding contentsAt
-eight file = eight-records file (fileOf file .functions .count) (fileOf file .functions .offset)
+eight-at r file = eight-records file (r .functions .count) (r .functions .offset)
+
+eight : (file : List ℕ) → AllEight (contentsOf file)
+eight file = eight-at (fileOf file) file
 
 -- ---- the written file loads
 

@@ -42,7 +42,7 @@ module _ (f : List ℕ) (check : ℕ) (r : FileRecord) (h : Holds f 0 (bytesOf u
       rw (e, at 2 (omega arith), at 3 (omega arith), at 4 (omega arith), at 5 (omega arith), at 6 (omega arith), at 7 (omega arith), at 8 (omega arith))
       (rw (at 9 (omega arith), at 10 (omega arith), at 11 (omega arith), at 12 (omega arith), at 13 (omega arith), at 14 (omega arith)) refl)
 
-length-header : (check : ℕ) (r : FileRecord) → length (bytesOf u32Bytes (headerNumbers check r)) ≡ 60
+pub length-header : (check : ℕ) (r : FileRecord) → length (bytesOf u32Bytes (headerNumbers check r)) ≡ 60
 unfolding headerNumbers
 length-header check r = length-bytes numbers (headerNumbers check r) (each-any (headerNumbers check r))
 
