@@ -5,8 +5,8 @@ use mathlib.Core.List.{List, [], _∷_, _++_, append-nil, append-assoc}
 use native.Mathlib.Omega.{arith}
 use native.Mathlib.Numerals.{add-one}
 use lib.ListN.{length, getD, take, drop, set, drop-of-length-le}
-use lib.Seq.{drop-cons, set-at, append-snoc, take-suc, take-all, length-take-le, drop-drop}
-use Rattle.text.specs.Output.{output, put, Room, put-at}
+use lib.Seq.{drop-cons, set-at, append-snoc, take-suc, take-all, length-take-le, drop-drop, length-sets}
+use Rattle.text.specs.Output.{Output, output, put, Room, put-at}
 
 pub one-more : (xs old out : List ℕ) (i : ℕ) → i < length xs → length old ≡ length xs → out ≡ take i xs ++ drop i old
     → set out i (getD xs i 0) ≡ take (i + 1) xs ++ drop (i + 1) old
@@ -27,3 +27,8 @@ pub part-put : (b xs ys : List ℕ) (at end : ℕ) → Room xs (output b at) →
 part-put b xs ys at end room e same =
     let k : at + (end - at) ≡ at + length xs = omega arith in
     rw (same, drop-drop (end - at) at b, k, e) (rw (put-at xs (output b at) room, append-assoc (take at b) xs (drop (at + length xs) b)) refl)
+
+-- what is put leaves the buffer as long as it was
+pub put-length : (xs b b′ : List ℕ) (at next : ℕ) → output b′ next ≡ put xs (output b at) → length b′ ≡ length b
+unfolding put
+put-length xs b b′ at next e = ap (λ (o : Output). length (o .bytes)) e ∙ length-sets b at xs

@@ -1,2 +1,4 @@
 -- What the proofs of `writer` share.
 mod Copying
+mod Headers
+mod Functions

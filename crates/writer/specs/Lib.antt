@@ -1,1 +1,1 @@
--- What the writers' contracts cite.
+pub mod Header
