@@ -152,15 +152,14 @@ writeConditions file room c = (sound (programOf file) c otherwise 13) ∷ roomCo
 unfoldable pub writeFile : List ℕ → List ℕ → Config → Checked Image
 writeFile file output c = guard (writeConditions file (length output) c) (placed (image file) output)
 
--- what is answered
-abbrev pub writeAnswer : Checked Image → WriteAnswer
-writeAnswer (refused n) = write.Refused n
-writeAnswer (accepted i) = write.Length (i .length)
+-- what is answered, and the output buffer after it: "refused 34 and nothing is written"
+pub record WriteOutcome : Type 0 where
+  pub answer : WriteAnswer
+  pub output : List ℕ
 
--- the output buffer after it: "refused 34 and nothing is written"
-abbrev pub outputAfter : List ℕ → Checked Image → List ℕ
-outputAfter output (refused n) = output
-outputAfter output (accepted i) = i .output
+abbrev pub writeOutcome : List ℕ → Checked Image → WriteOutcome
+writeOutcome output (refused n) = record { answer = write.Refused n; output = output }
+writeOutcome output (accepted i) = record { answer = write.Length (i .length); output = i .output }
 
 -- the length that was written, 0 where it was refused; and the number of the refusal, 0 where there is none
 abbrev pub writtenLength : WriteAnswer → ℕ

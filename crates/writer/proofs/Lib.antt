@@ -2,3 +2,4 @@
 mod Copying
 mod Headers
 mod Functions
+mod Program

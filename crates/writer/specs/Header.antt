@@ -1,4 +1,4 @@
--- THE NUMBERS OF A HEADER that have room in its fields.
+-- THE NUMBERS OF A HEADER: that they have room in its fields, and that the lumps' lengths can be added up.
 use Prim.Native.Nat.{ℕ, _<_}
 use Rattle.definition.specs.declared.Lump.{Lump}
 use Rattle.definition.specs.declared.FileRecord.{FileRecord}
@@ -14,3 +14,11 @@ pub record Small (r : FileRecord) : Type 0 where
   pub strings : SmallLump (r .strings)
   pub globals : SmallLump (r .globals)
   pub entityfields : r .entityfields < 4294967296
+
+pub record Counted (r : FileRecord) : Type 0 where
+  pub statements : r .statements .count < 2147483648
+  pub globaldefs : r .globaldefs .count < 2147483648
+  pub fielddefs : r .fielddefs .count < 2147483648
+  pub functions : r .functions .count < 2147483648
+  pub strings : r .strings .count < 2147483648
+  pub globals : r .globals .count < 2147483648

@@ -6,15 +6,15 @@ ghost use Prim.Native.Nat.{_+_, _*_, _/_, _≤_, _<_};
 ghost use lib.ListN.{length, take, drop};
 ghost use mathlib.Core.Bool.{true};
 ghost use Rattle.definition.specs.File.{contentsAt, lumpFits};
-ghost use Rattle.definition.specs.Checks.{guard};
-ghost use Rattle.definition.specs.Written.{u16Bytes, u32Bytes, functionBytes, bytesOf, behind, layout, headerNumbers, written, roomConditions, placed, writeAnswer, outputAfter};
+ghost use Rattle.definition.specs.Written.{u16Bytes, u32Bytes, functionBytes, bytesOf, behind, headerNumbers, written};
 ghost use Rattle.functions.specs.Laws.{AllFit};
 ghost use Rattle.functions.specs.Parts.{partOf, functionsIn};
 ghost use Rattle.text.specs.Output.{output, put, Room};
 ghost use Rattle.writing_laws.specs.Copied.{Bytes};
 ghost use Rattle.definition.specs.File.{readFunction};
 ghost use Rattle.writing_laws.specs.Lumps.{laidOut, lumpsOf, LumpBytes};
-ghost use Rattle.writer.specs.Header.{Small};
+ghost use Rattle.writer.specs.Header.{Small, Counted};
+ghost use Rattle.writer.specs.Outcomes.{outcomeOf, writing};
 use definition::CELL_SIZE;
 use definition::DEFINITION_SIZE;
 use definition::FUNCTION_SIZE;
@@ -149,13 +149,57 @@ fn write_lumps(out: &mut [u8], at: usize, file: &[u8], r: FileRecord) -> usize
     write_lump(out, next, file, CELL_SIZE, r.globals)
 }
 
-// A lump of so many records where one of records of a size ends.
-fn behind(size: usize, lump: Lump, count: usize) -> Lump
-    requires { ⌜ (lump .offset + size * lump .count < 18446744073709551616) × (size ≤ 36) ⌝ }
-    ensures { λ l. ⌜ l ≡ behind size lump count ⌝ }
+// As many records as a lump has, where another lump, of records of a size, ends.
+fn behind(size: usize, lump: Lump, next: Lump) -> Lump
+    requires { ⌜ lump .offset + size * lump .count < 18446744073709551616 ⌝ }
+    ensures { λ l. ⌜ l ≡ behind size lump (next .count) ⌝ }
 {
     Lump {
         offset: lump.offset + size * lump.count,
-        count,
+        count: next.count,
     }
+}
+
+// The lumps without gaps, behind the header.
+fn laid_out(r: FileRecord) -> FileRecord
+    requires { ⌜ Counted r ⌝ }
+    ensures { λ l. ⌜ l ≡ laidOut r ⌝ }
+{
+    let header = Lump {
+        offset: 0,
+        count: HEADER_LENGTH,
+    };
+    let statements = behind(1, header, r.statements);
+    let globaldefs = behind(STATEMENT_SIZE, statements, r.globaldefs);
+    let fielddefs = behind(DEFINITION_SIZE, globaldefs, r.fielddefs);
+    let functions = behind(DEFINITION_SIZE, fielddefs, r.functions);
+    let strings = behind(FUNCTION_SIZE, functions, r.strings);
+    let globals = behind(1, strings, r.globals);
+    FileRecord {
+        length: globals.offset + CELL_SIZE * globals.count,
+        statements,
+        globaldefs,
+        fielddefs,
+        functions,
+        strings,
+        globals,
+        entityfields: r.entityfields,
+    }
+}
+
+// The program of a file, with its lumps where a record of the file has them: at the front of the output buffer, or 34 and nothing.
+pub fn write_program(out: &mut [u8], check: u32, file: &[u8], r: FileRecord) -> WriteAnswer
+    requires { ⌜ AllFit (length (now file)) r ⌝ }
+    requires { ⌜ r .entityfields < 4294967296 ⌝ }
+    ensures { λ a. ⌜ outcomeOf a (now (out .exit)) ≡ writing (written check (contentsAt r (now (file .entry)))) (now (out .entry)) ⌝ }
+{
+    let laid = laid_out(r);
+    if out.len() < laid.length {
+        return WriteAnswer::Refused(34);
+    }
+    if LONGEST_FILE < laid.length {
+        return WriteAnswer::Refused(34);
+    }
+    let at = write_header(out, check, laid);
+    WriteAnswer::Length(write_lumps(out, at, file, r))
 }

@@ -72,11 +72,16 @@ unfolding headerConditions layout
 header-loads k e h =
     let file : fileOf (written checkNumber k) ≡ layoutOf k = file-written checkNumber k e in
     let size : length (written checkNumber k) ≡ layoutOf k .length = length-written checkNumber k e in
-    let short : layoutOf k .length ≤ 1048576 = rw size at h in
-    (rw file (and-both _ _ (le-leb 60 (layoutOf k .length) (omega arith)) (le-leb (layoutOf k .length) 1048576 short)),
-    (eq-eqb _ 6 (version-written checkNumber k e),
-    (eq-eqb _ checkNumber (check-written checkNumber k e),
-    (rw file (layout-fits _ _ _ _ _ _ _ short), tt))))
+    let short : layoutOf k .length ≤ 1048576 = rw size at h in (
+      rw file (and-both _ _ (le-leb 60 (layoutOf k .length) (omega arith)) (le-leb (layoutOf k .length) 1048576 short)),
+      (
+        eq-eqb _ 6 (version-written checkNumber k e),
+        (
+          eq-eqb _ checkNumber (check-written checkNumber k e),
+          (rw file (layout-fits _ _ _ _ _ _ _ short), tt),
+        ),
+      ),
+    )
 
 -- what a load counts of a file is as many as the contents have
 counts-strings : (file : List ℕ) → length (contentsOf file .strings) ≡ fileOf file .strings .count

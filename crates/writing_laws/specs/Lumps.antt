@@ -48,13 +48,14 @@ module _ (check : ℕ) (r : FileRecord) (file : List ℕ) where
   layout-counts : layoutOf (contentsAt r file) ≡ laidOut r
   unfolding contentsAt
   layout-counts =
-      rw
-      (length-records (readStatement file) 8 (r .statements .count) (r .statements .offset),
-      length-records (readDefinition file) 8 (r .globaldefs .count) (r .globaldefs .offset),
-      length-records (readDefinition file) 8 (r .fielddefs .count) (r .fielddefs .offset),
-      length-records (readFunction file) 36 (r .functions .count) (r .functions .offset),
-      length-records (byteAt file) 1 (r .strings .count) (r .strings .offset),
-      length-records (u32At file) 4 (r .globals .count) (r .globals .offset))
+      rw (
+        length-records (readStatement file) 8 (r .statements .count) (r .statements .offset),
+        length-records (readDefinition file) 8 (r .globaldefs .count) (r .globaldefs .offset),
+        length-records (readDefinition file) 8 (r .fielddefs .count) (r .fielddefs .offset),
+        length-records (readFunction file) 36 (r .functions .count) (r .functions .offset),
+        length-records (byteAt file) 1 (r .strings .count) (r .strings .offset),
+        length-records (u32At file) 4 (r .globals .count) (r .globals .offset),
+      )
       refl
 
   pub length-laid-out : length (written check (contentsAt r file)) ≡ laidOut r .length
@@ -67,9 +68,15 @@ module _ (check : ℕ) (r : FileRecord) (file : List ℕ) where
   pub written-lumps : AllFit (length file) r → LumpBytes r file → written check (contentsAt r file) ≡ header ++ lumpsOf r file
   unfolding written lumpsOf
   written-lumps fit b =
-      rw
-      (layout-counts, statements-again r file fit (b .statements), globaldefs-again r file fit (b .globaldefs), fielddefs-again r file fit (b .fielddefs),
-      ← part-functions r file fit, strings-again r file fit, globals-again r file fit (b .globals))
+      rw (
+        layout-counts,
+        statements-again r file fit (b .statements),
+        globaldefs-again r file fit (b .globaldefs),
+        fielddefs-again r file fit (b .fielddefs),
+        ← part-functions r file fit,
+        strings-again r file fit,
+        globals-again r file fit (b .globals),
+      )
       (simp append-assoc)
 
   length-functions : AllFit (length file) r → length (bytesOf functionBytes (functionsIn (partOf 36 (r .functions) file))) ≡ 36 * r .functions .count

@@ -89,14 +89,15 @@ same-length : tie.Need-same-length
 same-length c = omega (arith, put-length _ _ _ _ _ (whole (c .before .before)))
 
 returns : tie.Need-returns
-returns c =
-    (whole (c .before .before),
-    record {
-      statements = c .before .before .before .before .before .before .before .before .before .before .before .before .before .before .before .before .before .before .before .before .before .before .before .write-lump .ensures .1;
-      globaldefs = c .before .before .before .before .before .before .before .before .before .before .before .before .before .before .before .before .before .before .before .write-lump2 .ensures .1;
-      fielddefs = c .before .before .before .before .before .before .before .before .before .before .before .before .before .before .before .write-lump3 .ensures .1;
-      globals = c .before .before .write-lump5 .ensures .1;
-    })
+returns c = (
+  whole (c .before .before),
+  record {
+    statements = c .before .before .before .before .before .before .before .before .before .before .before .before .before .before .before .before .before .before .before .before .before .before .before .write-lump .ensures .1;
+    globaldefs = c .before .before .before .before .before .before .before .before .before .before .before .before .before .before .before .before .before .before .before .write-lump2 .ensures .1;
+    fielddefs = c .before .before .before .before .before .before .before .before .before .before .before .before .before .before .before .write-lump3 .ensures .1;
+    globals = c .before .before .write-lump5 .ensures .1;
+  },
+)
 
 pub write-lumps-spec : {M : Type 1} → statement M
 write-lumps-spec =
