@@ -4,3 +4,4 @@ pub mod ReadBack
 pub mod Written
 pub mod Loads
 pub mod Lumps
+pub mod Examples
