@@ -1,6 +1,7 @@
 -- THE LAWS OF DOCUMENT 02, R-6, on what is written: it loads and says the same; written again it is the same; files that say the same are written alike.
 use Prim.Native.Nat.{ℕ, zero, suc, _+_, _*_, _≤_, _<_}
 use mathlib.Core.Path.{_≡_, refl, sym, ap, _∙_, subst}
+use mathlib.Core.Logic.{inl, inr}
 use mathlib.Core.List.{List, [], _∷_, _++_}
 use mathlib.Core.Bool.{Bool, true, false, not, _&&_, _||_}
 use native.Mathlib.Nat.{mul-le-mul-right, one-mul}
@@ -17,10 +18,10 @@ use Rattle.definition.specs.File.{byteAt, checkNumber, leastCells, longestFile,
 use Rattle.definition.specs.Machine.{Config, entitiesFit}
 use Rattle.definition.specs.Load.{headerConditions, recordConditions, cellConditions, entityConditions, loadConditions, loaded, entitiesGiven, load, programOf}
 use Rattle.definition.specs.Operations.{sound}
-use Rattle.definition.specs.CheckLaws.{All, and-both, and-left, and-right, all-both, guard-accepts, accepted-all}
+use Rattle.definition.specs.CheckLaws.{All, and-both, and-left, and-right, all-both, guard-accepts, guard-refuses, accepted-all}
 use Rattle.definition.specs.LoadLaws.{LoadRows, load-rows}
 use Rattle.definition.specs.RecordLaws.{length-records, length-globals}
-use Rattle.definition.specs.Written.{endOf, layout, layoutOf, written, Image, placed, image, writeConditions, writeFile}
+use Rattle.definition.specs.Written.{endOf, layout, layoutOf, written, Image, placed, image, writeConditions, writeFile, writeOutcome}
 use Rattle.writing_laws.specs.ReadBack.{Each, Eight}
 use Rattle.writing_laws.specs.Written.{AllEight, length-written, version-written, check-written, file-written, contents-written}
 
@@ -187,3 +188,26 @@ module _ (file output : List ℕ) where
   pub written-from-file : (c c′ : Config) → sound (programOf file) c ≡ sound (programOf file) c′ → writeFile file output c ≡ writeFile file output c′
   unfolding writeFile writeConditions
   written-from-file c c′ e = rw e refl
+
+  -- ---- accepted exactly when, refused exactly when
+
+  -- 13 before 34, whatever the output buffer is
+  pub refuses-13 : (c : Config) → sound (programOf file) c ≡ false → writeFile file output c ≡ refused 13
+  unfolding writeFile writeConditions
+  refuses-13 c e = guard-refuses _ _ 12 (inl (e, refl))
+
+  -- a written file that is longer than the output buffer, or than any file may be
+  pub refuses-34 : (c : Config) → sound (programOf file) c ≡ true → (leb (length (image file)) (length output) && leb (length (image file)) longestFile) ≡ false
+      → writeFile file output c ≡ refused 34
+  unfolding writeFile writeConditions
+  refuses-34 c e h = guard-refuses _ _ 33 (inr (e, inl (h, refl)))
+
+  pub accepts : (c : Config) → sound (programOf file) c ≡ true → length (image file) ≤ length output → length (image file) ≤ longestFile
+      → writeFile file output c ≡ accepted (placed (image file) output)
+  unfolding writeFile writeConditions
+  accepts c e room short =
+      guard-accepts _ _ (e, (and-both (leb (length (image file)) (length output)) (leb (length (image file)) longestFile) (le-leb _ _ room) (le-leb _ _ short), tt))
+
+  -- "and nothing is written"
+  pub refused-keeps : (c : Config) (n : ℕ) → writeFile file output c ≡ refused n → writeOutcome output (writeFile file output c) .output ≡ output
+  refused-keeps c n e = rw e refl

@@ -2,14 +2,16 @@
 use Prim.Native.Nat.{ℕ, zero, suc, _+_, _*_, _≤_, _<_}
 use mathlib.Core.Path.{_≡_, refl, sym, ap, _∙_}
 use mathlib.Core.List.{List, [], _∷_, _++_}
-use native.Mathlib.Nat.{zero-add, one-mul}
+use native.Mathlib.Nat.{zero-add, one-mul, add-assoc, not-suc-le-zero, le-of-suc-le-suc}
 use native.Mathlib.Omega.{arith}
 use lib.ListN.{length, getD, length-append}
 use Rattle.definition.specs.declared.Lump.{Lump}
 use Rattle.definition.specs.declared.FileRecord.{FileRecord}
-use Rattle.definition.specs.File.{versionOf, checkNumberOf, lumpAt, fileOf, u32At, byteAt, records, Contents, contentsAt, contentsOf}
+use Rattle.definition.specs.declared.FunctionDef.{FunctionDef}
+use Rattle.definition.specs.File.{versionOf, checkNumberOf, lumpAt, fileOf, byteAt, u16At, u32At, records, Contents, contentsAt, contentsOf}
 use Rattle.definition.specs.RecordLaws.{getD-records}
-use Rattle.definition.specs.Written.{u32Bytes, statementBytes, definitionBytes, functionBytes, bytesOf, layout, layoutOf, headerNumbers, written}
+use Rattle.definition.specs.Written.{u16Bytes, u32Bytes, statementBytes, definitionBytes, functionBytes, bytesOf, layout, layoutOf, headerNumbers, written}
+use Rattle.functions.specs.PartLaws.{Same, u32-local}
 use Rattle.writing_laws.specs.ReadBack.{Holds, holds-itself, holds-front, holds-back, Each, Any, each-any, Inverse, length-bytes, records-back, bytes, numbers, statements, definitions, Eight, functions}
 use Rattle.writing_laws.specs.Copied.{bytes-same}
 
@@ -45,6 +47,26 @@ module _ (f : List ℕ) (check : ℕ) (r : FileRecord) (h : Holds f 0 (bytesOf u
 pub length-header : (check : ℕ) (r : FileRecord) → length (bytesOf u32Bytes (headerNumbers check r)) ≡ 60
 unfolding headerNumbers
 length-header check r = length-bytes numbers (headerNumbers check r) (each-any (headerNumbers check r))
+
+-- ---- profile numbers
+
+-- bytes 12 to 15 of a written function
+zero-profile : (d : FunctionDef) → u32At (functionBytes d) 12 ≡ 0
+unfolding functionBytes u32Bytes u16Bytes u32At u16At byteAt
+zero-profile d = refl
+
+profiles : (f : List ℕ) (at : ℕ) (ds : List FunctionDef) → Each Eight ds → Holds f at (bytesOf functionBytes ds) → (i : ℕ) → i < length ds → u32At f (at + 36 * i + 12) ≡ 0
+unfolding bytesOf
+profiles f at [] ok h i l = absurd (not-suc-le-zero l)
+profiles f at (d ∷ ds) ok h zero l =
+    let here = holds-front (functionBytes d) (bytesOf functionBytes ds) h in
+    let place : at + 36 * 0 + 12 ≡ at + 12 = omega arith in
+    let same : Same f (at + 12) (functionBytes d) 12 4 = record { byte = λ k n. rw (add-assoc at 12 k) (here .byte (12 + k) (omega (arith, functions .sized d (ok .0)))) } in
+    rw place (u32-local f (functionBytes d) (at + 12) 12 same ∙ zero-profile d)
+profiles f at (d ∷ ds) ok h (suc i) l =
+    let behind = rw (functions .sized d (ok .0)) at (holds-back (functionBytes d) (bytesOf functionBytes ds) h) in
+    let place : at + 36 * suc i + 12 ≡ at + 36 + 36 * i + 12 = omega arith in
+    rw place (profiles f (at + 36) ds (ok .1) behind i (le-of-suc-le-suc l))
 
 -- ---- parts one behind the other
 
@@ -158,3 +180,7 @@ module _ (check : ℕ) (k : Contents) (eight : AllEight k) where
       let of-t = records-back bytes f (layoutOf k .strings .offset) (k .strings) (each-any (k .strings)) (rw (bytes-same (k .strings)) (p .of-t)) in
       let of-c = records-back numbers f (layoutOf k .globals .offset) (k .globals) (each-any (k .globals)) (p .of-c) in
       rw (file-written, of-s, of-g, of-d, of-u, of-t, of-c) refl
+
+  -- "profile numbers 0"
+  pub profiles-written : (i : ℕ) → i < length (k .functions) → u32At (written check k) (layoutOf k .functions .offset + 36 * i + 12) ≡ 0
+  profiles-written i l = profiles (written check k) (layoutOf k .functions .offset) (k .functions) eight (places .of-u) i l
