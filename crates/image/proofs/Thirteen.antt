@@ -1,6 +1,6 @@
 -- Writing, by whether check 13 refuses. Assumes nothing.
 use Prim.Native.Nat.{ℕ}
-use mathlib.Core.Path.{_≡_, refl, sym, _∙_}
+use mathlib.Core.Path.{_≡_, refl, _∙_}
 use mathlib.Core.List.{List}
 use mathlib.Core.Bool.{true, false}
 use Rattle.definition.specs.declared.FileRecord.{FileRecord}

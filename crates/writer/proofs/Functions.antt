@@ -1,14 +1,11 @@
 -- One function more is written. Assumes nothing.
-use Prim.Native.Nat.{ℕ, suc, _+_, _-_, _*_, _/_, _≤_, _<_}
-use mathlib.Core.Path.{_≡_, refl, sym, ap, _∙_}
-use mathlib.Core.List.{List, [], _∷_, _++_}
-use native.Mathlib.Nat.{mul-suc}
-use native.Mathlib.Numerals.{add-one}
+use Prim.Native.Nat.{ℕ, suc, _+_, _-_, _*_, _≤_, _<_}
+use mathlib.Core.Path.{_≡_, refl}
+use mathlib.Core.List.{List, [], _++_}
 use native.Mathlib.Omega.{arith}
 use lib.ListN.{length, take, drop}
 use Rattle.definition.specs.File.{records, readFunction}
 use Rattle.definition.specs.Written.{u32Bytes, functionBytes, bytesOf}
-use Rattle.functions.specs.PartLaws.{record-ends}
 use Rattle.writing_laws.specs.Copied.{Bytes, function-parts}
 use Rattle.text.specs.Output.{Output, output, put, Room, put-none, Rest, rest-room, rest-next, rest-end}
 

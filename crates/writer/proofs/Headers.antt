@@ -1,8 +1,7 @@
 -- The numbers of a header, two by two. Assumes nothing.
 use Prim.Native.Nat.{ℕ, _≤_}
-use mathlib.Core.Path.{_≡_, refl, sym, ap, _∙_}
+use mathlib.Core.Path.{_≡_, refl, sym, ap}
 use mathlib.Core.List.{List, [], _∷_, _++_, append-assoc, append-nil}
-use native.Mathlib.Nat.{zero-add}
 use native.Mathlib.Omega.{arith}
 use lib.ListN.{length}
 use Rattle.definition.specs.declared.FileRecord.{FileRecord}

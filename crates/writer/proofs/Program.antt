@@ -1,8 +1,7 @@
 -- The whole file in the output buffer, or a refusal. Assumes nothing.
 use Prim.Native.Nat.{ℕ, _+_, _*_, _≤_, _<_}
-use mathlib.Core.Path.{_≡_, refl, sym, ap, _∙_}
+use mathlib.Core.Path.{_≡_, refl, ap}
 use mathlib.Core.List.{List, _++_}
-use mathlib.Core.Bool.{true, false}
 use native.Mathlib.Nat.{mul-le-mul-left, le-of-lt}
 use native.Mathlib.Omega.{arith}
 use lib.ListN.{length, drop}
@@ -12,7 +11,7 @@ use Rattle.definition.specs.declared.Lump.{Lump}
 use Rattle.definition.specs.declared.FileRecord.{FileRecord}
 use Rattle.definition.specs.Checks.{judge, guard}
 use Rattle.definition.specs.Written.{behind, layout}
-use Rattle.functions.specs.Laws.{AllFit, Fitting, lump-fitting}
+use Rattle.functions.specs.Laws.{AllFit, lump-fitting}
 use Rattle.text.specs.Output.{Output, output, put, put-front}
 use Rattle.writing_laws.specs.Lumps.{laidOut}
 use Rattle.writer.specs.Header.{Small, Counted}

@@ -1,5 +1,5 @@
 -- THE NUMBERS OF A HEADER: that they have room in its fields, and that the lumps' lengths can be added up.
-use Prim.Native.Nat.{ℕ, _<_}
+use Prim.Native.Nat.{_<_}
 use Rattle.definition.specs.declared.Lump.{Lump}
 use Rattle.definition.specs.declared.FileRecord.{FileRecord}
 

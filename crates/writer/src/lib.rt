@@ -1,17 +1,16 @@
 // Program files in document 02's one form (R-6), written into a lent output buffer. A writer stores its bytes from the place `at` on and gives the place
 // after them; it asks for room for all of them, and leaves the other bytes.
 ghost use mathlib.Core.Path.{_≡_};
-ghost use mathlib.Core.List.{List, [], _∷_, _++_};
-ghost use Prim.Native.Nat.{_+_, _*_, _/_, _≤_, _<_};
-ghost use lib.ListN.{length, take, drop};
 ghost use mathlib.Core.Bool.{true};
-ghost use Rattle.definition.specs.File.{contentsAt, lumpFits};
+ghost use mathlib.Core.List.{[], _∷_};
+ghost use Prim.Native.Nat.{_+_, _*_, _≤_, _<_};
+ghost use lib.ListN.{length};
+ghost use Rattle.definition.specs.File.{contentsAt, lumpFits, readFunction};
 ghost use Rattle.definition.specs.Written.{u16Bytes, u32Bytes, functionBytes, bytesOf, behind, headerNumbers, written};
 ghost use Rattle.functions.specs.Laws.{AllFit};
 ghost use Rattle.functions.specs.Parts.{partOf, functionsIn};
 ghost use Rattle.text.specs.Output.{output, put, Room};
 ghost use Rattle.writing_laws.specs.Copied.{Bytes};
-ghost use Rattle.definition.specs.File.{readFunction};
 ghost use Rattle.writing_laws.specs.Lumps.{laidOut, lumpsOf, LumpBytes};
 ghost use Rattle.writer.specs.Header.{Small, Counted};
 ghost use Rattle.writer.specs.Outcomes.{outcomeOf, writing};
@@ -27,7 +26,7 @@ use definition::VERSION;
 use definition::WriteAnswer;
 use functions::parts;
 
-// So many bytes as there are.
+// All of the bytes, into a part of the output buffer that is as long.
 fn copy(out: &mut [u8], xs: &[u8])
     requires { ⌜ length (now out) ≡ length (now xs) ⌝ }
     ensures { λ r. ⌜ now (out .exit) ≡ now (xs .entry) ⌝ }

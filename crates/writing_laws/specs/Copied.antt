@@ -4,7 +4,7 @@ use Prim.Native.Nat.{ℕ, zero, suc, _+_, _*_, _/_, _%_, _≤_, _<_}
 use mathlib.Core.Path.{_≡_, refl, sym, ap, _∙_}
 use mathlib.Core.Bool.{true}
 use mathlib.Core.List.{List, [], _∷_, _++_, append-assoc}
-use native.Mathlib.Nat.{add-assoc, add-zero, zero-add, mul-suc, mul-zero, mod-eq-of-lt, add-mul-mod-self-left, add-mul-div-left, div-eq-of-lt}
+use native.Mathlib.Nat.{add-zero, zero-add, mul-suc, mul-zero, mod-eq-of-lt, add-mul-mod-self-left, add-mul-div-left, div-eq-of-lt}
 use native.Mathlib.Numerals.{add-one}
 use native.Mathlib.Omega.{arith}
 use lib.ListN.{length, getD, take, drop}

@@ -1,7 +1,6 @@
 -- FILES WRITTEN BY HAND: what the definition writes of two programs, byte for byte. Document 02's R-6 has no worked values of its own.
-use Prim.Native.Nat.{ℕ}
 use mathlib.Core.Path.{_≡_, refl}
-use mathlib.Core.List.{List, [], _∷_}
+use mathlib.Core.List.{[], _∷_}
 use Rattle.definition.specs.File.{Contents}
 use Rattle.definition.specs.Written.{u16Bytes, u32Bytes, statementBytes, definitionBytes, functionBytes, bytesOf, layout, headerNumbers, written}
 

@@ -1,9 +1,9 @@
 -- THE LAWS OF DOCUMENT 02, R-6, on what is written: it loads and says the same; written again it is the same; files that say the same are written alike.
-use Prim.Native.Nat.{ℕ, zero, suc, _+_, _*_, _≤_, _<_}
+use Prim.Native.Nat.{ℕ, zero, suc, _+_, _*_, _≤_}
 use mathlib.Core.Path.{_≡_, refl, sym, ap, _∙_, subst}
 use mathlib.Core.Logic.{inl, inr}
-use mathlib.Core.List.{List, [], _∷_, _++_}
-use mathlib.Core.Bool.{Bool, true, false, not, _&&_, _||_}
+use mathlib.Core.List.{List, _++_}
+use mathlib.Core.Bool.{Bool, true, false, _&&_, _||_}
 use native.Mathlib.Nat.{mul-le-mul-right, one-mul}
 use native.Mathlib.Omega.{arith}
 use lib.IntN.{ℤ}
@@ -13,13 +13,13 @@ use lib.Dec.{leb, eqb}
 use borrow.Author.Tests.{leb-true, le-leb, lt-leb, eq-eqb}
 use Rattle.definition.specs.declared.Lump.{Lump}
 use Rattle.definition.specs.declared.FileRecord.{FileRecord}
-use Rattle.definition.specs.Checks.{Conditions, _otherwise_, Checked, refused, accepted}
-use Rattle.definition.specs.File.{byteAt, checkNumber, leastCells, longestFile, savedStore, fileOf, lumpFits, lumpsFit, lengthFits, cellsFit, entityFits, records, readFunction, Contents, contentsAt, contentsOf}
+use Rattle.definition.specs.Checks.{Conditions, refused, accepted}
+use Rattle.definition.specs.File.{byteAt, checkNumber, leastCells, longestFile, savedStore, fileOf, lumpFits, lumpsFit, records, readFunction, Contents, contentsAt, contentsOf}
 use Rattle.definition.specs.Machine.{Config, entitiesFit}
-use Rattle.definition.specs.Load.{headerConditions, recordConditions, cellConditions, entityConditions, loadConditions, loaded, entitiesGiven, load, programOf}
+use Rattle.definition.specs.Load.{headerConditions, recordConditions, cellConditions, entityConditions, loaded, entitiesGiven, load, programOf}
 use Rattle.definition.specs.Operations.{sound}
 use Rattle.definition.specs.CheckLaws.{All, and-both, and-left, and-right, all-both, guard-accepts, guard-refuses, accepted-all}
-use Rattle.definition.specs.LoadLaws.{LoadRows, load-rows}
+use Rattle.definition.specs.LoadLaws.{load-rows}
 use Rattle.definition.specs.RecordLaws.{length-records, length-globals}
 use Rattle.definition.specs.Written.{endOf, layout, layoutOf, written, Image, placed, image, writeConditions, writeFile, writeOutcome}
 use Rattle.writing_laws.specs.ReadBack.{Each, Eight}

@@ -1,14 +1,13 @@
 -- THE LUMPS OF A LENT FILE as a writer copies them: bytes as they stand, and functions one by one.
-use Prim.Native.Nat.{ℕ, _+_, _*_, _/_, _≤_}
-use mathlib.Core.Path.{_≡_, refl, sym, ap, _∙_}
-use mathlib.Core.List.{List, [], _∷_, _++_, append-assoc}
-use native.Mathlib.Nat.{one-mul}
+use Prim.Native.Nat.{ℕ, _*_}
+use mathlib.Core.Path.{_≡_, refl, ap, _∙_}
+use mathlib.Core.List.{List, _++_, append-assoc}
 use native.Mathlib.Omega.{arith}
 use lib.ListN.{length, length-append}
 use Rattle.definition.specs.declared.FileRecord.{FileRecord}
 use Rattle.definition.specs.File.{byteAt, u32At, readStatement, readDefinition, readFunction, contentsAt}
 use Rattle.definition.specs.RecordLaws.{length-records}
-use Rattle.definition.specs.Written.{u32Bytes, statementBytes, definitionBytes, functionBytes, bytesOf, layout, layoutOf, headerNumbers, written}
+use Rattle.definition.specs.Written.{u32Bytes, functionBytes, bytesOf, layout, layoutOf, headerNumbers, written}
 use Rattle.functions.specs.Laws.{AllFit}
 use Rattle.functions.specs.Parts.{partOf, functionsIn}
 use Rattle.functions.specs.PartLaws.{byte-local, u32-local, statement-local, definition-local, length-part, part-functions}

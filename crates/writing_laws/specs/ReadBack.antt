@@ -1,19 +1,17 @@
 -- READING WHAT WAS WRITTEN: one law for the records of any lump, over their writer and their reader. It is for every writer that gives a record as many
 -- bytes as the reader looks at, and from which the reader gets the record back.
-use Prim.Native.Nat.{ℕ, zero, suc, _+_, _*_, _/_, _%_, _<_}
-use mathlib.Core.Path.{_≡_, refl, sym, ap, _∙_}
+use Prim.Native.Nat.{ℕ, _+_, _*_, _/_, _%_, _<_}
+use mathlib.Core.Path.{_≡_, refl, sym, _∙_}
 use mathlib.Core.List.{List, [], _∷_, _++_}
 use native.Mathlib.Nat.{zero-add, add-assoc, mul-suc, mul-zero, mod-add-div}
 use native.Mathlib.Omega.{arith}
-use lib.ListN.{length, getD, length-append, List·getD-append}
+use lib.ListN.{length, length-append, List·getD-append}
 use lib.Seq.{getD-append-add}
-use Rattle.definition.specs.declared.Statement.{Statement}
-use Rattle.definition.specs.declared.Definition.{Definition}
 use Rattle.definition.specs.declared.FunctionDef.{FunctionDef}
 use Rattle.definition.specs.File.{byteAt, u16At, u32At, records, readStatement, readDefinition, readFunction}
 use Rattle.definition.specs.Written.{u16Bytes, u32Bytes, statementBytes, definitionBytes, functionBytes, bytesOf}
 use Rattle.writing_laws.specs.Copied.{bytes-same}
-use Rattle.functions.specs.PartLaws.{Same, Local, byte-local, u32-local, statement-local, definition-local, function-local}
+use Rattle.functions.specs.PartLaws.{Local, byte-local, u32-local, statement-local, definition-local, function-local}
 
 -- ---- the bytes of f from a place on are these
 

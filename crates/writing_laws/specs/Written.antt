@@ -1,18 +1,17 @@
 -- THE WRITTEN FILE, document 02's R-6: its length, its header, and that it says what was written.
-use Prim.Native.Nat.{ℕ, zero, suc, _+_, _*_, _≤_, _<_}
+use Prim.Native.Nat.{ℕ, zero, suc, _+_, _*_, _<_}
 use mathlib.Core.Path.{_≡_, refl, sym, ap, _∙_}
 use mathlib.Core.List.{List, [], _∷_, _++_}
 use native.Mathlib.Nat.{zero-add, one-mul, add-assoc, not-suc-le-zero, le-of-suc-le-suc}
 use native.Mathlib.Omega.{arith}
 use lib.ListN.{length, getD, length-append}
-use Rattle.definition.specs.declared.Lump.{Lump}
 use Rattle.definition.specs.declared.FileRecord.{FileRecord}
 use Rattle.definition.specs.declared.FunctionDef.{FunctionDef}
-use Rattle.definition.specs.File.{versionOf, checkNumberOf, lumpAt, fileOf, byteAt, u16At, u32At, records, Contents, contentsAt, contentsOf}
+use Rattle.definition.specs.File.{versionOf, checkNumberOf, fileOf, byteAt, u16At, u32At, records, Contents, contentsAt, contentsOf}
 use Rattle.definition.specs.RecordLaws.{getD-records}
 use Rattle.definition.specs.Written.{u16Bytes, u32Bytes, statementBytes, definitionBytes, functionBytes, bytesOf, layout, layoutOf, headerNumbers, written}
 use Rattle.functions.specs.PartLaws.{Same, u32-local}
-use Rattle.writing_laws.specs.ReadBack.{Holds, holds-itself, holds-front, holds-back, Each, Any, each-any, Inverse, length-bytes, records-back, bytes, numbers, statements, definitions, Eight, functions}
+use Rattle.writing_laws.specs.ReadBack.{Holds, holds-itself, holds-front, holds-back, Each, each-any, length-bytes, records-back, bytes, numbers, statements, definitions, Eight, functions}
 use Rattle.writing_laws.specs.Copied.{bytes-same}
 
 -- every function has eight argument sizes: so it is in the contents of any file

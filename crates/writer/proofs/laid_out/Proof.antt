@@ -1,5 +1,5 @@
 -- `writer::laid_out` meets its contract: each lump starts where the one before it ends, and no sum wraps. Assumes nothing.
-use mathlib.Core.Path.{_≡_, refl}
+use mathlib.Core.Path.{refl}
 use native.Mathlib.Omega.{arith}
 use borrow.Author.Needs.{needs}
 use Rattle.definition.specs.Written.{layout}

@@ -8,7 +8,6 @@ use lib.ListN.{take, drop}
 use Rattle.definition.specs.File.{byteAt, readFunction}
 use Rattle.definition.specs.Written.{u32Bytes, functionBytes}
 use Rattle.text.specs.Output.{Output, output, Rest, rest-all, rest-room, rest-next, rest-end}
-use Rattle.writing_laws.specs.Copied.{Bytes}
 use Rattle.writer.proofs.Functions.{function-cut}
 use Rattle.writer.proofs.write_function.Statement.{statement}
 use Rattle.writer.proofs.write_function.Tie as tie

@@ -1,7 +1,7 @@
 -- `writer::write_functions` meets its contract. The loop's invariant: what is left to be put is the functions from number i on. The measure is how many
 -- they are. Assumes nothing.
 use Prim.Native.Nat.{_/_, _-_, _≤_}
-use mathlib.Core.Path.{_≡_, refl}
+use mathlib.Core.Path.{_≡_}
 use native.Mathlib.Omega.{arith}
 use borrow.Author.Needs.{needs}
 use lib.ListN.{length}

@@ -2,7 +2,6 @@
 use native.Mathlib.Omega.{arith}
 use borrow.Author.Needs.{needs}
 use Rattle.definition.specs.File.{byteAt}
-use Rattle.writing_laws.specs.Copied.{Bytes}
 use Rattle.writer.proofs.Copying.{part-put}
 use Rattle.writer.proofs.write_part.Statement.{statement}
 use Rattle.writer.proofs.write_part.Tie as tie

@@ -1,5 +1,4 @@
 -- `writer::write_u16` meets its contract: the low byte is put, then the high one. Assumes nothing.
-use Prim.Native.Nat.{_/_, _%_}
 use mathlib.Core.Path.{refl}
 use mathlib.Core.List.{[], _∷_}
 use borrow.Author.Needs.{needs}

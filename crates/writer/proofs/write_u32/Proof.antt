@@ -1,7 +1,5 @@
 -- `writer::write_u32` meets its contract: the low half is put, then the high one. Assumes nothing.
-use Prim.Native.Nat.{_/_, _%_}
 use mathlib.Core.Path.{refl}
-use mathlib.Core.List.{[], _∷_}
 use borrow.Author.Needs.{needs}
 use Rattle.definition.specs.Written.{u32Bytes}
 use Rattle.text.specs.Output.{room-first, room-second, put-both}
