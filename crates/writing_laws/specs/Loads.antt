@@ -164,6 +164,7 @@ alike-says file file′ e = sym (written-says file) ∙ ap contentsOf e ∙ writ
 module _ (file output : List ℕ) where
   -- what an accepted one leaves: the written file at the front of the output buffer, whose other bytes stay
   pub record Writes (i : Image) : Type 0 where
+    pub size : i .length ≡ length (image file)
     pub front : take (i .length) (i .output) ≡ image file
     pub rest : drop (i .length) (i .output) ≡ drop (i .length) output
     pub room : i .length ≤ length output
@@ -178,11 +179,22 @@ module _ (file output : List ℕ) where
       let made : placed (image file) output ≡ i = all .1 in
       subst Writes made
       (record {
+        size = refl;
         front = take-at (image file) (drop (length (image file)) output) (length (image file)) refl;
         rest = drop-at (image file) (drop (length (image file)) output) (length (image file)) refl;
         room = leb-true _ _ (and-left fits short (all .0 .1 .0));
         short = leb-true _ _ (and-right fits short (all .0 .1 .0));
       })
+
+  -- and what was written is loaded: the whole sentence, of the bytes in the buffer
+  pub written-is-loaded : Accepted file → (c : Config) (i : Image) → writeFile file output c ≡ accepted i
+      → (number : ℤ) (cells saved entities : List ℕ) → Lent file number cells saved entities
+      → (load (take (i .length) (i .output)) number cells saved entities ≡ accepted (loaded (image file) (entitiesGiven number) cells saved entities))
+      × (contentsOf (take (i .length) (i .output)) ≡ contentsOf file)
+  written-is-loaded a c i e number cells saved entities lent =
+      let w = accepted-writes c i e in
+      let short : length (image file) ≤ longestFile = rw (w .size) at (w .short) in
+      rw (w .front) (written-loads file number cells saved entities a short lent, written-says file)
 
   -- "The writer works from the file's own cells and not from the running ones": any two states of the file, with any cells, write the same
   pub written-from-file : (c c′ : Config) → sound (programOf file) c ≡ sound (programOf file) c′ → writeFile file output c ≡ writeFile file output c′
