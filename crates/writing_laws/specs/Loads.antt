@@ -13,6 +13,7 @@ use lib.Dec.{leb, eqb}
 use borrow.Author.Tests.{leb-true, le-leb, lt-leb, eq-eqb}
 use Rattle.definition.specs.declared.Lump.{Lump}
 use Rattle.definition.specs.declared.FileRecord.{FileRecord}
+use Rattle.definition.specs.declared.WriteAnswer.the-variants as write
 use Rattle.definition.specs.Checks.{Conditions, refused, accepted}
 use Rattle.definition.specs.File.{byteAt, checkNumber, leastCells, longestFile, savedStore, fileOf, lumpFits, lumpsFit, records, readFunction, Contents, contentsAt, contentsOf}
 use Rattle.definition.specs.Machine.{Config, entitiesFit}
@@ -219,6 +220,21 @@ module _ (file output : List ℕ) where
   unfolding writeFile writeConditions
   accepts c e room short =
       guard-accepts _ _ (e, (and-both (leb (length (image file)) (length output)) (leb (length (image file)) longestFile) (le-leb _ _ room) (le-leb _ _ short), tt))
+
+  -- ---- what is answered, and the output buffer after it: one of these three
+
+  pub answers-13 : (c : Config) → sound (programOf file) c ≡ false
+      → writeOutcome output (writeFile file output c) ≡ record { answer = write.Refused 13; output = output }
+  answers-13 c e = rw (refuses-13 c e) refl
+
+  pub answers-34 : (c : Config) → sound (programOf file) c ≡ true → (leb (length (image file)) (length output) && leb (length (image file)) longestFile) ≡ false
+      → writeOutcome output (writeFile file output c) ≡ record { answer = write.Refused 34; output = output }
+  answers-34 c e h = rw (refuses-34 c e h) refl
+
+  pub answers-length : (c : Config) → sound (programOf file) c ≡ true → length (image file) ≤ length output → length (image file) ≤ longestFile
+      → writeOutcome output (writeFile file output c)
+      ≡ record { answer = write.Length (length (image file)); output = image file ++ drop (length (image file)) output }
+  answers-length c e room short = rw (accepts c e room short) refl
 
   -- "and nothing is written"
   pub refused-keeps : (c : Config) (n : ℕ) → writeFile file output c ≡ refused n → writeOutcome output (writeFile file output c) .output ≡ output

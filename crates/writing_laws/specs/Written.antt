@@ -75,6 +75,17 @@ longer before part e l = length-append before part ∙ cc
 holds-behind : {f : List ℕ} (before part : List ℕ) {end : ℕ} → length before ≡ end → Holds f 0 (before ++ part) → Holds f end part
 holds-behind before part e h = rw (zero-add (length before), e) at (holds-back before part h)
 
+-- ---- lumps one behind the other
+
+pub record Gapless (r : FileRecord) : Type 0 where
+  pub of-s : r .statements .offset ≡ 60
+  pub of-g : r .globaldefs .offset ≡ r .statements .offset + 8 * r .statements .count
+  pub of-d : r .fielddefs .offset ≡ r .globaldefs .offset + 8 * r .globaldefs .count
+  pub of-u : r .functions .offset ≡ r .fielddefs .offset + 8 * r .fielddefs .count
+  pub of-t : r .strings .offset ≡ r .functions .offset + 36 * r .functions .count
+  pub of-c : r .globals .offset ≡ r .strings .offset + r .strings .count
+  pub of-end : r .length ≡ r .globals .offset + 4 * r .globals .count
+
 -- ---- the parts of the written file
 
 module _ (check : ℕ) (k : Contents) (eight : AllEight k) where
@@ -164,6 +175,12 @@ module _ (check : ℕ) (k : Contents) (eight : AllEight k) where
 
   pub file-written : fileOf (written check k) ≡ layoutOf k
   file-written = file-back (written check k) check (layoutOf k) (places .of-header) length-written
+
+  -- "header, then the six lumps in header order without gaps", in 01's numbers and by its own header: the first lump starts behind the header, each of the others
+  -- where the one before it ends, and the file ends with the last
+  pub without-gaps : Gapless (fileOf (written check k))
+  unfolding layout
+  without-gaps = rw file-written (record { of-s = refl; of-g = refl; of-d = refl; of-u = refl; of-t = refl; of-c = rw (one-mul (length (k .strings))) refl; of-end = refl })
 
   -- ---- what it says
 
