@@ -29,6 +29,7 @@ typedef struct { const statement *s; const function *f; } frame;
 
 static const statement *statements;
 static const function *functions;
+static const char *strings;
 static cell *globals;
 static cell *entities;
 static int per_entity;
@@ -142,11 +143,14 @@ static long run(int number)
         case NE_F: c->f = a->f != b->f; break;
         case EQ_V: c->f = a[0].f == b[0].f && a[1].f == b[1].f && a[2].f == b[2].f; break;
         case NE_V: c->f = a[0].f != b[0].f || a[1].f != b[1].f || a[2].f != b[2].f; break;
-        case EQ_S: case EQ_E: case EQ_FNC: c->f = a->i == b->i; break;
-        case NE_S: case NE_E: case NE_FNC: c->f = a->i != b->i; break;
+        case EQ_S: c->f = strcmp(strings + a->i, strings + b->i) == 0; break;
+        case NE_S: c->f = strcmp(strings + a->i, strings + b->i) != 0; break;
+        case EQ_E: case EQ_FNC: c->f = a->i == b->i; break;
+        case NE_E: case NE_FNC: c->f = a->i != b->i; break;
         case NOT_F: c->f = a->f == 0; break;
         case NOT_V: c->f = a[0].f == 0 && a[1].f == 0 && a[2].f == 0; break;
-        case NOT_S: case NOT_ENT: case NOT_FNC: c->f = a->i == 0; break;
+        case NOT_S: c->f = a->i == 0 || strings[a->i] == 0; break;
+        case NOT_ENT: case NOT_FNC: c->f = a->i == 0; break;
         case LOAD_F: case LOAD_S: case LOAD_ENT: case LOAD_FLD: case LOAD_FNC: *c = *field(a, b); break;
         case LOAD_V: memcpy(c, field(a, b), 3 * sizeof *c); break;
         case ADDRESS: c->i = (int32_t)((char *)field(a, b) - (char *)entities); break;
@@ -196,9 +200,10 @@ static long run(int number)
     }
 }
 
+/* With a zero byte after it, for a text that ends with the strings. */
 static void *lump(const char *file, int32_t offset, int32_t count, size_t size)
 {
-    void *records = malloc(count * size + 1);
+    void *records = calloc(count * size + 1, 1);
     memcpy(records, file + offset, count * size);
     return records;
 }
@@ -217,6 +222,7 @@ int main(int count, char **words)
     memcpy(header, file, sizeof header);
     statements = lump(file, header[2], header[3], sizeof(statement));
     functions = lump(file, header[8], header[9], sizeof(function));
+    strings = lump(file, header[10], header[11], 1);
     globals = lump(file, header[12], header[13], sizeof(cell));
     per_entity = header[14];
     entities = calloc((count == 4 ? atoi(words[3]) : 0) * per_entity + 1, sizeof(cell));

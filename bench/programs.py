@@ -13,6 +13,8 @@ VELOCITY, POSITION, STEP = 51, 54, 57
 HALF = 47
 # four cells with the numbers of entities, a field's place, and pointers
 ENTITY, FIELD, POINTER = 51, 55, 56
+# three cells with the numbers of texts
+NAME = 51
 # how many entities the programs over fields are given
 ENTITIES = 5
 
@@ -21,7 +23,7 @@ def cell(value):
     return model.nearest(model.Fraction(value))
 
 
-def loop(body, turns, functions=(), more=(), definitions=(), cells=None, before=(), after=()):
+def loop(body, turns, functions=(), more=(), definitions=(), cells=None, before=(), after=(), strings=b"\0"):
     """The body so many times, counted and compared, in function 1; the result is SUM and the two cells after it."""
     size = len(body) + 2
     statements = [("Done",), *before, *body,
@@ -36,6 +38,7 @@ def loop(body, turns, functions=(), more=(), definitions=(), cells=None, before=
         statements=statements,
         functions=[model.function(), model.function(first=1), *functions],
         definitions=definitions,
+        strings=strings,
         cells=values,
     ).bytes())
 
@@ -75,6 +78,13 @@ def floors(turns):
     """A sum of halves, and its floor by builtin 37, which the machine does itself."""
     body = [("AddF", SUM, HALF, SUM), ("StoreF", SUM, 4), ("Call1", CALLED), ("StoreF", 1, PRODUCT)]
     return loop(body, turns, functions=[model.function(first=-37, arguments=-1)], cells={HALF: cell(model.Fraction(1, 2))})
+
+
+def names(turns):
+    """Team names: one that is at two places, two that begin alike, and a test whether one is empty. The Rust compares numbers alone."""
+    body = [("EqS", NAME, NAME + 1, 47), ("NeS", NAME, NAME + 2, 48), ("NotS", NAME + 2, 0, 49), ("AddF", SUM, 47, SUM)]
+    texts = [b"", b"Northern Rovers", b"Northern Rovers", b"Northern United", b""]
+    return loop(body, turns, cells={NAME: 1, NAME + 1: 17, NAME + 2: 33}, strings=b"\0".join(texts))
 
 
 def over_entities(body, turns, before=(), after=()):
@@ -125,6 +135,7 @@ PROGRAMS = [
     ("calls of floor", floors, 1000, 14000),
     ("vectors", vectors, 1000, 12000),
     ("floats, comparisons and jumps", branches, 700, 9000),
+    ("comparisons of team names", names, 1000, 14000),
     ("a rule file of fteqcc, 220 definitions", rule_file, 50, 1000),
 ]
 

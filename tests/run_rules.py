@@ -35,6 +35,7 @@ LINES = {
     # the Address of self.classname finds no entity
     "players.dat": "refused,30,2,3,1,1,0,00000000,00000000,00000000",
     "referee.dat": "refused,16,2,3,1,1,4,00000000,00000000,00000000",
+    "teams.dat": "ended,0,7,0,0,0,0,3f800000,3f800000,3f800000",
     "shout.dat": "builtin,23,1,2,1,1,0,00000000,00000000,00000000",
     "shout_optimised.dat": "refused,16,0,1,1,1,0,00000000,00000000,00000000",
 }
@@ -94,6 +95,24 @@ BY_HAND = [
     # AddF, StoreF and Call 30 times, then AddF and StoreF at depth 31
     ("referee.dat", "appeal", (), "refused:22", 30 * 3 + 2, {"appeals": 31}),
     ("referee.dat", "end_of_match", (), "ended", 4, {1: 0, 2: 0, 3: 0}),
+    # EqS, NeS and NotS, each with a StoreF, and Return
+    ("teams.dat", "derby", (), "ended", 7, {1: 1, 2: 1, 3: 1}),
+    # EqS, IfNot, AddF, StoreF for each match that counts, EqS and IfNot for one that doesn't; Return. The Reds are 25 and 53
+    ("teams.dat", "points", (Text(25),), "ended", 4 + 4 + 2 + 1, {1: 4}),
+    ("teams.dat", "points", (Text(53),), "ended", 4 + 4 + 2 + 1, {1: 4}),
+    ("teams.dat", "points", (Text(58),), "ended", 2 + 2 + 4 + 1, {1: 1}),
+    # "eds", and "Blues", who lost
+    ("teams.dat", "points", (Text(26),), "ended", 3 * 2 + 1, {1: 0}),
+    ("teams.dat", "points", (Text(30),), "ended", 3 * 2 + 1, {1: 0}),
+    # the strings are 3,164 bytes
+    ("teams.dat", "points", (Text(3163),), "ended", 3 * 2 + 1, {1: 0}),
+    ("teams.dat", "points", (Text(3164),), "refused:33", 0, {}),
+    ("teams.dat", "points", (Text(0xffffffff),), "refused:33", 0, {}),
+    # NotS, IfNot, Return; 36 is the sponsor's empty text
+    ("teams.dat", "unnamed", (Text(0),), "ended", 3, {1: 1}),
+    ("teams.dat", "unnamed", (Text(36),), "ended", 3, {1: 1}),
+    ("teams.dat", "unnamed", (Text(25),), "ended", 3, {1: 0}),
+    ("teams.dat", "unnamed", (Text(3164),), "refused:33", 0, {}),
     ("shout.dat", "shout", (), "builtin:23", 1, {}),
     ("shout_optimised.dat", "shout", (), "refused:16", 0, {}),
 ]

@@ -181,7 +181,7 @@ FLOATS = {
     64: bits(lambda m, n: m & n), 65: bits(lambda m, n: m | n),
 }
 COMPONENTS = {3: mul, 4: mul, 7: add, 9: sub}
-NUMBERS = {12: True, 13: True, 14: True, 17: False, 18: False, 19: False}
+NUMBERS = {13: True, 14: True, 18: False, 19: False}
 
 
 def dot(a, b):

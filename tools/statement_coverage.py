@@ -15,6 +15,9 @@ INFINITY = 0x7F800000
 HOST = {60}
 INSIDE = (36, 37, 38, 43)
 STORES, STORE_V, STRING_PAIRS, GOTO = range(31, 37), 32, (12, 17), 61
+# R-4's: EqS and NeS, NotS
+NOT_S = 46
+STRING_OPCODES = (*STRING_PAIRS, NOT_S)
 # R-3's: loads of a field, Address, stores through a pointer
 LOADS, ADDRESS, STORES_P = range(24, 30), 30, range(37, 43)
 FIELD_OPCODES = (*LOADS, ADDRESS, *STORES_P)
@@ -151,6 +154,8 @@ class Case:
             number = self.fault_of_cell(kind, cell)
             if number:
                 return number
+        if kind == 's' and self.vector.opcode in STRING_OPCODES and self.text(self.cell(at)) is None:
+            return 33
         read = index != self.written or self.vector.opcode in STORES and index == 0
         must = kind in 'ed' or (kind == 's' and self.vector.opcode == 33)
         return 17 if read and must and self.cell(at) >> 31 else 0
@@ -162,6 +167,42 @@ class Case:
             refused = self.vector.word == 'refused'
             assert not found if not refused else self.vector.number in found or not found and self.vector.opcode in FIELD_OPCODES
         return found
+
+    # ---- R-4
+
+    def strings(self):
+        offset, count = struct.unpack_from('<2i', self.vector.file.bytes, 40)
+        changed = self.bytes()
+        struct.pack_into('<4h', changed, self.vector.file.statements, self.vector.opcode, *self.operands)
+        return bytes(changed[offset:offset + count])
+
+    def text(self, number):
+        """The bytes of a string number, or nothing where it is refused 33."""
+        strings = self.strings()
+        if number >= len(strings):
+            return None
+        end = strings.find(0, number)
+        return strings[number:] if end < 0 else strings[number:end]
+
+    def texts(self):
+        """The numbers and texts that an EqS or NeS compares, or NotS looks at."""
+        if not self.accepted or self.vector.opcode not in STRING_OPCODES or self.unread(0):
+            return []
+        numbers = [self.cell(at) for at, kind in zip(self.operands, self.kinds) if kind == 's']
+        return [(number, self.text(number)) for number in numbers]
+
+    def pair(self, test):
+        """EqS or NeS of two texts that pass the test."""
+        found = self.texts()
+        return len(found) == 2 and test(*found)
+
+    def alone(self, test):
+        """NotS, of another operand than 0, of a text that passes the test."""
+        found = self.texts()
+        return len(found) == 1 and self.vector.a != 0 and test(*found[0])
+
+    def ends_with_strings(self):
+        return any(number + len(text) == len(self.strings()) for number, text in self.texts())
 
     # ---- R-3
 
@@ -222,6 +263,22 @@ def inside(case):
     return -struct.unpack_from('<i', case.bytes(), offset + 36 * number)[0] in INSIDE
 
 
+def past_the_strings(case):
+    """Refused 33 for a number not below the strings' count at which, counted from their offset, the file has a byte."""
+    offset, _ = struct.unpack_from('<2i', case.vector.file.bytes, 40)
+    operands = [at for at, kind in zip(case.operands, case.kinds) if kind == 's']
+    length = len(case.vector.file.bytes)
+    return operand_row(case, 33) and any(len(case.strings()) <= case.cell(at) < length - offset for at in operands)
+
+
+def one_begins(x, y):
+    return x[1] != y[1] and (x[1].startswith(y[1]) or y[1].startswith(x[1]))
+
+
+def differ_later(x, y):
+    return x[1] != y[1] and x[1][:1] == y[1][:1] and not one_begins(x, y)
+
+
 ROWS = [
     ('a NaN is computed with', lambda c: any(map(is_nan, c.floats_read()))),
     ('arithmetic makes a NaN', lambda c: any(map(is_nan, c.floats_made()))),
@@ -260,6 +317,19 @@ ROWS = [
     ('refused 17: a negative string, entity or field moved', lambda c: c.refused_after_operands(17)),
     ('a void field definition before another', lambda c: c.vector.opcode in (*LOADS, *STORES_P) and 0 in c.field_types()[:-1]),
     ('600 entities', lambda c: c.vector.entities == 600),
+    ('an operand refused 33: no such string number', lambda c: operand_row(c, 33)),
+    ('of these a number at which the file still has bytes', past_the_strings),
+    ('of these no strings at all', lambda c: operand_row(c, 33) and not c.strings()),
+    ('EqS or NeS of one text at two places', lambda c: c.pair(lambda x, y: x[0] != y[0] and x[1] == y[1] != b'')),
+    ('EqS or NeS of two texts of which one begins with the other', lambda c: c.pair(one_begins)),
+    ('EqS or NeS of two texts that differ later than in their first byte', lambda c: c.pair(differ_later)),
+    ('a text with a byte over 127', lambda c: any(byte > 127 for _, text in c.texts() for byte in text)),
+    ('a text that the end of the strings ends', lambda c: c.ends_with_strings()),
+    ('equal operands of EqS or NeS, unread', lambda c: c.accepted and c.vector.opcode in STRING_PAIRS and c.unread(0)),
+    ('NotS of an empty text, its number not 0', lambda c: c.alone(lambda number, text: number and not text)),
+    ("NotS of number 0, its text not empty", lambda c: c.alone(lambda number, text: not number and text)),
+    ("NotS of another text that isn't empty", lambda c: c.alone(lambda number, text: number and text)),
+    ("NotS of operand 0, its text not empty", lambda c: c.vector.opcode == NOT_S and c.vector.a == 0 and any(text for _, text in c.texts())),
 ]
 
 

@@ -14,6 +14,7 @@ from model import (
     CELLS, FIELD_DEFS, FLOAT, FUNCTION, FUNCTIONS, GLOBAL_DEFS, HOST_OPCODES, ONE, RECORD_SIZES,
     STATEMENTS, STRING, STRINGS, VECTOR, VOID, Answer, Assembly, Frame, Machine, function,
 )
+from string_cases import string_calls
 
 FNV_BASIS = 0xCBF29CE484222325
 FNV_PRIME = 0x100000001B3
@@ -963,6 +964,7 @@ def call_cases():
     rounding_refusals(c)
     rounding_elsewhere(c)
     entity_calls(c)
+    string_calls(c)
     random_calls(c)
     random_entity_calls(c)
     large_calls(c)

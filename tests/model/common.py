@@ -95,7 +95,7 @@ def program(*statements, functions=(function(1),), **parts):
     )
 
 
-# floats at 28 to 39, function numbers at 40 to 43, small numbers at 44 to 47, locals from 48
+# floats at 28 to 39, function numbers at 40 to 43, string numbers at 44 to 47, locals from 48
 CHANCE_FLOATS = [0, MINUS_ZERO, ONE, MINUS_ONE, TWO, HALF, flt(100.25), flt(16777216.0), QUIET_NAN]
 CHANCE_FLOATS += [INFINITY, 0x3DCCCCCD, LEAST]
 
@@ -117,8 +117,10 @@ def random_program(chance, hosts=False, entities=False):
         cells[43] = 6
     if chance.below(2):
         cells[42] = 7
+    # few different bytes, so that texts are often the same; seldom a number past the last
+    strings = bytes(chance.pick(b"\0\0ab\xe1") for _ in range(1 + chance.below(8)))
     for cell in range(44, 48):
-        cells[cell] = chance.below(3)
+        cells[cell] = chance.below(len(strings) + (chance.below(8) == 0))
     definitions = [
         (chance.pick([FLOAT, VECTOR, FLOAT | SAVE_FLAG]), 28 + chance.below(12)) for _ in range(4)
     ]
@@ -132,7 +134,8 @@ def random_program(chance, hosts=False, entities=False):
         fields = [(chance.below(8), chance.pick(CHANCE_FIELDS)) for _ in range(chance.below(6))]
     statements = [random_statement(chance, hosts, entities) for _ in range(count)]
     statements += [("Return", 28 + chance.below(30))]
-    return program(*statements, functions=functions, cells=cells, definitions=definitions, fields=fields)
+    parts = dict(cells=cells, definitions=definitions, fields=fields, strings=strings)
+    return program(*statements, functions=functions, **parts)
 
 
 # entity numbers at 56 to 59, field numbers at 60 and 61, pointers at 62 and 63

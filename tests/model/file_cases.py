@@ -9,6 +9,7 @@ from model import (
     ONE, OPCODES, POINTER, QUIET_NAN, RECORD_SIZES, SAVE_FLAG, STATEMENTS, STORED_FIELDS, STRING,
     STRINGS, VECTOR, VOID, Assembly, function, show,
 )
+from string_cases import string_files
 
 
 class Files:
@@ -574,5 +575,6 @@ def file_cases():
     statement_files(f)
     call_files(f)
     rounding_files(f)
+    string_files(f)
     random_files(f)
     return f

@@ -280,6 +280,12 @@ class Program:
     def cell(self, index):
         return self._unpack("<I", CELLS, index)[0]
 
+    def text(self, number):
+        """R-4: the bytes from a string number "up to a zero byte or the end of the strings"."""
+        offset = self.lumps[2 * STRINGS]
+        rest = bytes(self.file[offset + number : offset + self.count(STRINGS)])
+        return rest.split(b"\0", 1)[0]
+
 
 # ---------------------------------------------------------------------------------------------
 # State and answers
@@ -527,6 +533,13 @@ class Machine:
         check(wanted not in (ENTITY, FIELD) or value < SIGN, 17)
         return value
 
+    def _get_string(self, cell):
+        """R-4, of EqS, NeS and NotS: "a string number below 0 or not below the string length is refused
+        33, in each access after type and address, for operand 0 too"."""
+        number = self._get_typed(cell, STRING)
+        check(number < self._program.count(STRINGS), 33)  # a negative one is a great one here
+        return number
+
     def _put_typed(self, cell, wanted, value):
         self._check_type(cell, wanted)
         self._put(cell, value)
@@ -628,8 +641,12 @@ class Machine:
         if name.endswith("S"):
             # "EqS, NeS and NotS refuse negative operands 15 before any type check."
             check(a >= 0 and b >= 0, 15)
-            # "equal operands are neither read nor checked further and count as equal"
-            return a == b or self._get_typed(a, STRING) == self._get_typed(b, STRING)
+            # R-4: "Equal operands of EqS and NeS are still answered unread."
+            if a == b:
+                return True
+            first, second = self._get_string(a), self._get_string(b)
+            # R-4: "EqS and NeS now follow `pr_exec.c` and compare bytes"
+            return self._program.text(first) == self._program.text(second)
         wanted = ENTITY if name.endswith("Ent") else FUNCTION
         return self._get_typed(a, wanted) == self._get_typed(b, wanted)
 
@@ -641,9 +658,9 @@ class Machine:
             return all(is_zero(x) for x in self._get_vector(a))
         if name == "NotS":
             check(a >= 0, 15)
-            number = self._get_typed(a, STRING)
-            # "1.0 for operand 0, as the Rust does, or string number 0; operand 0 is still checked"
-            return a == 0 or number == 0
+            number = self._get_string(a)
+            # R-4: "NotS is 1.0 for string number 0 and for an empty string, and still for operand 0."
+            return a == 0 or number == 0 or self._program.text(number) == b""
         return self._get_typed(a, ENTITY if name == "NotEnt" else FUNCTION) == 0
 
     def _store_statement(self, name, a, b):

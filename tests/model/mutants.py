@@ -4,6 +4,7 @@ Each mutant is model.py with one place changed, a mistake that a machine could w
 files must show a difference for every one of them.
 
     python3 mutants.py           exits 1 if a mutant passes all cases
+    python3 mutants.py 10 20     only those from number 10 on and below 20, counted from 0
 """
 
 import os
@@ -132,9 +133,9 @@ MUTANTS = [
     ("            check(c == 0, 18)\n            if name in STORED_FIELDS:\n", "            check(c == 0 or name not in STORED_FIELDS, 18)\n            if name not in STORED_FIELDS:\n                self._store_statement(name, a, b)\n                check(c == 0, 18)\n            elif name in STORED_FIELDS:\n"),
     ("            check(b == 0, 18)\n", ""),
     ("check(a >= 0 and b >= 0, 15)", "pass"),
-    ("            return a == b or self._get_typed", "            return self._get_typed"),
-    ("return a == 0 or number == 0", "return number == 0"),
-    ("            number = self._get_typed(a, STRING)\n", "            number = self._get_typed(a, STRING) if a else 0\n"),
+    ("            if a == b:\n", "            if False:\n"),
+    ("return a == 0 or number == 0 or", "return number == 0 or"),
+    ("            number = self._get_string(a)\n", "            number = self._get_string(a) if a else 0\n"),
     ("check(name != \"StoreS\" or value < SIGN, 17)\n        self._put_typed(b, wanted, value)", "self._put_typed(b, wanted, value)\n        check(name != \"StoreS\" or value < SIGN, 17)"),
     ("check(name != \"StoreS\" or value < SIGN, 17)", "pass"),
     ("if 1 <= destination <= 27:", "if 0 <= destination <= 27:"),
@@ -149,6 +150,87 @@ MUTANTS = [
     ("statement = self._program.statement(self.state.position)", "statement = self._program.statement(self.state.position % 65536)"),
     ("            if definition.cell == cell:\n", "            if index < program.count(FIELD_DEFS) and program.definition(FIELD_DEFS, index).cell == cell:\n                definition = program.definition(FIELD_DEFS, index)\n            if definition.cell == cell:\n"),
     ("        for index in range(program.count(GLOBAL_DEFS)):\n            definition = program.definition(GLOBAL_DEFS, index)\n", "        for number in range(program.count(GLOBAL_DEFS) + program.count(FIELD_DEFS)):\n            lump = GLOBAL_DEFS if number < program.count(GLOBAL_DEFS) else FIELD_DEFS\n            definition = program.definition(lump, number - (lump - GLOBAL_DEFS) * program.count(GLOBAL_DEFS))\n"),
+    # R-4: where a text ends
+    ("offset + self.count(STRINGS)])", "len(self.file)])"),
+    ("offset + self.count(STRINGS)])", "offset + self.count(STRINGS) + 1])"),
+    ("offset + self.count(STRINGS)])", "offset + self.count(STRINGS) - 1])"),
+    ("        return rest.split(b\"\\0\", 1)[0]\n", "        check(0 in rest, 33)\n        return rest.split(b\"\\0\", 1)[0]\n"),
+    ("        return rest.split(b\"\\0\", 1)[0]\n", "        return rest.split(b\"\\0\", 1)[0] if 0 in rest else b\"\"\n"),
+    ("        return rest.split(b\"\\0\", 1)[0]\n", "        return rest[: rest.find(0)]\n"),
+    ("        return rest.split(b\"\\0\", 1)[0]\n", "        return (rest + b\"\\xff\").split(b\"\\0\", 1)[0]\n"),
+    ("        return rest.split(b\"\\0\", 1)[0]\n", "        return rest\n"),
+    ("        return rest.split(b\"\\0\", 1)[0]\n", "        return rest.rsplit(b\"\\0\", 1)[0]\n"),
+    ("        return rest.split(b\"\\0\", 1)[0]\n", "        return rest.split(b\"\\0\", 1)[0].split(b\"\\xff\")[0]\n"),
+    # R-4: which bytes a text has
+    ("        return rest.split(b\"\\0\", 1)[0]\n", "        return bytes(byte & 127 for byte in rest.split(b\"\\0\", 1)[0])\n"),
+    ("        return rest.split(b\"\\0\", 1)[0]\n", "        return rest.split(b\"\\0\", 1)[0].lower()\n"),
+    ("        return rest.split(b\"\\0\", 1)[0]\n", "        return rest.split(b\"\\0\", 1)[0].strip(b\"\\1\")\n"),
+    ("        return rest.split(b\"\\0\", 1)[0]\n", "        return rest.split(b\"\\0\", 1)[0].decode(\"utf-8\", \"replace\").encode()\n"),
+    ("        return rest.split(b\"\\0\", 1)[0]\n", "        return rest.split(b\"\\0\", 1)[0].decode(\"utf-8\", \"ignore\").encode()\n"),
+    ("        return rest.split(b\"\\0\", 1)[0]\n", "        return rest.split(b\"\\0\", 1)[0][:255]\n"),
+    ("        return rest.split(b\"\\0\", 1)[0]\n", "        return rest.split(b\"\\0\", 1)[0][:1024]\n"),
+    ("        return rest.split(b\"\\0\", 1)[0]\n", "        return rest.split(b\"\\0\", 1)[0][:3999]\n"),
+    ("self.file[offset + number :", "self.file[number :"),
+    ("self.file[offset + number :", "self.file[offset + number + 1 :"),
+    ("self.file[offset + number :", "self.file[offset + number % 65536 :"),
+    ("offset = self.lumps[2 * STRINGS]\n", "offset = self.lumps[2 * CELLS]\n"),
+    # R-4: 33
+    ("check(number < self._program.count(STRINGS), 33)  #", "check(number < len(self.file), 33)  #"),
+    ("check(number < self._program.count(STRINGS), 33)  #", "check(self._program.lumps[2 * STRINGS] + number < len(self.file), 33)  #"),
+    ("check(number < self._program.count(STRINGS), 33)  #", "check(number <= self._program.count(STRINGS), 33)  #"),
+    ("check(number < self._program.count(STRINGS), 33)  #", "check(number < self._program.count(STRINGS) - 1, 33)  #"),
+    ("check(number < self._program.count(STRINGS), 33)  #", "check(number < SIGN, 33)  #"),
+    ("check(number < self._program.count(STRINGS), 33)  #", "check(number >= SIGN or number < self._program.count(STRINGS), 33)  #"),
+    ("check(number < self._program.count(STRINGS), 33)  #", "check(number == 0 or number < self._program.count(STRINGS), 33)  #"),
+    ("check(number < self._program.count(STRINGS), 33)  #", "check(number % 65536 < self._program.count(STRINGS), 33)  #"),
+    ("check(number < self._program.count(STRINGS), 33)  #", "check(number < self._program.count(STRINGS), 15)  #"),
+    ("check(number < self._program.count(STRINGS), 33)  #", "check(number < SIGN, 17)\n        check(number < self._program.count(STRINGS), 33)  #"),
+    ("check(number < self._program.count(STRINGS), 33)  #", "pass  #"),
+    ("        number = self._get_typed(cell, STRING)\n        check", "        if 0 <= cell < len(self.cells):\n            check(self.cells[cell] < self._program.count(STRINGS), 33)\n        number = self._get_typed(cell, STRING)\n        check"),
+    ("        number = self._get_typed(cell, STRING)\n        check", "        number = self._get(cell)\n        check"),
+    ("        number = self._get_typed(cell, STRING)\n        check", "        number = self._get(cell)\n        self._check_type(cell, STRING)\n        check"),
+    # R-4: EqS and NeS
+    ("return self._program.text(first) == self._program.text(second)", "return first == second"),
+    ("return self._program.text(first) == self._program.text(second)", "return self._program.text(first).startswith(self._program.text(second))"),
+    ("return self._program.text(first) == self._program.text(second)", "return self._program.text(second).startswith(self._program.text(first))"),
+    ("return self._program.text(first) == self._program.text(second)", "return all(x == y for x, y in zip(self._program.text(first), self._program.text(second)))"),
+    ("return self._program.text(first) == self._program.text(second)", "return self._program.text(first)[:-1] == self._program.text(second)[:-1]"),
+    ("return self._program.text(first) == self._program.text(second)", "return self._program.text(first)[1:] == self._program.text(second)[1:]"),
+    ("return self._program.text(first) == self._program.text(second)", "return self._program.text(first)[:1] == self._program.text(second)[:1]"),
+    ("return self._program.text(first) == self._program.text(second)", "return len(self._program.text(first)) == len(self._program.text(second))"),
+    ("return self._program.text(first) == self._program.text(second)", "return sorted(self._program.text(first)) == sorted(self._program.text(second)) or first == second"),
+    ("return self._program.text(first) == self._program.text(second)", "kept = Program(self.__dict__.setdefault(\"kept\", bytes(self.file)), self.state.lumps)\n            return kept.text(first) == kept.text(second)"),
+    ("return self._program.text(first) == self._program.text(second)", "return self._program.text(first) == self._program.text(second) if name == \"EqS\" else first == second"),
+    ("return self._program.text(first) == self._program.text(second)", "return self._program.text(first) == self._program.text(second) != b\"\" or first == second"),
+    ("first, second = self._get_string(a), self._get_string(b)", "second, first = self._get_string(b), self._get_string(a)"),
+    ("first, second = self._get_string(a), self._get_string(b)", "first, second = self._get_typed(a, STRING), self._get_string(b)\n            check(first < self._program.count(STRINGS), 33)"),
+    ("first, second = self._get_string(a), self._get_string(b)", "first, second = self._get_typed(a, STRING), self._get_string(b)"),
+    ("first, second = self._get_string(a), self._get_string(b)", "first, second = self._get_string(a), self._get_typed(b, STRING)"),
+    ("first, second = self._get_string(a), self._get_string(b)", "first, second = self._get_typed(a, STRING), self._get_typed(b, STRING)\n            if first == second:\n                return True\n            first, second = self._get_string(a), self._get_string(b)"),
+    ("            if a == b:\n", "            if a == b and self._get_string(a) >= 0:\n"),
+    ("            if a == b:\n", "            if a == b and self._get_typed(a, STRING) >= 0:\n"),
+    ("            if a == b:\n", "            if a == b and self._get(a) >= 0:\n"),
+    ("            if a == b:\n", "            if a == b and not self._check_type(a, STRING):\n"),
+    ("check(a >= 0 and b >= 0, 15)", "check(a == b or a >= 0 and b >= 0, 15)"),
+    ("check(a >= 0 and b >= 0, 15)", "check(a >= 0, 15)"),
+    ("self._put_typed(c, FLOAT, truth(self._is_equal(name, a, b) == name.startswith(\"Eq\")))", "if name.endswith(\"S\"):\n                self._check_destination(c, FLOAT)\n            self._put_typed(c, FLOAT, truth(self._is_equal(name, a, b) == name.startswith(\"Eq\")))"),
+    ("self._put_typed(c, FLOAT, truth(self._is_equal(name, a, b) == name.startswith(\"Eq\")))", "value = truth(self._is_equal(name, a, b) == name.startswith(\"Eq\"))\n            self._put_typed(c, FLOAT, value | SIGN if name == \"NeS\" and value else value)"),
+    ("self._put_typed(c, FLOAT, truth(self._is_equal(name, a, b) == name.startswith(\"Eq\")))", "self._put_typed(c, FLOAT, truth(self._is_equal(name, a, b) == (name.startswith(\"Eq\") or name == \"NeS\")))"),
+    # R-4: NotS
+    ("return a == 0 or number == 0 or self._program.text(number) == b\"\"", "return a == 0 or number == 0"),
+    ("return a == 0 or number == 0 or self._program.text(number) == b\"\"", "return a == 0 or self._program.text(number) == b\"\""),
+    ("return a == 0 or number == 0 or self._program.text(number) == b\"\"", "return a == 0 or number == 0 or self._program.text(number)[:1] in (b\"\", *(bytes([i]) for i in range(128, 256)))"),
+    ("return a == 0 or number == 0 or self._program.text(number) == b\"\"", "return a == 0 or number == 0 or self._program.text(number) == self._program.text(0)"),
+    ("return a == 0 or number == 0 or self._program.text(number) == b\"\"", "return a == 0 or number % 65536 == 0 or self._program.text(number) == b\"\""),
+    ("return a == 0 or number == 0 or self._program.text(number) == b\"\"", "return a == 0 or number == 0 or b\"\\0\" not in self.file[self.state.lumps[8] + number :]  or self._program.text(number) == b\"\""),
+    ("            number = self._get_string(a)\n", "            number = self._get_typed(a, STRING)\n"),
+    ("            number = self._get_string(a)\n", "            number = self._get_string(a) if a else self._get_typed(a, STRING)\n"),
+    ("            number = self._get_string(a)\n", "            number = self._get_typed(a, STRING)\n            check(number == 0 or number < self._program.count(STRINGS), 33)\n"),
+    ("            check(b == 0, 18)\n", "            if name == \"NotS\" and 0 <= a < len(self.cells):\n                check(self.cells[a] < self._program.count(STRINGS), 33)\n            check(b == 0, 18)\n"),
+    ("            check(b == 0, 18)\n", "            check(b == 0, 18)\n            if name == \"NotS\":\n                self._check_destination(c, FLOAT)\n"),
+    # R-4: the moves of a string are as before
+    ("check(name != \"StoreS\" or value < SIGN, 17)", "check(name != \"StoreS\" or value < SIGN, 17)\n        check(name != \"StoreS\" or value < self._program.count(STRINGS), 33)"),
+    ("        for place, value in zip(places, values):\n            self._store", "        check(wanted != STRING or values[0] < self._program.count(STRINGS), 33)\n        for place, value in zip(places, values):\n            self._store"),
     # calls
     ("raise HandedOver(\"builtin\", -first)", "check(self.state.depth < DEEPEST, 22)\n                raise HandedOver(\"builtin\", -first)"),
     ("        check(number != 0, 19)\n        check(number < self._program.count(FUNCTIONS), 20)  #", "        check(number < self._program.count(FUNCTIONS), 20)\n        check(number != 0, 19)  #"),
@@ -426,14 +508,15 @@ def main():
     with open(os.path.join(HERE, "model.py"), encoding="utf-8") as file:
         source = file.read()
     passed = 0
-    for old, new in MUTANTS:
+    low, high = [int(word) for word in sys.argv[1:] if word.isdigit()] or (0, len(MUTANTS))
+    for old, new in MUTANTS[low:high]:
         found = caught(mutant(source, old, new))
         if found is None:
             passed += 1
             print(f"NOT CAUGHT: {old}\n        as: {new}", flush=True)
         elif "-v" in sys.argv:
             print(f"caught: {old[:70]!r} by {found[:90]}", flush=True)
-    print(f"{len(MUTANTS)} mutants, {passed} not caught")
+    print(f"{len(MUTANTS[low:high])} mutants, {passed} not caught")
     return 1 if passed else 0
 
 

@@ -10,9 +10,10 @@ from common import (
 from entity_cases import World, entity_vectors, last_cell_vectors
 from model import (
     CELLS, ENTITY, FIELD, FLOAT, FUNCTION, FUNCTIONS, GLOBAL_DEFS, HOST_OPCODES, INFINITY, ONE,
-    OPCODES, OPCODE_NUMBER, POINTER, QUIET_NAN, SAVE_FLAG, SIGN, STATEMENTS, STRING, VECTOR, VOID,
-    Answer, Assembly, Machine, function, pack_statement,
+    OPCODES, OPCODE_NUMBER, POINTER, QUIET_NAN, SAVE_FLAG, SIGN, STATEMENTS, STRING, STRINGS, VECTOR,
+    VOID, Answer, Assembly, Machine, function, pack_statement,
 )
+from string_cases import string_vectors
 
 # The functions of every vector file.  All begin at statement 0, where the vector's statement is.
 PLAIN, WITH_LOCALS, BUILTIN_1, BUILTIN_78, RETURN_CELLS = 1, 2, 3, 4, 13
@@ -56,12 +57,16 @@ class Vectors:
         self.lines = []
         self.seen = []  # (opcode, answer), for the tests of this maker
         self.base = None
+        self.after = []  # the cells after the last vector, for those that were worked out by hand
 
     def note(self, text):
         self.lines.append(f"# {text}")
 
-    def file(self, text, **parts):
-        self.base = Assembly(statements=[("Done",)] * 4, functions=VECTOR_FUNCTIONS, **parts)
+    def file(self, text, strings_at=None, **parts):
+        """`strings_at` gives the strings another offset and count, by the file's length."""
+        self.base = Assembly(statements=[("Done",)] * 4, **dict(functions=VECTOR_FUNCTIONS) | parts)
+        if strings_at:
+            self.base.lumps[2 * STRINGS : 2 * STRINGS + 2] = strings_at(len(self.base.bytes()))
         file = self.base.bytes()
         self.note(text)
         self.lines.append(
@@ -97,6 +102,7 @@ class Vectors:
         expected += [len(changed), *flat(changed), len(entity_changes), *flat(entity_changes)]
         self.lines.append(f"vector {numbers(given)} = {answer.word} {numbers(expected)}")
         self.seen.append((number, answer))
+        self.after = machine.cells
         return answer
 
 
@@ -350,7 +356,7 @@ def store_vectors(v):
 
 
 def number_vectors(v):
-    v.note("strings by number, entities, functions")
+    v.note("entities, functions; strings, of which there is one number, 0: another is refused 33")
     for name in ("EqS", "NeS", "EqEnt", "NeEnt", "EqFnc", "NeFnc"):
         for x, y in ((5, 5), (5, 6), (0x7FFFFFFF, 0x7FFFFFFF), (0xFFFFFFFF, 0xFFFFFFFF)):
             v.add(name, 28, 29, 30, {28: x, 29: y})
@@ -368,11 +374,11 @@ def number_vectors(v):
         v.add(name, 64, -1, 30)
         v.add(name, -1, 64, 30)
         v.add(name, 28, 29, -1)
-    v.note("Not: 1.0 for zero")
+    v.note("Not: 1.0 for zero; a string number above 0 is refused 33 here")
     for value in (0, MINUS_ZERO, LEAST, QUIET_NAN, 0xFFFFFFFF):
         for name in ("NotF", "NotS", "NotEnt", "NotFnc"):
             v.add(name, 28, 0, 30, {28: value})
-    v.note("NotS of operand 0 gives 1.0 whatever the cell holds")
+    v.note("NotS of operand 0 is refused 33 like another, though it gives 1.0 for any number that is there")
     v.add("NotS", 0, 0, 30, {0: 5})
     v.add("NotS", 0, 0, 0, {0: 5})
     v.add("NotS", 0, 0, 30, {0: 0xFFFFFFFF})
@@ -654,4 +660,5 @@ def statement_vectors():
     large_vectors(v)
     last_cell_vectors(v)
     entity_vectors(v)
+    string_vectors(v)
     return v

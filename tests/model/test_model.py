@@ -523,10 +523,6 @@ class Statements(unittest.TestCase):
         self.assertEqual(self.answer("EqS", 28, 28, 30, definitions=definitions), ACCEPTED)
         self.assertEqual(self.answer("EqS", 99, 99, 30), ACCEPTED)
         self.assertEqual(self.answer("NotS", 0, 0, 30, definitions=[(FLOAT, 0)]), refused(16))
-        machine = loaded(("NotS", 0, 0, 30), ("NeS", 28, 29, 31), ("EqS", 28, 28, 32), cells={0: 5, 28: SIGN})
-        for _ in range(3):
-            self.assertEqual(machine.statement(), ACCEPTED)
-        self.assertEqual(machine.cells[30:33], [ONE, ONE, ONE])
 
     def test_store_v_untyped(self):
         definitions = [(STRING, 1), (ENTITY, 28), (STRING, 40)]
@@ -556,13 +552,104 @@ class Statements(unittest.TestCase):
         self.assertEqual(self.answer("StoreEnt", 28, 29, cells={28: SIGN}), refused(17))
         self.assertEqual(self.answer("StoreFld", 28, 29, cells={28: SIGN}), refused(17))
         self.assertEqual(self.answer("StoreFnc", 28, 29, cells={28: SIGN}), ACCEPTED)
-        self.assertEqual(self.answer("EqS", 28, 29, 30, cells={28: SIGN}), ACCEPTED)
         self.assertEqual(self.answer("EqEnt", 28, 29, 30, cells={29: SIGN}), refused(17))
 
     def test_handed_over(self):
         self.assertEqual(HOST_OPCODES, {60})
         self.assertEqual(self.answer("State", -1, -1, -1), Answer("opcode", 60))
         self.assertEqual(self.answer("LoadF", -1, -1, -1), refused(15))
+
+
+class Texts(unittest.TestCase):
+    """R-4.  Of the strings below, 1 and 5 are "red", 9 is "redder", 12 is "der", 16 is "der" too, 20 is empty,
+    21 is e9, 23 is 69, 25 is "red" up to the end; 28 is no number any more."""
+
+    STRINGS = b"\0red\0red\0redder\0der\0\0\xe9\0\x69\0red"
+
+    def run_one(self, *statement, cells, strings=STRINGS, **parts):
+        """What cell 30 holds after the statement, or the refusal."""
+        machine = loaded(statement, cells={30: 7, **cells}, strings=strings, **parts)
+        before = everything(machine)
+        answer = machine.statement()
+        if answer == ACCEPTED:
+            return machine.cells[30]
+        self.assertEqual(everything(machine), before)
+        return answer
+
+    def test_the_strings(self):
+        self.assertEqual(len(self.STRINGS), 28)
+        self.assertEqual([self.STRINGS[n] for n in (1, 5, 9, 12, 16, 20, 21, 23, 25)], list(b"rrrdd\0\xe9\x69r"))
+
+    def test_letters(self):
+        for x, y, same in (
+            (1, 5, True), (1, 1, True), (12, 16, True), (2, 26, True), (1, 25, True), (27, 3, True),
+            (0, 20, True), (4, 0, True), (8, 15, True),
+            (1, 9, False), (9, 1, False), (25, 9, False), (1, 16, False), (21, 23, False), (1, 0, False), (0, 27, False), (2, 1, False),
+        ):
+            cells = {28: x, 29: y}
+            self.assertEqual(self.run_one("EqS", 28, 29, 30, cells=cells), ONE if same else 0, (x, y))
+            self.assertEqual(self.run_one("NeS", 28, 29, 30, cells=cells), 0 if same else ONE, (x, y))
+
+    def test_the_end_is_a_zero_byte(self):
+        """Whatever stands after the strings: the statement EqS, 12 0 28 0 .., or nothing."""
+        for layout in ((4, 0, 1, 2, 3, 5), (0, 1, 2, 3, 5, 4)):
+            for strings, same in ((b"\0ab\0ab", ONE), (b"\0ab\x0c\0ab", 0), (b"\0abc\0ab", 0), (b"\0a\0\0ab", 0)):
+                cells = {28: 1, 29: len(strings) - 2}
+                self.assertEqual(self.run_one("EqS", 28, 29, 30, cells=cells, strings=strings, layout=layout), same)
+
+    def test_not(self):
+        for number, result in ((0, ONE), (1, 0), (4, ONE), (20, ONE), (21, 0), (27, 0), (28, refused(33)), (SIGN, refused(33))):
+            self.assertEqual(self.run_one("NotS", 28, 0, 30, cells={28: number}), result)
+            result = ONE if number < 28 else refused(33)
+            self.assertEqual(self.run_one("NotS", 0, 0, 30, cells={0: number}), result)
+        # number 0, its text not empty
+        self.assertEqual(self.run_one("NotS", 28, 0, 30, cells={28: 0}, strings=b"red"), ONE)
+        self.assertEqual(self.run_one("EqS", 28, 29, 30, cells={28: 0, 29: 0}, strings=b"red"), ONE)
+        self.assertEqual(self.run_one("NeS", 28, 29, 30, cells={28: 0, 29: 1}, strings=b"red"), ONE)
+
+    def test_numbers_that_are_not_there(self):
+        for number in (28, 29, 1000, 0x7FFFFFFF, SIGN, 0xFFFFFFFF):
+            for name in ("EqS", "NeS"):
+                for cells in ({28: number, 29: 1}, {28: 1, 29: number}, {28: number, 29: number}):
+                    self.assertEqual(self.run_one(name, 28, 29, 30, cells=cells), refused(33))
+                unread = ONE if name == "EqS" else 0
+                self.assertEqual(self.run_one(name, 28, 28, 30, cells={28: number}), unread)
+
+    def test_order(self):
+        """16 by cell 31, a float; 15 by cell 64; 33 by cell 28, whose number is 28."""
+        definitions = [(FLOAT, 31)]
+        for statement, number in (
+            (("EqS", 28, 31, -1), 33), (("EqS", 28, 64, -1), 33), (("EqS", 28, 29, -1), 33), (("EqS", 28, -1, 30), 15),
+            (("NeS", 31, 28, -1), 16), (("NeS", 64, 28, -1), 15), (("NeS", -1, 28, 30), 15),
+            (("EqS", 29, 31, -1), 16), (("EqS", 29, 64, -1), 15), (("EqS", 29, 28, -1), 33), (("EqS", 29, 32, -1), 15),
+            (("EqS", 28, 28, -1), 15), (("NotS", 28, 1, -1), 18), (("NotS", -1, 0, 30), 15), (("NotS", 31, 0, -1), 16),
+            (("NotS", 64, 0, -1), 15), (("NotS", 28, 0, -1), 33), (("NotS", 29, 0, -1), 15),
+        ):
+            answer = self.run_one(*statement, cells={28: 28, 29: 1, 32: 1}, definitions=definitions)
+            self.assertEqual(answer, refused(number), statement)
+
+    def test_no_strings(self):
+        for cells in ({}, {28: 1}, {0: 5}):
+            for statement in (("EqS", 28, 29, 30), ("NeS", 28, 29, 30), ("NotS", 28, 0, 30), ("NotS", 0, 0, 30)):
+                machine = Machine(Assembly([statement], strings=b"", cells=cells).bytes(), [0] * 64, [0] * 2048)
+                self.assertEqual(machine.load(), ACCEPTED)
+                self.assertEqual(machine.statement(), refused(33))
+        machine = Machine(Assembly([("EqS", 28, 28, 30)], strings=b"").bytes(), [0] * 64, [0] * 2048)
+        machine.load()
+        self.assertEqual((machine.statement(), machine.cells[30]), (ACCEPTED, ONE))
+
+    def test_store_is_as_before(self):
+        self.assertEqual(self.run_one("StoreS", 28, 30, cells={28: 28}), 28)
+        self.assertEqual(self.run_one("StoreS", 28, 30, cells={28: SIGN}), refused(17))
+
+    def test_bytes_as_they_are_now(self):
+        machine = loaded(*[("EqS", 28, 29, 30)] * 3, cells={28: 1, 29: 3}, strings=b"\0a\0b\0")
+        place, results = machine.assembly.place(4, 3), []
+        for byte in (ord("b"), ord("a"), 0):
+            machine.file[place] = byte
+            machine.statement()
+            results.append(machine.cells[30])
+        self.assertEqual(results, [0, ONE, 0])
 
 
 FIELD_KINDS = (("F", FLOAT), ("V", VECTOR), ("S", STRING), ("Ent", ENTITY), ("Fld", FIELD), ("Fnc", FUNCTION))
@@ -951,16 +1038,24 @@ class CaseFiles(unittest.TestCase):
             expected |= {38: {31}, 39: {17}, 40: {17}, 41: {17}}.get(opcode, set())
             self.assertEqual(found[opcode], expected, OPCODES[opcode])
 
+    def test_every_refusal_of_a_string_comparison(self):
+        seen = self.makers["statements.txt"].seen
+        for name, expected in (("EqS", {15, 16, 33}), ("NeS", {15, 16, 33}), ("NotS", {15, 16, 18, 33})):
+            answers = [answer for opcode, answer in seen if opcode == OPCODES.index(name)]
+            self.assertEqual({answer.detail for answer in answers if answer.word == "refused"}, expected)
+        others = {opcode for opcode, answer in seen if answer == refused(33)}
+        self.assertEqual(others, {OPCODES.index(name) for name in ("EqS", "NeS", "NotS")})
+
     def test_every_refusal(self):
         calls = {answer.detail for _, answer in self.makers["calls.txt"].seen if answer.word == "refused"}
         shown = [line.split(",") for _, line in self.makers["files.txt"].seen]
         files = {int(fields[1]) for fields in shown if fields[0] == "refused"}
         # 26 can't be met after 13; 8 and 9 are a field definition's in the files
-        self.assertEqual(calls | files, set(range(1, 33)) - {26})
+        self.assertEqual(calls | files, set(range(1, 34)) - {26})
         # a file alone can't reach these: nothing lent is short, no state is made up, nothing changed
         self.assertEqual(set(range(1, 25)) - files, {12, 13})
         # without entities 31 isn't reached
-        self.assertEqual({30, 31, 32} & files, {30, 32})
+        self.assertEqual({30, 31, 32, 33} & files, {30, 32, 33})
         self.assertEqual({fields[0] for fields in shown}, {"ended", "spent", "refused", "builtin", "opcode"})
 
 

@@ -6,6 +6,7 @@ from model import (
     ENTITY, FIELD, FLOAT, FUNCTION, FUNCTIONS, GLOBAL_DEFS, POINTER, RECORD_SIZES, SAVE_FLAG, STATEMENTS,
     STRING, VECTOR, VOID, Answer, Machine, Program, function,
 )
+from string_cases import string_traces
 
 MOST_STEPS = 40
 
@@ -255,6 +256,7 @@ def trace_cases():
     t.enter(3)
     t.through()
     fielded_cases(t)
+    string_traces(t)
     t.note("refused statements, and positions where there is none")
     t.new(refusing())
     t.records()

@@ -3,6 +3,7 @@ pub mod Checks
 pub mod File
 pub mod Floats
 pub mod Cells
+pub mod Strings
 pub mod Statements
 pub mod Machine
 pub mod Load
@@ -11,6 +12,7 @@ pub mod Answers
 pub mod Starred
 pub mod Rounding
 pub mod Fields
+pub mod StringRows
 pub mod Calls
 pub mod Log
 pub mod Trace

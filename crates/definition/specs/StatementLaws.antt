@@ -20,8 +20,9 @@ use Rattle.definition.specs.File.{opcodeCount, greatestPointer, Contents
 use Rattle.definition.specs.Floats.{flag, notV, isZero, roundingOf}
 use Rattle.definition.specs.Cells.{float, vector, string, entity, field, function, pointer, cellOf, signed, Typing, typingOf, fieldsOf, typeIs, addressed, cellAccess, vectorAccess, access, mustBeNatural, readAccess, fieldCellAccess, fieldAccess}
 use Rattle.definition.specs.Statements.{Entities, Does, next, puts, calls, returns, refuses, handsOver, orRefused, provided, moved}
+use Rattle.definition.specs.Strings.{textAccess}
 use Rattle.definition.specs.Statements.{Shape, floats, values, vectors, vectorsToFloat, strings, negates, negatesV, negatesS, stores, storesV, loads, addresses, storesP, branches, jumps, call, return, host, opcodes, shapeOf}
-use Rattle.definition.specs.Statements.{floatsEffect, valuesEffect, vectorResult, vectorsEffect, vectorsToFloatEffect, operandGiven, stringAccess, stringResult, stringsEffect, unused, negatesEffect, negatesVEffect, negatesSEffect}
+use Rattle.definition.specs.Statements.{floatsEffect, valuesEffect, vectorResult, vectorsEffect, vectorsToFloatEffect, operandGiven, stringAccess, stringsEffect, unused, negatesEffect, negatesVEffect, negatesSEffect}
 use Rattle.definition.specs.Statements.{storedNatural, storesEffect, reservedCell, moveAccess, storesVEffect, branchesDo, roundingEffect, builtinDoes, callOf, callDoes, statementAt, fetchConditions, Tables, tablesOf, executeAs, execute, doesAt}
 use Rattle.definition.specs.Statements.{valueMoved, loadsEffect, addressesEffect, pointsAtField, storesPEffect, putDoes}
 use Rattle.definition.specs.Machine.{Program}
@@ -37,7 +38,7 @@ transfers (floats f) = (false, false)
 transfers (values t f) = (false, false)
 transfers (vectors ta tb f) = (false, false)
 transfers (vectorsToFloat f) = (false, false)
-transfers (strings f) = (false, false)
+transfers (strings when) = (false, false)
 transfers (negates t f) = (false, false)
 transfers negatesV = (false, false)
 transfers negatesS = (false, false)
@@ -326,9 +327,9 @@ module _ (k : Tables) (p : ℤ) (st : Statement) (e : Entities) (cells : List �
     x .as-other refl refl,
     keeps-one count cells c _ (access-below (k .globals) float c (all-back (access (k .globals) vector a ++ access (k .globals) vector b) _ h)),
   )
-  executed (strings f) x = provided-has-kind before κ _ _ λ h. (
+  executed (strings when) x = provided-has-kind before κ _ _ λ h. (
     x .as-other refl refl,
-    keeps-one count cells c _ (access-below (k .globals) float c (all-back (operandGiven a ++ operandGiven b ++ stringAccess (k .globals) a b) _ h)),
+    keeps-one count cells c _ (access-below (k .globals) float c (all-back (operandGiven a ++ operandGiven b ++ stringAccess (k .globals) (k .strings) a b cells) _ h)),
   )
   executed (negates t f) x = provided-has-kind before κ _ _ λ h. (
     x .as-other refl refl,
@@ -340,7 +341,7 @@ module _ (k : Tables) (p : ℤ) (st : Statement) (e : Entities) (cells : List �
   )
   executed negatesS x = provided-has-kind before κ _ _ λ h. (
     x .as-other refl refl,
-    keeps-one count cells c _ (access-below (k .globals) float c (all-back (unused b ++ operandGiven a ++ access (k .globals) string a) _ h)),
+    keeps-one count cells c _ (access-below (k .globals) float c (all-back (unused b ++ operandGiven a ++ textAccess (k .globals) (k .strings) a cells) _ h)),
   )
   executed (stores t) x = provided-has-kind before κ _ _ λ h. (
     x .as-other refl refl,

@@ -16,6 +16,7 @@ use Rattle.definition.specs.Floats.{addF, subF, mulF, divF, eqF, neF, le
 use Rattle.definition.specs.Floats.{mulV, eqV, neV, notV, eqN, neN, notN, roundingOf}
 use Rattle.definition.specs.Cells.{string, float, vector, entity, field, function, pointer, cellOf, signed, Typing, typingOf, fieldsOf}
 use Rattle.definition.specs.Cells.{addressed, cellAccess, access, mustBeNatural, readAccess, fieldAccess}
+use Rattle.definition.specs.Strings.{textOf, sameText, textAccess}
 
 -- R-3: "The host lends entity cells: up to 600 entities, each with the file's count of cells per entity": their number, and the lent cells
 pub record Entities : Type 0 where
@@ -54,8 +55,8 @@ pub data Shape : Type 0 where
   vectors : ℕ → ℕ → (ℕ → ℕ → ℕ) → Shape
   -- two vectors to a float
   vectorsToFloat : (ℕ → ℕ → ℕ → ℕ → ℕ → ℕ → ℕ) → Shape
-  -- two strings to a float, by number
-  strings : (ℕ → ℕ → ℕ) → Shape
+  -- two strings to a float: EqS gives 1.0 where the texts are the same (true), NeS where they are not (false)
+  strings : Bool → Shape
   -- a Not: a value of a type to a float; NotV and NotS go their own ways
   negates : ℕ → (ℕ → ℕ) → Shape
   negatesV : Shape
@@ -83,8 +84,8 @@ opcodes =
     -- 6: AddF, AddV, SubF, SubV
     ++ (floats addF ∷ vectors vector vector addF ∷ floats subF ∷ vectors vector vector subF ∷ [])
     -- 10: EqF, EqV, EqS, EqEnt, EqFnc; NeF, NeV, NeS, NeEnt, NeFnc
-    ++ (floats eqF ∷ vectorsToFloat eqV ∷ strings eqN ∷ values entity eqN ∷ values function eqN ∷ [])
-    ++ (floats neF ∷ vectorsToFloat neV ∷ strings neN ∷ values entity neN ∷ values function neN ∷ [])
+    ++ (floats eqF ∷ vectorsToFloat eqV ∷ strings true ∷ values entity eqN ∷ values function eqN ∷ [])
+    ++ (floats neF ∷ vectorsToFloat neV ∷ strings false ∷ values entity neN ∷ values function neN ∷ [])
     -- 20: Le, Ge, Lt, Gt
     ++ (floats leF ∷ floats geF ∷ floats ltF ∷ floats gtF ∷ [])
     -- 24: LoadF, LoadV, LoadS, LoadEnt, LoadFld, LoadFnc, Address
@@ -160,18 +161,20 @@ vectorsToFloatEffect f g a b c cells =
 abbrev pub operandGiven : ℕ → Conditions
 operandGiven cell = (ltb cell 32768 otherwise 15) ∷ []
 
--- "EqS and NeS then compare string numbers, but equal operands are neither read nor checked further and count as equal"
-abbrev pub stringAccess : Typing → ℕ → ℕ → Conditions
-stringAccess g a b = cond (eqb a b) [] (access g string a ++ access g string b)
+-- R-4: "Equal operands of EqS and NeS are still answered unread", "in each access after type and address"
+abbrev pub stringAccess : Typing → List ℕ → ℕ → ℕ → List ℕ → Conditions
+stringAccess g bytes a b cells = cond (eqb a b) [] (textAccess g bytes a cells ++ textAccess g bytes b cells)
 
-abbrev pub stringResult : (ℕ → ℕ → ℕ) → ℕ → ℕ → List ℕ → ℕ
-stringResult f a b cells = cond (eqb a b) (f 0 0) (f (getD cells a 0) (getD cells b 0))
+-- R-4: "compare bytes up to a zero byte or the end of the strings", which are `bytes`
+abbrev pub sameStrings : List ℕ → ℕ → ℕ → List ℕ → Bool
+sameStrings bytes a b cells = eqb a b || sameText (textOf bytes (getD cells a 0)) (textOf bytes (getD cells b 0))
 
-unfoldable pub stringsEffect : (ℕ → ℕ → ℕ) → Typing → ℕ → ℕ → ℕ → List ℕ → Effect
-stringsEffect f g a b c cells =
+-- "NeS still gives 1.0 or 0.0"
+unfoldable pub stringsEffect : Bool → Typing → List ℕ → ℕ → ℕ → ℕ → List ℕ → Effect
+stringsEffect when g bytes a b c cells =
     record {
-      conditions = operandGiven a ++ operandGiven b ++ stringAccess g a b ++ access g float c;
-      cells = set cells c (stringResult f a b cells);
+      conditions = operandGiven a ++ operandGiven b ++ stringAccess g bytes a b cells ++ access g float c;
+      cells = set cells c (flag (Bool·beq (sameStrings bytes a b cells) when));
     }
 
 -- "18: third operand of a Store (31 to 36) or second of a Not isn't 0"; R-3: "18 for the third operand of 37 to 42"
@@ -193,12 +196,13 @@ negatesVEffect g a b c cells =
       cells = set cells c (notV (getD cells a 0) (getD cells (a + 1) 0) (getD cells (a + 2) 0));
     }
 
--- "NotS gives 1.0 for operand 0, as the Rust does, or string number 0; operand 0 is still checked"
-unfoldable pub negatesSEffect : Typing → ℕ → ℕ → ℕ → List ℕ → Effect
-negatesSEffect g a b c cells =
+-- R-4: "NotS is 1.0 for string number 0 and for an empty string, and still for operand 0", "refused 33 .. for operand 0 too"
+unfoldable pub negatesSEffect : Typing → List ℕ → ℕ → ℕ → ℕ → List ℕ → Effect
+negatesSEffect g bytes a b c cells =
+    let number = getD cells a 0 in
     record {
-      conditions = unused b ++ operandGiven a ++ access g string a ++ access g float c;
-      cells = set cells c (flag (eqb a 0 || eqb (getD cells a 0) 0));
+      conditions = unused b ++ operandGiven a ++ textAccess g bytes a cells ++ access g float c;
+      cells = set cells c (flag (eqb a 0 || eqb number 0 || sameText (textOf bytes number) []));
     }
 
 abbrev pub moved : ℕ → ℕ → List ℕ → List ℕ
@@ -351,9 +355,10 @@ pub record Tables : Type 0 where
   pub functions : List FunctionDef
   pub globals : Typing
   pub fields : Typing
+  pub strings : List ℕ
 
 abbrev pub tablesOf : Contents → Tables
-tablesOf k = record { functions = k .functions; globals = typingOf k; fields = fieldsOf k }
+tablesOf k = record { functions = k .functions; globals = typingOf k; fields = fieldsOf k; strings = k .strings }
 
 -- a statement of a shape at the position p, whose operands name the cells a, b and c
 abbrev pub executeAs : Shape → Tables → ℤ → Statement → ℕ → ℕ → ℕ → Entities → List ℕ → Does
@@ -361,10 +366,10 @@ executeAs (floats f) k p st a b c e cells = effectDoes p (floatsEffect f (k .glo
 executeAs (values t f) k p st a b c e cells = effectDoes p (valuesEffect t f (k .globals) a b c cells)
 executeAs (vectors ta tb f) k p st a b c e cells = effectDoes p (vectorsEffect ta tb f (k .globals) a b c cells)
 executeAs (vectorsToFloat f) k p st a b c e cells = effectDoes p (vectorsToFloatEffect f (k .globals) a b c cells)
-executeAs (strings f) k p st a b c e cells = effectDoes p (stringsEffect f (k .globals) a b c cells)
+executeAs (strings when) k p st a b c e cells = effectDoes p (stringsEffect when (k .globals) (k .strings) a b c cells)
 executeAs (negates t f) k p st a b c e cells = effectDoes p (negatesEffect t f (k .globals) a b c cells)
 executeAs negatesV k p st a b c e cells = effectDoes p (negatesVEffect (k .globals) a b c cells)
-executeAs negatesS k p st a b c e cells = effectDoes p (negatesSEffect (k .globals) a b c cells)
+executeAs negatesS k p st a b c e cells = effectDoes p (negatesSEffect (k .globals) (k .strings) a b c cells)
 executeAs (stores t) k p st a b c e cells = effectDoes p (storesEffect t (k .globals) a b c cells)
 executeAs storesV k p st a b c e cells = effectDoes p (storesVEffect (k .globals) a b c cells)
 executeAs (loads t) k p st a b c e cells = effectDoes p (loadsEffect t (k .globals) (k .fields) e a b c cells)

@@ -73,7 +73,7 @@ module _ (k : Tables) (p : ℤ) (op x y z : ℕ) (e : Entities) (cells : List �
       by (values t f) q = sym (not-handed _ _ refl)
       by (vectors ta tb f) q = sym (not-handed _ _ refl)
       by (vectorsToFloat f) q = sym (not-handed _ _ refl)
-      by (strings f) q = sym (not-handed _ _ refl)
+      by (strings when) q = sym (not-handed _ _ refl)
       by (negates t f) q = sym (not-handed _ _ refl)
       by negatesV q = sym (not-handed _ _ refl)
       by negatesS q = sym (not-handed _ _ refl)
@@ -100,8 +100,9 @@ builtin-handed n g p cells = go (isRounding n) refl
     go true h = sym (not-handed _ _ refl) ∙ ap isHandedOver (builtin-rounds n g p cells h)
     go false h = ap isHandedOver (builtin-hosts n g p cells h)
 
-pub handed-here : (r : FileRecord) (file : List ℕ) → AllFit (length file) r → (functions defs fields : List ℕ) → functions ≡ partOf 36 (r .functions) file
-    → defs ≡ partOf 8 (r .globaldefs) file → fields ≡ partOf 8 (r .fielddefs) file → (p : ℤ) (st : Statement) (e : Entities) (cells : List ℕ) (b : Bool)
-    → b ≡ isHandedOver (executeIn (tablesIn functions defs (r .globals .count) fields (r .entityfields)) p st e cells)
+pub handed-here : (r : FileRecord) (file : List ℕ) → AllFit (length file) r → (functions defs fields strings : List ℕ) → functions ≡ partOf 36 (r .functions) file
+    → defs ≡ partOf 8 (r .globaldefs) file → fields ≡ partOf 8 (r .fielddefs) file → strings ≡ partOf 1 (r .strings) file
+    → (p : ℤ) (st : Statement) (e : Entities) (cells : List ℕ) (b : Bool)
+    → b ≡ isHandedOver (executeIn (tablesIn functions defs (r .globals .count) fields (r .entityfields) strings) p st e cells)
     → b ≡ isHandedOver (execute (contentsAt r file) p st e cells)
-handed-here r file fit functions defs fields f d h p st e cells b q = q ∙ ap isHandedOver (on-parts r file fit functions defs fields f d h p st e cells)
+handed-here r file fit functions defs fields texts f d h t p st e cells b q = q ∙ ap isHandedOver (on-parts r file fit functions defs fields texts f d h t p st e cells)

@@ -25,15 +25,17 @@ use Rattle.execution.specs.declared.Callee.the-variants as callee
 use Rattle.execution.specs.declared.Executed.{Executed}
 use Rattle.execution.specs.declared.Executed.the-variants.{Next, Calls, Returns, Refused, HandedOver}
 use Rattle.execution.specs.declared.shapes.CellOp.{CellOp}
-use Rattle.execution.specs.declared.shapes.CellOp.the-variants.{Values, Vectors, VectorsToFloat, Strings, Nots, NotV, NotS, Stores, StoreV}
+use Rattle.execution.specs.declared.shapes.CellOp.the-variants.{Values, Vectors, VectorsToFloat, Nots, NotV, Stores, StoreV}
+use Rattle.execution.specs.declared.shapes.StringOp.{StringOp}
+use Rattle.execution.specs.declared.shapes.StringOp.the-variants.{Compare, Not}
 use Rattle.execution.specs.declared.shapes.FieldOp.{FieldOp}
 use Rattle.execution.specs.declared.shapes.FieldOp.the-variants.{Loads, Address, StoresP}
 use Rattle.execution.specs.declared.shapes.Shape as code
-use Rattle.execution.specs.declared.shapes.Shape.the-variants.{Cells, Fields, Call}
+use Rattle.execution.specs.declared.shapes.Shape.the-variants.{Cells, Strings, Fields, Call}
 use Rattle.floats.specs.Opcodes.{floatOp}
 use Rattle.floats.specs.Rounding.{isRounding, is-rounding, no-rounding}
 use Rattle.globals.specs.Effects.{After, after, answered, effectOn}
-use Rattle.execution.specs.Shapes.{isFloats, cellShape, fieldShape, shapeAs, effectAs, fieldDoes}
+use Rattle.execution.specs.Shapes.{isFloats, cellShape, stringShape, fieldShape, shapeAs, effectAs, stringEffect, fieldDoes}
 use Rattle.execution.proofs.Opcodes.{floats-are}
 use Rattle.execution.specs.Execution.{statement, doesOf, calleeDoes, Execution, executed, execution, completedAs}
 
@@ -198,21 +200,28 @@ module _ (k : Tables) (p : ℤ) (op x y z : ℕ) (e : Entities) (cells : List �
   effect-does (Values t) = refl
   effect-does (Vectors ta tb) = refl
   effect-does VectorsToFloat = refl
-  effect-does Strings = refl
   effect-does (Nots t) = refl
   effect-does NotV = refl
-  effect-does NotS = refl
   effect-does (Stores t) = refl
   effect-does StoreV = refl
 
-  module _ (shape : code.Shape) (what : CellOp) (told : shape ≡ Cells what) (is : shapeAs shape op ≡ shapeOf op) where
-    pub written : (i j l : ℕ) → i ≡ cellOf x → j ≡ cellOf y → l ≡ cellOf z → (a : Answer) (cells′ : List ℕ) (r : Executed)
-        → after a cells′ ≡ effectOn (effectAs what op (k .globals) i j l cells) cells
-        → r ≡ completedAs p a
-        → Executes r cells′ (e .cells)
-    written i j l ei ej el a cells′ r q h =
-        let q′ = rw (ei, ej, el) at q in
-        rw h (completed-is p _ a cells (e .cells) cells′ q′ ∙ ap (λ (d : Does). execution d cells (e .cells)) (sym (effect-does what) ∙ does-is shape (Cells what) told is))
+  string-does : (what : StringOp) → does (stringShape what) ≡ effectDoes p (stringEffect what (k .globals) (k .strings) (cellOf x) (cellOf y) (cellOf z) cells)
+  unfolding stringEffect
+  string-does (Compare when) = refl
+  string-does Not = refl
+
+  -- the effect of a statement is its shape's
+  wrote : (shape s : code.Shape) → shape ≡ s → shapeAs shape op ≡ shapeOf op → (x : Effect) → does (shapeAs s op) ≡ effectDoes p x → (a : Answer) (cells′ : List ℕ) (r : Executed)
+      → after a cells′ ≡ effectOn x cells → r ≡ completedAs p a → Executes r cells′ (e .cells)
+  wrote shape s told is x effect a cells′ r q h =
+      rw h (completed-is p x a cells (e .cells) cells′ q ∙ ap (λ (d : Does). execution d cells (e .cells)) (sym effect ∙ does-is shape s told is))
+
+  module _ (shape : code.Shape) (is : shapeAs shape op ≡ shapeOf op) (i j l : ℕ) (ei : i ≡ cellOf x) (ej : j ≡ cellOf y) (el : l ≡ cellOf z) (a : Answer) (cells′ : List ℕ) (r : Executed) (h : r ≡ completedAs p a) where
+    pub written : (what : CellOp) → shape ≡ Cells what → after a cells′ ≡ effectOn (effectAs what op (k .globals) i j l cells) cells → Executes r cells′ (e .cells)
+    written what told q = wrote shape (Cells what) told is _ (effect-does what) a cells′ r (rw (ei, ej, el) at q) h
+
+    pub string-written : (what : StringOp) → shape ≡ Strings what → after a cells′ ≡ effectOn (stringEffect what (k .globals) (k .strings) i j l cells) cells → Executes r cells′ (e .cells)
+    string-written what told q = wrote shape (Strings what) told is _ (string-does what) a cells′ r (rw (ei, ej, el) at q) h
 
   -- the statements of entity fields
   field-does : (what : FieldOp) → does (fieldShape what) ≡ fieldDoes what (k .globals) (k .fields) p e (cellOf x) (cellOf y) (cellOf z) cells

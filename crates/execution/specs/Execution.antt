@@ -14,7 +14,7 @@ use Rattle.definition.specs.File.{Contents, contentsAt, u32At}
 use Rattle.definition.specs.RecordLaws.{length-records}
 use Rattle.functions.specs.Laws.{AllFit}
 use Rattle.functions.specs.Parts.{partOf, functionsIn}
-use Rattle.functions.specs.PartLaws.{part-globaldefs, part-fielddefs, part-functions}
+use Rattle.functions.specs.PartLaws.{part-globaldefs, part-fielddefs, part-functions, part-strings}
 use Rattle.typed.specs.Typing.{typing, fieldTyping}
 use Rattle.definition.specs.declared.Handover.the-variants.{Builtin}
 use Rattle.definition.specs.Cells.{cellOf, withoutVoid, Typing, typingOf, fieldsOf}
@@ -44,11 +44,11 @@ statement opcode arg1 arg2 arg3 = record { opcode = opcode; arg1 = arg1; arg2 = 
 abbrev pub entitiesAt : ℕ → List ℕ → Entities
 entitiesAt number cells = record { count = number; cells = cells }
 
--- ---- what execution looks up, on the parts of a file: the functions, the global definitions, the field definitions
+-- ---- what execution looks up, on the parts of a file: the functions, the global definitions, the field definitions, the strings
 
-abbrev pub tablesIn : List ℕ → List ℕ → ℕ → List ℕ → ℕ → Tables
-tablesIn functions defs count fields size =
-    record { functions = functionsIn functions; globals = typing defs count; fields = fieldTyping fields size }
+abbrev pub tablesIn : List ℕ → List ℕ → ℕ → List ℕ → ℕ → List ℕ → Tables
+tablesIn functions defs count fields size strings =
+    record { functions = functionsIn functions; globals = typing defs count; fields = fieldTyping fields size; strings = strings }
 
 module _ (r : FileRecord) (file : List ℕ) (fit : AllFit (length file) r) where
   pub typing-here : typing (partOf 8 (r .globaldefs) file) (r .globals .count) ≡ typingOf (contentsAt r file)
@@ -62,9 +62,9 @@ module _ (r : FileRecord) (file : List ℕ) (fit : AllFit (length file) r) where
   unfolding contentsAt
   fields-here = ap (λ (ds : List Definition). record { definitions = withoutVoid ds; count = r .entityfields }) (part-fielddefs r file fit)
 
-  tables-here : tablesIn (partOf 36 (r .functions) file) (partOf 8 (r .globaldefs) file) (r .globals .count) (partOf 8 (r .fielddefs) file) (r .entityfields)
+  tables-here : tablesIn (partOf 36 (r .functions) file) (partOf 8 (r .globaldefs) file) (r .globals .count) (partOf 8 (r .fielddefs) file) (r .entityfields) (partOf 1 (r .strings) file)
       ≡ tablesOf (contentsAt r file)
-  tables-here = rw (part-functions r file fit, typing-here, fields-here)
+  tables-here = rw (part-functions r file fit, typing-here, fields-here, part-strings r file fit)
 
 -- ---- what it answers
 
@@ -100,13 +100,13 @@ execution (refuses n) cells entities = executed (Refused n) cells entities
 execution (handsOver h) cells entities = executed (HandedOver h) cells entities
 
 -- what was found on the parts of a file holds of its contents
-module _ (r : FileRecord) (file : List ℕ) (fit : AllFit (length file) r) (functions defs fields : List ℕ) (f : functions ≡ partOf 36 (r .functions) file) (d : defs ≡ partOf 8 (r .globaldefs) file) (h : fields ≡ partOf 8 (r .fielddefs) file) (p : ℤ) (st : Statement) (e : Entities) (cells : List ℕ) where
+module _ (r : FileRecord) (file : List ℕ) (fit : AllFit (length file) r) (functions defs fields strings : List ℕ) (f : functions ≡ partOf 36 (r .functions) file) (d : defs ≡ partOf 8 (r .globaldefs) file) (h : fields ≡ partOf 8 (r .fielddefs) file) (t : strings ≡ partOf 1 (r .strings) file) (p : ℤ) (st : Statement) (e : Entities) (cells : List ℕ) where
   abbrev tables : Tables
-  tables = tablesIn functions defs (r .globals .count) fields (r .entityfields)
+  tables = tablesIn functions defs (r .globals .count) fields (r .entityfields) strings
 
   pub on-parts : executeIn tables p st e cells ≡ execute (contentsAt r file) p st e cells
   unfolding execute
-  on-parts = rw (f, d, h) (ap (λ (k : Tables). executeIn k p st e cells) (tables-here r file fit))
+  on-parts = rw (f, d, h, t) (ap (λ (k : Tables). executeIn k p st e cells) (tables-here r file fit))
 
   pub executed-here : (x : Execution) → x ≡ execution (executeIn tables p st e cells) cells (e .cells)
       → x ≡ execution (execute (contentsAt r file) p st e cells) cells (e .cells)

@@ -9,11 +9,13 @@ use Rattle.definition.specs.Statements.{Entities, Does, effectDoes, loadsEffect
 use Rattle.definition.specs.Statements.{Effect, valuesEffect, vectorsEffect, vectorsToFloatEffect, stringsEffect, negatesEffect, negatesVEffect, negatesSEffect, storesEffect, storesVEffect}
 use Rattle.floats.specs.Opcodes.{byShape, valueOp, componentOp, vectorsToFloatOp, notOp}
 use Rattle.execution.specs.declared.shapes.CellOp.{CellOp}
-use Rattle.execution.specs.declared.shapes.CellOp.the-variants.{Values, Vectors, VectorsToFloat, Strings, Nots, NotV, NotS, Stores, StoreV}
+use Rattle.execution.specs.declared.shapes.CellOp.the-variants.{Values, Vectors, VectorsToFloat, Nots, NotV, Stores, StoreV}
+use Rattle.execution.specs.declared.shapes.StringOp.{StringOp}
+use Rattle.execution.specs.declared.shapes.StringOp.the-variants.{Compare, Not}
 use Rattle.execution.specs.declared.shapes.FieldOp.{FieldOp}
 use Rattle.execution.specs.declared.shapes.FieldOp.the-variants.{Loads, Address, StoresP}
 use Rattle.execution.specs.declared.shapes.Shape as code
-use Rattle.execution.specs.declared.shapes.Shape.the-variants.{Cells, Fields, Branch, Goto, Call, Return, Host}
+use Rattle.execution.specs.declared.shapes.Shape.the-variants.{Cells, Strings, Fields, Branch, Goto, Call, Return, Host}
 
 abbrev pub isFloats : Shape → Bool
 isFloats = byShape (λ g. true) (λ g. false) (λ g. false) (λ g. false) (λ g. false) false
@@ -24,7 +26,7 @@ transfer c h z (floats f) = z
 transfer c h z (values t f) = z
 transfer c h z (vectors ta tb f) = z
 transfer c h z (vectorsToFloat f) = z
-transfer c h z (strings f) = z
+transfer c h z (strings when) = z
 transfer c h z (negates t f) = z
 transfer c h z negatesV = z
 transfer c h z negatesS = z
@@ -51,12 +53,14 @@ abbrev pub cellShape : CellOp → ℕ → Shape
 cellShape (Values t) op = values t (valueOp op)
 cellShape (Vectors ta tb) op = vectors ta tb (componentOp op)
 cellShape VectorsToFloat op = vectorsToFloat (vectorsToFloatOp op)
-cellShape Strings op = strings (valueOp op)
 cellShape (Nots t) op = negates t (notOp op)
 cellShape NotV op = negatesV
-cellShape NotS op = negatesS
 cellShape (Stores t) op = stores t
 cellShape StoreV op = storesV
+
+abbrev pub stringShape : StringOp → Shape
+stringShape (Compare when) = strings when
+stringShape Not = negatesS
 
 abbrev pub fieldShape : FieldOp → Shape
 fieldShape (Loads t) = loads t
@@ -65,6 +69,7 @@ fieldShape (StoresP t) = storesP t
 
 abbrev pub shapeAs : code.Shape → ℕ → Shape
 shapeAs (Cells what) op = cellShape what op
+shapeAs (Strings what) op = stringShape what
 shapeAs (Fields what) op = fieldShape what
 shapeAs (Branch when) op = branches when
 shapeAs Goto op = jumps
@@ -77,12 +82,15 @@ unfoldable pub effectAs : CellOp → ℕ → Typing → ℕ → ℕ → ℕ → 
 effectAs (Values t) op = valuesEffect t (valueOp op)
 effectAs (Vectors ta tb) op = vectorsEffect ta tb (componentOp op)
 effectAs VectorsToFloat op = vectorsToFloatEffect (vectorsToFloatOp op)
-effectAs Strings op = stringsEffect (valueOp op)
 effectAs (Nots t) op = negatesEffect t (notOp op)
 effectAs NotV op = negatesVEffect
-effectAs NotS op = negatesSEffect
 effectAs (Stores t) op = storesEffect t
 effectAs StoreV op = storesVEffect
+
+-- the effect of one that goes by the texts of strings
+unfoldable pub stringEffect : StringOp → Typing → List ℕ → ℕ → ℕ → ℕ → List ℕ → Effect
+stringEffect (Compare when) = stringsEffect when
+stringEffect Not = negatesSEffect
 
 -- what a statement of entity fields does at the position p, whose operands name the cells a, b and c
 abbrev pub fieldDoes : FieldOp → Typing → Typing → ℤ → Entities → ℕ → ℕ → ℕ → List ℕ → Does

@@ -2,6 +2,7 @@
 use crate::shapes::CellOp;
 use crate::shapes::FieldOp;
 use crate::shapes::Shape;
+use crate::shapes::StringOp;
 use definition::Answer;
 use definition::DEFINITION_SIZE;
 use definition::FUNCTION_SIZE;
@@ -29,7 +30,7 @@ ghost use Rattle.functions.specs.Parts.{functionsIn};
 ghost use Rattle.typed.specs.Typing.{typing, fieldTyping};
 ghost use Rattle.entities.specs.Lent.{Lent, entitiesIn};
 ghost use Rattle.globals.specs.Effects.{after, effectOn};
-ghost use Rattle.execution.specs.Shapes.{effectAs, fieldDoes};
+ghost use Rattle.execution.specs.Shapes.{effectAs, stringEffect, fieldDoes};
 ghost use Rattle.execution.specs.Execution.{completedAs, doesOf, calleeDoes, executed, execution, Usable, UsableFields, entitiesAt};
 
 pub mod shapes;
@@ -71,12 +72,32 @@ fn write(
             b,
             c,
         ),
-        CellOp::Strings => return comparisons::op_strings(defs, count, cells, op, a, b, c),
         CellOp::Nots(t) => return comparisons::op_nots(defs, count, cells, op, t, a, b, c),
         CellOp::NotV => return comparisons::op_not_v(defs, count, cells, a, b, c),
-        CellOp::NotS => return comparisons::op_not_s(defs, count, cells, a, b, c),
         CellOp::Stores(t) => return stores::op_stores(defs, count, cells, t, a, b, c),
         CellOp::StoreV => return stores::op_store_v(defs, count, cells, a, b, c),
+    }
+}
+
+// A statement that goes by the texts of strings (document 02, R-4).
+fn string(
+    defs: &[u8],
+    count: usize,
+    strings: &[u8],
+    cells: &mut [u32],
+    what: StringOp,
+    at: Operands,
+) -> Answer
+    requires { ⌜ count ≤ length (now cells) ⌝ }
+    ensures { λ r. ⌜ after r (now (cells .exit)) ≡ effectOn (stringEffect what (typing (now (defs .entry)) count) (now (strings .entry)) (at .a) (at .b) (at .c) (now (cells .entry))) (now (cells .entry)) ⌝ }
+{
+    match what {
+        StringOp::Compare(when) => {
+            return strings::op_strings(defs, count, strings, cells, when, at.a, at.b, at.c);
+        }
+        StringOp::Not => {
+            return strings::op_not_s(defs, count, strings, cells, at.a, at.b, at.c);
+        }
     }
 }
 
@@ -213,6 +234,17 @@ fn call(defs: &[u8], count: usize, cells: &mut [u32], k: usize, callee: Callee) 
     }
 }
 
+// The cells that the operands of a statement name.
+fn operands(s: Statement) -> Operands
+    ensures { λ r. ⌜ (r .a ≡ cellOf (s .arg1)) × (r .b ≡ cellOf (s .arg2)) × (r .c ≡ cellOf (s .arg3)) ⌝ }
+{
+    Operands {
+        a: fetch::cell_of(s.arg1),
+        b: fetch::cell_of(s.arg2),
+        c: fetch::cell_of(s.arg3),
+    }
+}
+
 // The statement k, beside so many entities.
 pub fn execute(
     file: &[u8],
@@ -243,13 +275,14 @@ pub fn execute(
             let answer = write(defs, count, cells, what, s.opcode, a, b, c);
             return completed(k, answer);
         }
+        Shape::Strings(what) => {
+            let strings = parts::part(file, 1, recorded.strings);
+            let answer = string(defs, count, strings, cells, what, operands(s));
+            return completed(k, answer);
+        }
         Shape::Fields(what) => {
             let fields = parts::part(file, DEFINITION_SIZE, recorded.fielddefs);
-            let at = Operands {
-                a,
-                b: fetch::cell_of(s.arg2),
-                c: fetch::cell_of(s.arg3),
-            };
+            let at = operands(s);
             let table = EntityTable {
                 number,
                 size: recorded.entityfields,

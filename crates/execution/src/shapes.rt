@@ -17,12 +17,16 @@ pub enum CellOp {
     Values(u16),
     Vectors(u16, u16),
     VectorsToFloat,
-    Strings,
     Nots(u16),
     NotV,
-    NotS,
     Stores(u16),
     StoreV,
+}
+
+// The statements that go by the texts of strings (document 02, R-4): EqS is the comparison that gives 1.0 where they are the same.
+pub enum StringOp {
+    Compare(bool),
+    Not,
 }
 
 // The statements of entity fields (document 02, R-3), with the type of what is moved.
@@ -35,6 +39,7 @@ pub enum FieldOp {
 // IfNot is the branch that jumps when the float is zero.
 pub enum Shape {
     Cells(CellOp),
+    Strings(StringOp),
     Fields(FieldOp),
     Branch(bool),
     Goto,
@@ -84,11 +89,11 @@ fn shape_before_stores(op: u16) -> Shape
         ops::ADD_V => return Shape::Cells(CellOp::Vectors(VECTOR, VECTOR)),
         ops::SUB_V => return Shape::Cells(CellOp::Vectors(VECTOR, VECTOR)),
         ops::EQ_V => return Shape::Cells(CellOp::VectorsToFloat),
-        ops::EQ_S => return Shape::Cells(CellOp::Strings),
+        ops::EQ_S => return Shape::Strings(StringOp::Compare(true)),
         ops::EQ_ENT => return Shape::Cells(CellOp::Values(ENTITY)),
         ops::EQ_FNC => return Shape::Cells(CellOp::Values(FUNCTION)),
         ops::NE_V => return Shape::Cells(CellOp::VectorsToFloat),
-        ops::NE_S => return Shape::Cells(CellOp::Strings),
+        ops::NE_S => return Shape::Strings(StringOp::Compare(false)),
         ops::NE_ENT => return Shape::Cells(CellOp::Values(ENTITY)),
         ops::NE_FNC => return Shape::Cells(CellOp::Values(FUNCTION)),
         ops::LOAD_F => return Shape::Fields(FieldOp::Loads(FLOAT)),
@@ -129,7 +134,7 @@ pub fn shape_of(op: u16) -> Shape
         ops::RETURN => return Shape::Return,
         ops::NOT_F => return Shape::Cells(CellOp::Nots(FLOAT)),
         ops::NOT_V => return Shape::Cells(CellOp::NotV),
-        ops::NOT_S => return Shape::Cells(CellOp::NotS),
+        ops::NOT_S => return Shape::Strings(StringOp::Not),
         ops::NOT_ENT => return Shape::Cells(CellOp::Nots(ENTITY)),
         ops::NOT_FNC => return Shape::Cells(CellOp::Nots(FUNCTION)),
         ops::IF => return Shape::Branch(false),

@@ -18,7 +18,7 @@ Pairing = ℕ → ℕ → ℕ → ℕ → ℕ → ℕ → ℕ
 abbrev pub byShape : {A : Type 0} → (Binary → A) → (Binary → A) → (Binary → A) → (Pairing → A) → (Unary → A) → A → Shape → A
 byShape f v c d n z (floats g) = f g
 byShape f v c d n z (values t g) = v g
-byShape f v c d n z (strings g) = v g
+byShape f v c d n z (strings when) = z
 byShape f v c d n z (vectors ta tb g) = c g
 byShape f v c d n z (vectorsToFloat g) = d g
 byShape f v c d n z (negates t g) = n g
@@ -74,10 +74,6 @@ float-op op h = ap (λ (s : Shape). Option·getD (floatsOf s) (λ a b. 0)) h
 pub value-op : (op : ℕ) {t : ℕ} {f : Binary} → shapeOf op ≡ values t f → valueOp op ≡ f
 unfolding valueOp
 value-op op h = ap (λ (s : Shape). Option·getD (valuesOf s) (λ a b. 0)) h
-
-pub string-op : (op : ℕ) {f : Binary} → shapeOf op ≡ strings f → valueOp op ≡ f
-unfolding valueOp
-string-op op h = ap (λ (s : Shape). Option·getD (valuesOf s) (λ a b. 0)) h
 
 pub component-op : (op : ℕ) {ta tb : ℕ} {f : Binary} → shapeOf op ≡ vectors ta tb f → componentOp op ≡ f
 unfolding componentOp

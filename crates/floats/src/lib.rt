@@ -273,15 +273,13 @@ pub fn vectors_to_float_op(op: u16, a0: u32, a1: u32, a2: u32, b0: u32, b1: u32,
     }
 }
 
-// Two numbers: the result of EqS, EqEnt, EqFnc, NeS, NeEnt, NeFnc.
+// Two numbers: the result of EqEnt, EqFnc, NeEnt, NeFnc.
 pub fn value_op(op: u16, a: u32, b: u32) -> u32
     ensures { λ r. ⌜ r ≡ valueOp op a b ⌝ }
 {
     match op {
-        ops::EQ_S => return eq_n(a, b),
         ops::EQ_ENT => return eq_n(a, b),
         ops::EQ_FNC => return eq_n(a, b),
-        ops::NE_S => return ne_n(a, b),
         ops::NE_ENT => return ne_n(a, b),
         ops::NE_FNC => return ne_n(a, b),
         _ => return 0,

@@ -101,6 +101,12 @@ function-local f g i j s =
     let sizes = same-records byteAt 1 byte-local f g 8 (i + 28) (j + 28) (inner s 28 8 (omega arith)) in
     cc
 
+-- records of one byte are the bytes
+pub byte-records : (part : List ℕ) → recordsOf byteAt 1 part ≡ part
+unfolding records byteAt
+byte-records [] = refl
+byte-records (x ∷ xs) = records-more byteAt 1 byte-local (omega arith) (x ∷ xs) (omega arith) ∙ ap (λ (rest : List ℕ). x ∷ rest) (byte-records xs)
+
 -- ---- one record of a part
 
 pub record-ends : (size n k : ℕ) → 0 < size → k < n / size → size * k + size ≤ n
@@ -128,3 +134,7 @@ module _ (r : FileRecord) (file : List ℕ) (fit : AllFit (length file) r) where
   pub part-globals : cellsIn (partOf 4 (r .globals) file) ≡ contentsAt r file .globals
   unfolding contentsAt
   part-globals = part-records u32At 4 u32-local (omega arith) file (r .globals) (fit .globals)
+
+  pub part-strings : partOf 1 (r .strings) file ≡ contentsAt r file .strings
+  unfolding contentsAt
+  part-strings = sym (byte-records _) ∙ part-records byteAt 1 byte-local (omega arith) file (r .strings) (fit .strings)

@@ -331,7 +331,7 @@ asOpcode op (floats f) = true
 asOpcode op (values t f) = true
 asOpcode op (vectors ta tb f) = true
 asOpcode op (vectorsToFloat f) = true
-asOpcode op (strings f) = true
+asOpcode op (strings when) = true
 asOpcode op (negates t f) = true
 asOpcode op negatesV = true
 asOpcode op negatesS = true
@@ -503,7 +503,7 @@ module _ (k : Tables) (p : â„¤) (st : Statement) (e : Entities) (cells : List â„
   executed-claims (values t f) row = plainly _
   executed-claims (vectors ta tb f) row = plainly _
   executed-claims (vectorsToFloat f) row = plainly _
-  executed-claims (strings f) row = plainly _
+  executed-claims (strings when) row = plainly _
   executed-claims (negates t f) row = plainly _
   executed-claims negatesV row = plainly _
   executed-claims negatesS row = plainly _

@@ -12,5 +12,6 @@ pub mod Completed
 pub mod Runs
 pub mod Untouched
 pub mod RoundTrip
+pub mod Texts
 pub mod Opcodes
 pub mod Refusals

@@ -18,6 +18,7 @@ use Rattle.definition.specs.Checks.{judge}
 use Rattle.definition.specs.File.{Contents, builtinNumber}
 use Rattle.definition.specs.Floats.{rounded, absolute, roundingOf}
 use Rattle.definition.specs.Cells.{lookup, scalar, passes, signed, cellOf, cellAccess, vectorAccess, access, readAccess, withoutVoid, fieldCellAccess, fieldAccess}
+use Rattle.definition.specs.Strings.{upToZero, sameText, textAccess}
 use Rattle.definition.specs.Statements.{Does, next, puts, calls, returns, refuses, handsOver, shapeOf, fetchConditions, execute, doesAt}
 use Rattle.definition.specs.Statements.{floatsEffect, valuesEffect, vectorResult, vectorsEffect, vectorsToFloatEffect, stringsEffect}
 use Rattle.definition.specs.Statements.{negatesEffect, negatesVEffect, negatesSEffect, storesEffect, storesVEffect, branchesDo, roundingEffect, callOf, callDoes}
@@ -56,6 +57,7 @@ fn first = record { first = first; start = 0; locals = 0; name = 0; srcfile = 0;
 
 -- Function 2 is the builtin 35, function 3 is minus 5, which is none, function 4 is the builtin 1, function 5 is the builtin 36, rint. The field definitions
 -- bind fields and no cells: 30 is a string, 31 a float, 32 an entity, 33 a field, 34 a function, 35 a pointer, 36 a vector; 40 is void and then a string.
+-- Each of the 64 string numbers has a text of its own, none of them empty, which ends with the strings.
 abbrev program : List Definition → Statement → Contents
 program definitions st =
     record {
@@ -63,7 +65,7 @@ program definitions st =
       globaldefs = definitions;
       fielddefs = define 1 30 ∷ define 2 31 ∷ define 4 32 ∷ define 5 33 ∷ define 6 34 ∷ define 7 35 ∷ define 3 36 ∷ define 0 40 ∷ define 1 40 ∷ [];
       functions = fn 0 ∷ fn 1 ∷ fn 0xffffffdd ∷ fn 0xfffffffb ∷ fn 0xffffffff ∷ fn 0xffffffdc ∷ [];
-      strings = 0 ∷ [];
+      strings = numbers 64 1;
       globals = numbers 64 0;
       entityfields = 105;
     }
@@ -297,6 +299,21 @@ abbrev comparisonN : String → ℕ → (equal different : Outcome) → List Row
 comparisonN words o equal different =
     binary words o 7 7 equal ∷ binary words o 7 8 different ∷ binary words o 0x7fffffff 0 different ∷ []
 
+-- of strings (document 02, R-4), by the texts of numbers: below 0 and from 64 on there are none
+abbrev comparisonS : String → ℕ → (equal different : Outcome) → List Row
+comparisonS words o equal different =
+    binary words o 7 7 equal
+    ∷ binary words o 7 8 different
+    ∷ binary words o 8 7 different
+    ∷ binary words o 63 0 different
+    ∷ binary "33: the first, 64" o 64 7 (refused 33)
+    ∷ binary "33: the second, 64" o 7 64 (refused 33)
+    ∷ binary "33: the greatest number" o 0x7fffffff 0 (refused 33)
+    ∷ binary "33: below 0" o minusZero 0 (refused 33)
+    ∷ binary "33: below 0, the second" o 0 0xffffffff (refused 33)
+    ∷ binary "33: equal numbers in two cells" o nan nan (refused 33)
+    ∷ []
+
 -- "Comparisons give 1.0 or 0.0"
 abbrev comparisons : List Row
 comparisons =
@@ -310,18 +327,13 @@ comparisons =
     ++ connective "Or" 63 no yes yes yes
     ++ comparisonV "EqV" 11 yes no
     ++ comparisonV "NeV" 16 no yes
-    ++ comparisonN "EqS" 12 yes no
+    ++ comparisonS "EqS" 12 yes no
     ++ comparisonN "EqEnt" 13 yes no
     ++ comparisonN "EqFnc" 14 yes no
-    ++ comparisonN "NeS" 17 no yes
+    ++ comparisonS "NeS" 17 no yes
     ++ comparisonN "NeEnt" 18 no yes
     ++ comparisonN "NeFnc" 19 no yes
-    ++ (binary "EqS compares string numbers, not floats" 12 minusZero 0 no
-    ∷ binary "NeS" 17 minusZero 0 yes
-    ∷ binary "EqFnc" 14 minusZero 0 no
-    ∷ binary "NeFnc" 19 minusZero 0 yes
-    ∷ binary "EqS of NaN bits" 12 nan nan yes
-    ∷ [])
+    ++ (binary "EqFnc compares numbers, not floats" 14 minusZero 0 no ∷ binary "NeFnc" 19 minusZero 0 yes ∷ binary "EqFnc of NaN bits" 14 nan nan yes ∷ [])
 
 abbrev nots : List Row
 nots =
@@ -333,9 +345,11 @@ nots =
     ∷ row "NotV: the first" untyped (op 45 30 0 36) (vector 30 one 0 0) no
     ∷ row "NotV: the second" untyped (op 45 30 0 36) (vector 30 0 nan 0) no
     ∷ row "NotV: the third" untyped (op 45 30 0 36) (vector 30 0 0 one) no
-    ∷ unary "NotS gives 1.0 for .. string number 0" 46 0 yes
+    ∷ unary "NotS is 1.0 for string number 0, whatever its text" 46 0 yes
     ∷ unary "NotS" 46 7 no
-    ∷ unary "NotS of a negative string number" 46 minusZero no
+    ∷ unary "NotS of the last byte" 46 63 no
+    ∷ unary "33: NotS of 64" 46 64 (refused 33)
+    ∷ unary "33: NotS of a negative string number" 46 minusZero (refused 33)
     ∷ unary "NotEnt" 47 0 yes
     ∷ unary "NotEnt of another" 47 7 no
     ∷ unary "NotFnc" 48 0 yes
@@ -741,8 +755,8 @@ negatives =
     ∷ row "not of a vector: StoreV" typed (op 32 45 33 0) (45 holds 0xbf800000 ∷ []) (writes (vector 33 0xbf800000 46 47))
     ∷ [])
 
--- ---- "EqS, NeS and NotS refuse negative operands 15 before any type check. EqS and NeS then compare string numbers, but equal operands are neither read nor
--- checked further and count as equal. NotS gives 1.0 for operand 0, as the Rust does, or string number 0; operand 0 is still checked"
+-- ---- "EqS, NeS and NotS refuse negative operands 15 before any type check"; R-4: "Equal operands of EqS and NeS are still answered unread"; NotS is 1.0 "still
+-- for operand 0", which is checked all the same; 33 "in each access after type and address"
 
 abbrev stringOpcodes : List ℕ
 stringOpcodes = 12 ∷ 17 ∷ []
@@ -772,7 +786,20 @@ strings =
     ++ refuse "destination negative" stringOpcodes (λ o. op o 33 34 0xffff) 15
     ++ refuse "type, then address" stringOpcodes (λ o. op o 33 65 33) 16
     ++ refuse "type, then address: a string" stringOpcodes (λ o. op o 33 64 33) 15
-    ++ (row "NotS gives 1.0 for operand 0" untyped (op 46 0 0 36) (0 holds 7 ∷ []) yes
+    ++ of stringOpcodes (λ o. row "16 of the first before its 33" typed (op o 36 33 33) (36 holds 64 ∷ []) (refused 16))
+    ++ of stringOpcodes (λ o. row "33 of the first before 16 of the second" typed (op o 33 36 33) (33 holds 64 ∷ []) (refused 33))
+    ++ of stringOpcodes (λ o. row "33 of the first before 15 of the second" typed (op o 33 66 33) (33 holds 64 ∷ []) (refused 33))
+    ++ of stringOpcodes (λ o. row "16 of the second before its 33" typed (op o 33 36 33) (36 holds 64 ∷ []) (refused 16))
+    ++ of stringOpcodes (λ o. row "33 of the second before 16 of the destination" typed (op o 33 34 36) (34 holds 64 ∷ []) (refused 33))
+    ++ of stringOpcodes (λ o. row "33 of the second before 15 of the destination" typed (op o 33 34 66) (34 holds 64 ∷ []) (refused 33))
+    ++ of stringOpcodes (λ o. row "negative second before 33 of the first" typed (op o 33 0xffff 33) (33 holds 64 ∷ []) (refused 15))
+    ++ (row "18 before 33: NotS" untyped (op 46 30 1 36) (30 holds 64 ∷ []) (refused 18)
+    ∷ row "16 before 33: NotS" typed (op 46 42 0 33) (42 holds 64 ∷ []) (refused 16)
+    ∷ row "33 before 16 of the destination: NotS" typed (op 46 30 0 36) (30 holds 64 ∷ []) (refused 33)
+    ∷ row "33 before 15 of the destination: NotS" typed (op 46 30 0 66) (30 holds 64 ∷ []) (refused 33)
+    ∷ row "33: NotS of operand 0" untyped (op 46 0 0 36) (0 holds 64 ∷ []) (refused 33)
+    ∷ row "StoreS of 64 is no comparison" untyped (op 33 30 36 0) (30 holds 64 ∷ []) (writes (36 holds 64 ∷ []))
+    ∷ row "NotS gives 1.0 for operand 0" untyped (op 46 0 0 36) (0 holds 7 ∷ []) yes
     ∷ row "NotS: operand 0 is still checked" typed (op 46 0 0 33) [] (refused 16)
     ∷ row "NotS: another operand" untyped (op 46 1 0 36) (1 holds 7 ∷ []) no
     ∷ row "NotS: operand 0, 15 of the destination" untyped (op 46 0 0 64) [] (refused 15)
@@ -829,7 +856,7 @@ rows =
 unfoldable computing : Unit {0}
 unfolding judge builtinNumber
     Ieee.ofBits Ieee.toBits Ieee.add Ieee.sub Ieee.mul Ieee.div Ieee.eq Ieee.ne Ieee.le Ieee.lt Ieee.round Ieee.toSigned Ieee.ofInt
-    lookup scalar passes signed cellOf cellAccess vectorAccess access readAccess
+    lookup scalar passes signed cellOf cellAccess vectorAccess access readAccess upToZero sameText textAccess
     withoutVoid fieldCellAccess fieldAccess valueMoved loadsEffect addressesEffect storesPEffect
     shapeOf floatsEffect valuesEffect vectorResult vectorsEffect vectorsToFloatEffect stringsEffect negatesEffect negatesVEffect negatesSEffect
     storesEffect storesVEffect branchesDo rounded absolute roundingOf roundingEffect callOf callDoes fetchConditions execute doesAt

@@ -196,7 +196,8 @@ impl FieldMut<'_> {
         self.set(VECTOR, value.map(f32::to_bits))
     }
 
-    /// Sets the string number, as [`Machine::find_text`] finds it.
+    /// Sets the string number, as [`Machine::find_text`] finds it. Whether it is in the strings isn't looked at; a
+    /// statement that compares or tests one that isn't is refused 33.
     pub fn set_text(&mut self, number: i64) -> Result<(), FieldError> {
         self.set_number(STRING, number)
     }

@@ -181,6 +181,18 @@ impl<'a> Program<'a> {
     }
 
     /// The text of a string number: the bytes from there to a zero byte or to the end of the strings.
+    ///
+    /// EqS, NeS and NotS go by these texts, and are refused 33 for a number that has none.
+    ///
+    /// ```
+    /// # use host::{assemble::Assembly, Program};
+    /// let file = Assembly { strings: b"\0Reds\0Reds".to_vec(), ..Assembly::default() }.bytes();
+    /// let program = Program::new(&file);
+    /// assert_eq!(program.text(1), Some(&b"Reds"[..]));
+    /// assert_eq!(program.text(6), program.text(1));
+    /// assert_eq!(program.text(5), Some(&b""[..]));
+    /// assert_eq!((program.text(-1), program.text(10)), (None, None));
+    /// ```
     pub fn text(&self, number: i64) -> Option<&'a [u8]> {
         let rest = self.strings()?.get(usize::try_from(number).ok()?..)?;
         if rest.is_empty() {
@@ -190,7 +202,7 @@ impl<'a> Program<'a> {
     }
 
     /// The first string number with a text, the end of a longer text included, as `StringTable::find` of the Rust means
-    /// it.
+    /// it. The text may be there more than once; a program that compares strings can't tell which of them it is given.
     ///
     /// One that isn't there can't be added: a file of another length is refused 13.
     pub fn find_text(&self, text: impl AsRef<[u8]>) -> Option<i64> {
@@ -258,7 +270,7 @@ impl Machine {
         self.records().find_text(text)
     }
 
-    /// The text of a string number, as bytes.
+    /// The text of a string number, as bytes: as [`Program::text`].
     pub fn text(&self, number: i64) -> Option<&[u8]> {
         self.records().text(number)
     }

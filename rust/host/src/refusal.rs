@@ -6,8 +6,8 @@ use std::fmt;
 use crate::float_mode::FloatModeError;
 use crate::layout::LayoutError;
 
-/// The sentences of the numbers 1 to 32.
-const SENTENCES: [&str; 32] = [
+/// The sentences of the numbers 1 to 33.
+const SENTENCES: [&str; 33] = [
     "the file is shorter than 60 bytes or longer than 1,048,576",
     "the version isn't 6",
     "the check number isn't 5927",
@@ -40,6 +40,7 @@ const SENTENCES: [&str; 32] = [
     "the entity isn't below the number of entities",
     "a field's cell isn't below the cells per entity",
     "a pointer is negative, no multiple of 4 or past the last entity, or one to be made is over 2,147,483,647",
+    "EqS, NeS or NotS reads a string number that is negative or not below the length of the strings",
 ];
 
 /// Why an operation was refused: document 01's number, and its sentence.

@@ -89,7 +89,7 @@ fn check(machine: &mut Machine, call: Call) -> Result<(), (Refusal, u32)> {
     assert_eq!(machine.saved()[store..], before.saved()[store..]);
     assert_entities(machine, &before, call);
     if let Err((refusal, count)) = answer {
-        assert!((1..=32).contains(&refusal.number()), "{call:?} {refusal}");
+        assert!((1..=33).contains(&refusal.number()), "{call:?} {refusal}");
         assert!(refusal.to_string().len() > 20);
         if count == 0 {
             assert_unchanged(machine, &before, call);

@@ -1,4 +1,4 @@
-//! The rule files of tests/rules, compiled by fteqcc: each function of expected.txt, whose answers are the model's, and three stories
+//! The rule files of tests/rules, compiled by fteqcc: each function of expected.txt, whose answers are the model's, and four stories
 //! of a host. tests/rules/README.md has the format.
 
 use std::fs;
@@ -111,6 +111,43 @@ fn the_captain_plays() {
         assert_eq!(count, Ok(5));
         assert_eq!(machine.read_float(1), Ok(answer));
     }
+}
+
+/// Two authors' files hold "Reds" at two places, and the points are those of one team.
+#[test]
+fn one_team_at_two_places() {
+    let mut machine = loaded("teams.dat");
+    let points = function(&machine, "points");
+    let number = |machine: &Machine, name: &str| {
+        let definition = machine.find_definition_by_name(name).unwrap();
+        machine.read(definition.cell.into()).unwrap()
+    };
+    let (home, guests) = (
+        number(&machine, "home_side"),
+        number(&machine, "guest_side"),
+    );
+    assert_ne!(home, guests);
+    for team in [home, guests] {
+        assert_eq!(machine.text(team.into()), Some(&b"Reds"[..]));
+        machine.write(4, team).unwrap();
+        // EqS, IfNot, AddF, StoreF twice; EqS, IfNot; Return
+        assert_eq!(
+            machine.call(points, 99_999, |handover, _| Err(handover)),
+            Ok(11)
+        );
+        assert_eq!(machine.read_float(1), Ok(4.0));
+    }
+    // the host finds the first of the two
+    assert_eq!(machine.find_text("Reds"), Some(home.into()));
+    // a number that isn't in the strings
+    let length = machine.context().file.strings.count as u32;
+    machine.write(4, length).unwrap();
+    assert_eq!(machine.text(length.into()), None);
+    let error = machine
+        .call(points, 99_999, |handover, _| Err(handover))
+        .unwrap_err();
+    assert_eq!(error.cause, Cause::Refused(Refusal::new(33)));
+    assert_eq!((error.count, machine.depth()), (0, 0));
 }
 
 #[test]

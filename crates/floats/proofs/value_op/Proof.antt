@@ -17,8 +17,6 @@ value-op-spec =
     (tie.spec
     (λ c κs. tt) (λ c. row _ _ _ _ (c .before .match .keys1) (c .eq-n .ensures))
     (λ c κs. tt) (λ c. row _ _ _ _ (c .before .match .keys2) (c .eq-n2 .ensures))
-    (λ c κs. tt) (λ c. row _ _ _ _ (c .before .match .keys3) (c .eq-n3 .ensures))
-    (λ c κs. tt) (λ c. row _ _ _ _ (c .before .match .keys4) (c .ne-n .ensures))
-    (λ c κs. tt) (λ c. row _ _ _ _ (c .before .match .keys5) (c .ne-n2 .ensures))
-    (λ c κs. tt) (λ c. row _ _ _ _ (c .before .match .keys6) (c .ne-n3 .ensures))
-    (λ c. last valuesOf (λ a b. 0) (λ (f : Binary). f (c .before .args .a) (c .before .args .b)) (12 ∷ 13 ∷ 14 ∷ 17 ∷ 18 ∷ 19 ∷ []) (c .before .args .op) tt (c .match .rest)))
+    (λ c κs. tt) (λ c. row _ _ _ _ (c .before .match .keys3) (c .ne-n .ensures))
+    (λ c κs. tt) (λ c. row _ _ _ _ (c .before .match .keys4) (c .ne-n2 .ensures))
+    (λ c. last valuesOf (λ a b. 0) (λ (f : Binary). f (c .before .args .a) (c .before .args .b)) (13 ∷ 14 ∷ 18 ∷ 19 ∷ []) (c .before .args .op) tt (c .match .rest)))

@@ -10,6 +10,7 @@ use crate::program::{Program, View};
 use crate::random::Random;
 use crate::report::{grouped, Counts, Tally};
 use crate::runs;
+use crate::strings::Met;
 use changed::switches::{self, Switch};
 
 const RULES: Rules =
@@ -39,6 +40,7 @@ pub fn run(seed: u64, count: u64) -> bool {
         totals.changed.print("richter with the named differences changed, NaN canonical");
         if totals.opcodes.total() > 0 {
             totals.opcodes.print_range("opcodes");
+            totals.strings.print("compared or tested string numbers within R-4's limit:");
         }
         good &= totals.unchanged.unexplained + totals.changed.unexplained == 0;
     }
@@ -50,6 +52,8 @@ struct Totals {
     unchanged: Tally,
     changed: Tally,
     opcodes: Counts,
+    /// Statements that compared or tested string numbers within R-4's limit, by opcode.
+    strings: Counts,
 }
 
 type Step = fn(&mut Totals, &mut Random, u64);
@@ -109,6 +113,8 @@ struct Single {
     lent: Lent,
     statement: [i16; 4],
     entered: bool,
+    /// What the statement meets of R-4.
+    met: Met,
     left: Left,
 }
 
@@ -123,11 +129,15 @@ impl Single {
         if entered {
             ours.enter(1);
         }
+        let met = ours.met();
         let left = ours.statement();
-        Single { bytes, lent, statement: program.statements[0], entered, left }
+        Single { bytes, lent, statement: program.statements[0], entered, met, left }
     }
 
     fn verdict(&self, variant: Variant, rules: Rules) -> Verdict {
+        if let Met::Outside(outside) = self.met {
+            return Verdict::Outside(outside);
+        }
         let mut level = oracle::load_whole(variant, &self.bytes, &self.lent);
         if self.entered {
             level.enter_function(1).expect("function 1");
@@ -153,6 +163,9 @@ fn statement(totals: &mut Totals, r: &mut Random, number: u64) {
     let single = Single::new(r);
     let answer = single.left.answer;
     totals.opcodes.add(format!("{:>2}", single.statement[0]));
+    if let Met::Within(opcode) = single.met {
+        totals.strings.add(format!("opcode {}", opcode));
+    }
     let changed = single.changed(&switches::ALL, false);
     report(&mut totals.changed, &changed, answer, number, "op, changed");
     let unchanged = single.verdict(Variant::Unchanged, UNCHANGED);

@@ -1,13 +1,14 @@
 //! Whether the comparison would find a wrong machine: one thing in this machine's results is altered, and the verdict must be a
-//! difference. Runs that the changed Rust ends and that compare equal are altered.
+//! difference. Runs that the changed Rust ends and that compare equal are altered, and runs that are left out from a statement on that is
+//! outside R-4's limit.
 
 use crate::compare::Verdict;
-use crate::generate;
+use crate::generate::{self, Case};
 use crate::ours::{Answer, Left};
 use crate::program::View;
 use crate::random::Random;
 use crate::report::{grouped, Counts};
-use crate::runs;
+use crate::runs::{self, Performed};
 
 /// What is altered, by name.
 const ALTERATIONS: [&str; 8] = [
@@ -21,11 +22,12 @@ const ALTERATIONS: [&str; 8] = [
     "a cell past the file's count, or past the entities",
 ];
 
+const ANSWER: usize = 0;
 const ENTITY_CELL: usize = 6;
 
 fn alter(r: &mut Random, which: usize, left: &mut Left) {
     match which {
-        0 => left.answer = Answer::Refused(14),
+        ANSWER => left.answer = Answer::Refused(14),
         1 => left.count += 1,
         2 => left.position += 1,
         3 => left.function += 1,
@@ -45,6 +47,16 @@ fn alter(r: &mut Random, which: usize, left: &mut Left) {
     }
 }
 
+/// Of a run that is to be altered, what is said before the name of what is altered in it.
+fn what_is_altered(case: &Case, performed: &Performed) -> Option<&'static str> {
+    let ended = performed.calls.last()?.answer == Answer::Ended;
+    match runs::changed(case, performed).last()? {
+        Verdict::Same { traces: false } if ended => Some(""),
+        Verdict::Outside(_) => Some("before a statement outside R-4's limit: "),
+        _ => None,
+    }
+}
+
 /// Whether all were found.
 pub fn run(seed: u64, count: u64) -> bool {
     let (mut found, mut missed) = (Counts::default(), Counts::default());
@@ -55,20 +67,21 @@ pub fn run(seed: u64, count: u64) -> bool {
             continue;
         }
         let mut performed = runs::perform(&case);
-        let ended = matches!(performed.calls.last(), Some(left) if left.answer == Answer::Ended);
-        if !ended || runs::changed(&case, &performed).last() != Some(&Verdict::Same { traces: false }) {
+        let Some(title) = what_is_altered(&case, &performed) else {
             continue;
-        }
+        };
         let mut r = Random::new(seed ^ 0xa17e, number);
         let last = performed.calls.len() - 1;
         let which = match r.below(ALTERATIONS.len()) {
             ENTITY_CELL if performed.calls[last].entities.is_empty() => ENTITY_CELL + 1,
+            // No answer is compared where both are stopped.
+            ANSWER if !title.is_empty() => ANSWER + 1,
             which => which,
         };
         alter(&mut r, which, &mut performed.calls[last]);
         match runs::changed(&case, &performed).last() {
-            Some(Verdict::Differs(_)) => found.add(ALTERATIONS[which]),
-            _ => missed.add(ALTERATIONS[which]),
+            Some(Verdict::Differs(_)) => found.add(format!("{}{}", title, ALTERATIONS[which])),
+            _ => missed.add(format!("{}{}", title, ALTERATIONS[which])),
         }
     }
     println!("{} programs, results of this machine altered in one thing", grouped(count));

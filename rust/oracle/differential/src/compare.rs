@@ -5,6 +5,7 @@ use crate::entities;
 use crate::oracle::{End, Seen};
 use crate::ours::{Answer, Left};
 use crate::program::{Function, Lump, View};
+use crate::strings::{self, Outside};
 use richter::observe::Observed;
 
 #[derive(Clone, Debug, PartialEq)]
@@ -17,6 +18,8 @@ pub enum Verdict {
     OtherNumber(u32, u32),
     /// Not in the domain; whether this machine answers as the class allows was checked.
     LeftOut(Class),
+    /// From a statement on outside R-4's limit; that everything was equal up to it was checked.
+    Outside(Outside),
     /// A difference that 01 names under "By design".
     ByDesign(&'static str),
     Differs(String),
@@ -54,7 +57,7 @@ pub struct Call<'a> {
 
 pub fn compare(call: &Call, rules: Rules, rust: &Seen, ours: &Left) -> Verdict {
     if !ours.rest_untouched {
-        return Verdict::Differs("a cell, a frame or a saved cell that isn't the program's was written".into());
+        return differs(NOT_THE_PROGRAMS.into());
     }
     // The Rust's log doesn't tell which builtin it calls. Four are done here, so the one that is handed over need not be its first.
     if let Answer::Builtin(number) = ours.answer {
@@ -91,6 +94,7 @@ fn allowed(class: Class, call: &Call, rules: Rules, rust: &Seen, ours: &Left) ->
     let refused = |numbers: &[u32]| matches!(ours.answer, Answer::Refused(n) if numbers.contains(&n));
     match class {
         Class::CellEqualToCount if failing.is_store_s() => refused(&[15, 17]),
+        Class::CellEqualToCount if failing.first_string_is_out(call, ours) => refused(&[33]),
         // A load's destination is checked first here; the Rust doesn't come to it.
         Class::AbsentEntity => refused(if failing.is_load() { &[15, 16, 30] } else { &[32] }),
         Class::FieldCellEqualToCount => refused(if failing.is_load() { &[15, 16, 31] } else { &[31] }),
@@ -147,6 +151,24 @@ fn runaway(rules: Rules, rust: &Seen, ours: &Left) -> Verdict {
     }
 }
 
+/// A run that both were stopped in, before a statement that is outside R-4's limit.
+pub fn stopped(rules: Rules, rust: &Seen, ours: &Left, outside: Outside) -> Verdict {
+    if !ours.rest_untouched {
+        return differs(NOT_THE_PROGRAMS.into());
+    }
+    match &rust.end {
+        End::Panic(panic) if !rust.stopped() && Class::of(panic).goes_on() => return Verdict::LeftOut(Class::of(panic)),
+        end if !rust.stopped() => return differs(format!("the Rust doesn't come to statement {}: {:?}", ours.count + 1, end)),
+        _ => {}
+    }
+    match state(rules, &rust.observed, ours, false).or_else(|| cells(rules, rust, ours, &Traces::default())) {
+        Some(text) => differs(text),
+        None => Verdict::Outside(outside),
+    }
+}
+
+const NOT_THE_PROGRAMS: &str = "a cell, a frame or a saved cell that isn't the program's was written";
+
 fn done(rules: Rules, rust: &Seen, ours: &Left) -> Verdict {
     if !matches!(ours.answer, Answer::Ended | Answer::Completed) {
         return differs(format!("{} where the Rust ends", ours.answer));
@@ -184,6 +206,8 @@ fn error(call: &Call, rules: Rules, rust: &Seen, ours: &Left, text: &str) -> Ver
             (15, 24) if failing.is_entry() => Verdict::OtherNumber(15, 24),
             // A negative string is refused where it is read; the Rust looks at the destination first.
             (15 | 16, 17) if failing.is_store_s() => Verdict::OtherNumber(rusts, 17),
+            // The first number is outside the strings; the Rust doesn't look at it, and meets the second operand.
+            (15 | 16, 33) if failing.first_string_is_out(call, ours) => Verdict::OtherNumber(rusts, 33),
             // A negative local count and the saved cells add up to a small number in the release build.
             (15, 23) if failing.has_negative_locals() => Verdict::OtherNumber(15, 23),
             // A load's destination is checked first here; the Rust meets what is wrong with the field before it.
@@ -230,6 +254,10 @@ impl Failing {
 
     fn is_store_s(&self) -> bool {
         matches!(self, Failing::Statement([33, ..]))
+    }
+
+    fn first_string_is_out(&self, call: &Call, ours: &Left) -> bool {
+        matches!(*self, Failing::Statement(statement) if strings::first_out_of_range(&call.view, &ours.cells, statement))
     }
 
     /// Whether it is one of the opcodes that read a field.

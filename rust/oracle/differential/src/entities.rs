@@ -1,6 +1,7 @@
 //! The entity cells that a case lends, and what the Rust does otherwise with entities, fields and pointers.
 
 use crate::compare::{Call, Failing};
+use crate::generate;
 use crate::oracle::{End, Seen};
 use crate::ours::{Answer, Left};
 use crate::program::View;
@@ -74,7 +75,7 @@ fn value(r: &mut Random, type_: u16, entities: usize) -> u32 {
     const FUNCTION: u16 = 6;
     match type_ {
         _ if r.percent(1) => r.pick(&[u32::MAX, 0x8000_0000, 0x7fff_ffff, 0x7fa0_0001]),
-        STRING => r.below(4) as u32,
+        STRING => generate::string_number(r),
         ENTITY => some_entity(r, entities) as u32,
         FIELD => r.below(105) as u32,
         FUNCTION => r.below(6) as u32,

@@ -46,6 +46,8 @@ pub fn run() -> bool {
         panics(),
         floats(),
         texts(),
+        compared_texts(),
+        tested_texts(),
         loads(),
         fields(),
         pointers(),
@@ -118,18 +120,6 @@ fn rust_decides() -> Vec<Fact> {
             None,
         ),
         fact("branch tests: If 28 5 0 on -0 goes on", &program(&[[49, 28, 5, 0], DONE], &[(28, MINUS_0)]), "ends", "ended", None),
-        fact(
-            "strings by number: EqS 28 29 30 of 1 and 3, same text",
-            &{
-                let mut equal = program(&[[12, 28, 29, 30], DONE], &[(28, 1), (29, 3)]);
-                equal.strings = b"\0a\0a\0".to_vec();
-                equal
-            },
-            "ends",
-            "ended",
-            Some((30, 0, 0)),
-        ),
-        fact("NotS: NotS 0 0 30 with 5 in cell 0", &program(&[[46, 0, 0, 30], DONE], &[(0, 5)]), "ends", "ended", Some((30, ONE, ONE))),
         fact(
             "dot product: MulV of three -0 and three 1.0",
             &program(&[[2, 28, 31, 34], DONE], &minus_0),
@@ -342,6 +332,51 @@ fn texts() -> Vec<Fact> {
         ),
         fact("a called function's name with two characters of two bytes", &called("\0éé\0".as_bytes(), 1), "ends", "ended", None),
         fact("strings that aren't UTF-8", &called(b"\0\xff\0", 0), "load panics: load: the strings aren't UTF-8", "ended", None),
+    ]
+}
+
+/// A statement on these cells, in a file with these strings.
+fn on_strings(statement: [i16; 4], cells: &[(usize, u32)], strings: &[u8]) -> Program {
+    let mut program = program(&[statement, DONE], cells);
+    program.strings = strings.to_vec();
+    program
+}
+
+/// EqS and NeS: by the texts here, by the numbers in the Rust.
+fn compared_texts() -> Vec<Fact> {
+    const TWICE: &[u8] = b"\0a\0a\0";
+    let of = |opcode: i16, first: u32, second: u32| on_strings([opcode, 28, 29, 30], &[(28, first), (29, second)], TWICE);
+    let equal_operands = on_strings([12, 28, 28, 30], &[(28, u32::MAX)], TWICE);
+    let at_the_end = on_strings([12, 28, 29, 30], &[(28, 1), (29, 3)], b"\0a\0a");
+    let mut typed = of(12, 5, 1);
+    typed.globaldefs.push((2, 29, 0));
+    let equal_to_count = on_strings([12, 28, 64, 30], &[(28, 5)], TWICE);
+    const MISSING: &str = "panics: a cell number equal to the count";
+    vec![
+        fact("strings: EqS of 1 and 3, same text", &of(12, 1, 3), "ends", "ended", Some((30, 0, ONE))),
+        fact("strings: NeS of 1 and 3, same text", &of(17, 1, 3), "ends", "ended", Some((30, ONE, 0))),
+        fact("strings: EqS of 1 and 3, the second without a zero byte", &at_the_end, "ends", "ended", Some((30, 0, ONE))),
+        fact("strings: EqS of 0 and 2, both empty", &of(12, 0, 2), "ends", "ended", Some((30, 0, ONE))),
+        fact("strings: EqS of 1 and 2, other texts", &of(12, 1, 2), "ends", "ended", Some((30, 0, 0))),
+        fact("strings: EqS of 5 and 5, out of range", &of(12, 5, 5), "ends", "refused 33", Some((30, ONE, 0))),
+        fact("strings: EqS of 4 and 5, the second out of range", &of(12, 4, 5), "ends", "refused 33", None),
+        fact("strings: NeS of ffffffff and 1", &of(17, u32::MAX, 1), "ends", "refused 33", Some((30, ONE, 0))),
+        fact("strings: EqS 28 28 30 of ffffffff, unread", &equal_operands, "ends", "ended", Some((30, ONE, ONE))),
+        fact("strings: EqS of 5 and a cell that is a float", &typed, "error Globals error: type check failed", "refused 33", None),
+        fact("strings: EqS of 5 and a cell equal to the count", &equal_to_count, MISSING, "refused 33", None),
+    ]
+}
+
+/// NotS: of an empty text too here, of number 0 and operand 0 alone in the Rust.
+fn tested_texts() -> Vec<Fact> {
+    let of = |number: u32, strings: &[u8]| on_strings([46, 28, 0, 30], &[(28, number)], strings);
+    let operand_0 = |number: u32| on_strings([46, 0, 0, 30], &[(0, number)], b"\0a\0");
+    vec![
+        fact("strings: NotS of 1, an empty text", &of(1, b"\0\0"), "ends", "ended", Some((30, 0, ONE))),
+        fact("strings: NotS of 0, text \"a\"", &of(0, b"a\0"), "ends", "ended", Some((30, ONE, ONE))),
+        fact("strings: NotS 0 0 30 of 1, text \"a\"", &operand_0(1), "ends", "ended", Some((30, ONE, ONE))),
+        fact("strings: NotS of 1 of one byte", &of(1, b"\0"), "ends", "refused 33", None),
+        fact("strings: NotS 0 0 30 of 3 of three bytes", &operand_0(3), "ends", "refused 33", Some((30, ONE, 0))),
     ]
 }
 

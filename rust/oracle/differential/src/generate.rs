@@ -92,6 +92,24 @@ const FLOATS: [u32; 20] = [
     0x501502f9,  // 1e10
     0x42c80000,  // 100
 ];
+/// The strings of most programs. Names are those of 0, 1 and 3; two texts are there twice, one of them the empty one.
+const TEXTS: &[u8] = b"\0main\0red\0blue\0red\0\0redder\0";
+/// Numbers in them whose texts are different: "", "main", "ain", "in", "red", "blue", "ue", "redder".
+const DIFFERENT: [u32; 8] = [0, 1, 2, 3, 6, 10, 12, 20];
+/// "red" and "" once more, and "ed" twice.
+const AGAIN: [u32; 4] = [15, 19, 7, 16];
+/// At the limits of the range, and past them.
+const AT_LIMITS: [u32; 6] = [26, 27, 28, 0x7fff_ffff, 0x8000_0000, u32::MAX];
+
+/// A string number, mostly one of those with different texts.
+pub fn string_number(r: &mut Random) -> u32 {
+    match r.below(60) {
+        0 => r.pick(&AT_LIMITS),
+        1..=8 => r.pick(&AGAIN),
+        _ => r.pick(&DIFFERENT),
+    }
+}
+
 const NOT_FINITE: [u32; 6] = [0x7f80_0000, 0xff80_0000, 0x7fc0_0000, 0xffc0_0000, 0x7fa0_0001, 0xffff_ffff];
 
 /// What a program is like.
@@ -282,7 +300,7 @@ impl Cells {
 
     fn value(&mut self, r: &mut Random, cell: usize, type_: u16, functions: usize, style: &Style) -> u32 {
         match type_ {
-            STRING => r.pick(&[0, 1, 2, 3]) as u32,
+            STRING => string_number(r),
             FIELD if style.fields => {
                 let (number, of) = self.fields.number(r);
                 self.of_field[cell] = of;
@@ -585,9 +603,10 @@ fn arguments(r: &mut Random, arguments: Arguments, function: &mut Function) {
 fn whole(r: &mut Random, entities: usize) -> Program {
     let style = style(r, entities);
     let mut program = Program::new(r.pick(if style.fields { &[64, 64, 64, 64, 100, 100, 180] } else { &[36, 40, 64, 64, 64, 100, 180] }));
-    program.strings = b"\0main\0".to_vec();
+    program.strings = TEXTS.to_vec();
     if r.percent(3) {
-        program.strings = r.pick(&[&b"\0main"[..], &b"\0m\xc3\xa9in\0"[..], &b"\0m\xffin\0"[..]]).to_vec();
+        let others = [&b"\0main"[..], &b"\0m\xc3\xa9in\0"[..], &b"\0m\xffin\0"[..], &b"\0main\0red\0blue\0red"[..]];
+        program.strings = r.pick(&others).to_vec();
     }
     let functions = r.between(2, 6) as usize;
     let cells = Cells::new(r, &mut program, functions, &style);
@@ -679,6 +698,9 @@ fn field_statement(r: &mut Random) -> [i16; 4] {
 
 fn few_cells(r: &mut Random) -> Program {
     let mut program = Program::new(r.pick(&[36, 37, 64]));
+    if r.percent(70) {
+        program.strings = TEXTS.to_vec();
+    }
     let plain = Style { infinities: true, ..style(r, 0) };
     for cell in 0..program.cells.len() {
         program.cells[cell] = float(r, &plain);
@@ -865,6 +887,7 @@ fn header_number(r: &mut Random, bytes: &mut [u8]) {
 pub fn one_statement(r: &mut Random, entities: usize) -> Program {
     let style = style(r, entities);
     let mut program = Program::new(if style.fields { 64 } else { r.pick(&[36, 40, 64]) });
+    program.strings = TEXTS.to_vec();
     let cells = Cells::new(r, &mut program, 3, &style);
     for cell in 1..28 {
         program.cells[cell] = float(r, &style);
@@ -893,10 +916,22 @@ pub fn one_statement(r: &mut Random, entities: usize) -> Program {
         operands[1] = operands[0];
     }
     program.statements[0] = [opcode, operands[0], operands[1], operands[2]];
+    if types[0] == STRING && r.percent(85) {
+        set_strings(r, &mut program, operands);
+    }
     // A Return at depth 0 leaves function 0.
     program.functions[0].locals = r.percent(20) as i32;
     program.functions.push(Function { local: 30, locals: r.pick(&[0, 1, 4]), ..Function::default() });
     program
+}
+
+/// Most cells hold no strings, and few of them a number in range.
+fn set_strings(r: &mut Random, program: &mut Program, operands: [i16; 3]) {
+    for operand in operands {
+        if let Some(cell) = usize::try_from(operand).ok().and_then(|cell| program.cells.get_mut(cell)) {
+            *cell = string_number(r);
+        }
+    }
 }
 
 /// An opcode that reads or writes a field, or makes a pointer, with the types of its operands. The Rust has no functions of 28 and 41.

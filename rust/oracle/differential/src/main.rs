@@ -16,6 +16,7 @@ mod report;
 mod runs;
 mod sample;
 mod story;
+mod strings;
 
 /// Decides all random programs.
 const SEED: u64 = 0x746f_7368_7765_6761;

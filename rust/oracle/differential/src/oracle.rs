@@ -227,9 +227,26 @@ pub struct Seen {
     pub entities: Vec<u32>,
 }
 
+impl Seen {
+    /// Whether the run was stopped at the statement that `call_until` was asked for.
+    pub fn stopped(&self) -> bool {
+        matches!(&self.end, End::Panic(panic) if panic.message == count::STOPPED)
+    }
+}
+
 /// A call on a level. Counting logs, and a log message of richter's converts names; `counted` says whether to.
 pub fn call(level: &mut dyn Level, cells: usize, counted: bool, what: impl FnOnce(&mut dyn Level) -> Result<(), String>) -> Seen {
     count::start(counted);
+    seen(level, cells, what)
+}
+
+/// `execute_program`, stopped right after it has fetched so many statements: the last of them isn't done. It is counted, and so logs.
+pub fn execute_until(level: &mut dyn Level, cells: usize, fetched: u64, function: usize) -> Seen {
+    count::start_until(fetched);
+    seen(level, cells, |l| l.execute_program(function))
+}
+
+fn seen(level: &mut dyn Level, cells: usize, what: impl FnOnce(&mut dyn Level) -> Result<(), String>) -> Seen {
     let end = match ended(|| what(level)) {
         Ok(()) => End::Done,
         Err(end) => end,

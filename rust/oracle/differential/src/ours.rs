@@ -2,6 +2,7 @@
 
 use crate::entities::Lent;
 use crate::program::View;
+use crate::strings::{self, Trace};
 use host::{Handover, LoadError, Machine, Outcome, RunOutcome, Settings};
 
 #[derive(Clone, Copy, Debug, PartialEq, Eq, PartialOrd, Ord)]
@@ -29,6 +30,7 @@ impl std::fmt::Display for Answer {
 }
 
 /// An answer and what it left.
+#[derive(Clone, PartialEq)]
 pub struct Left {
     pub answer: Answer,
     pub count: u64,
@@ -51,6 +53,10 @@ const FILL: u32 = 0xdead_beef;
 /// How many cells more than the file has are lent, and entity cells more than the entities have.
 const MORE: usize = 5;
 
+/// The most statements of a run.
+const LIMIT: u64 = 99_999;
+
+#[derive(Clone)]
 pub struct Ours {
     machine: Machine,
     count: usize,
@@ -77,7 +83,7 @@ impl Ours {
         if let Err(refusal) = self.machine.enter(function as i64) {
             return self.left(Answer::Refused(refusal.number()), 0);
         }
-        let run = self.machine.run(depth, 99_999);
+        let run = self.machine.run(depth, LIMIT as i64);
         let answer = match run.outcome {
             RunOutcome::Ended => Answer::Ended,
             RunOutcome::Spent => Answer::Spent,
@@ -86,6 +92,37 @@ impl Ours {
             RunOutcome::HandedOver(Handover::Opcode(n)) => Answer::Opcode(n),
         };
         self.left(answer, run.count as u64)
+    }
+
+    /// The same by single statements, up to one that is outside R-4's limit, which isn't done: its answer is `Completed`, as that of the
+    /// statements before it. Says what its EqS, NeS and NotS met.
+    pub fn watch(&mut self, function: usize) -> (Left, Trace) {
+        let (depth, mut trace, mut count) = (self.machine.depth(), Trace::default(), 0);
+        if let Err(refusal) = self.machine.enter(function as i64) {
+            return (self.left(Answer::Refused(refusal.number()), 0), trace);
+        }
+        while self.machine.depth() != depth {
+            if count == LIMIT {
+                return (self.left(Answer::Spent, count), trace);
+            }
+            trace.add(self.met());
+            if trace.outside.is_some() {
+                return (self.left(Answer::Completed, count), trace);
+            }
+            let answer = self.stepped();
+            if answer != Answer::Completed {
+                return (self.left(answer, count), trace);
+            }
+            count += 1;
+        }
+        (self.left(Answer::Ended, count), trace)
+    }
+
+    /// What the statement at the position is about to meet of R-4.
+    pub fn met(&self) -> strings::Met {
+        let view = View(self.machine.program());
+        let statement = view.statement(self.machine.position());
+        statement.map_or(strings::Met::Nothing, |statement| strings::met(&view, &self.machine.cells()[..self.count], statement))
     }
 
     pub fn enter(&mut self, function: usize) -> Left {
@@ -106,13 +143,17 @@ impl Ours {
     }
 
     pub fn statement(&mut self) -> Left {
-        let answer = match self.machine.statement() {
+        let answer = self.stepped();
+        self.left(answer, 0)
+    }
+
+    fn stepped(&mut self) -> Answer {
+        match self.machine.statement() {
             Outcome::Completed => Answer::Completed,
             Outcome::Refused(refusal) => Answer::Refused(refusal.number()),
             Outcome::HandedOver(Handover::Builtin(n)) => Answer::Builtin(n),
             Outcome::HandedOver(Handover::Opcode(n)) => Answer::Opcode(n),
-        };
-        self.left(answer, 0)
+        }
     }
 
     pub fn left(&self, answer: Answer, count: u64) -> Left {

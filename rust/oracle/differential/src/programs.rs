@@ -75,6 +75,7 @@ fn outcome(verdicts: &Verdicts) -> &'static str {
         Some(Verdict::LeftOut(Class::HandedOver)) => "left out: handed over to the host",
         Some(Verdict::LeftOut(Class::Runaway)) => "left out: the Rust panics at the 100,000th statement; up to there compared, equal",
         Some(Verdict::LeftOut(_)) => "left out: the Rust panics",
+        Some(Verdict::Outside(_)) => "left out: outside R-4's limit; up to there compared, equal",
         Some(Verdict::ByDesign(_)) => "differs by design",
         Some(Verdict::Differs(_)) | None => "differs, see below",
     }
@@ -197,12 +198,9 @@ fn print_totals(totals: &Totals) {
     either.print("programs and either:");
     println!("    {} statements completed in the programs compared in full", grouped(totals.statements));
     println!("    of the runs by richter changed:");
-    println!(
-        "      {:>9}  without a known count of statements: a name is no text, and counting would convert it",
-        grouped(runs::uncounted())
-    );
-    println!("      {:>9}  equal, with calls of fabs, floor, ceil or rint", grouped(runs::rounded()));
-    println!("      {:>9}  equal, and entity cells were changed", grouped(runs::wrote()));
+    for (count, what) in runs::tallies() {
+        println!("      {:>9}  {}", grouped(count), what);
+    }
     totals.unchanged.print("loads and runs, richter unchanged");
     totals.covered_by_changed.print("programs with such a difference, and the changed Rust:");
     totals.changed.print("loads and runs, richter with the named differences changed, NaN canonical");

@@ -57,6 +57,7 @@ pub struct Tally {
     pub traces: u64,
     pub other_numbers: Counts,
     pub left_out: Counts,
+    pub outside: Counts,
     pub by_design: Counts,
     /// Differences that one or more of the named ones explain.
     pub named: Counts,
@@ -80,6 +81,7 @@ impl Tally {
                 };
                 self.left_out.add(format!("{} (here: {}{})", class.name(), what, answer))
             }
+            Verdict::Outside(outside) => self.outside.add(outside.name()),
             Verdict::ByDesign(name) => self.by_design.add(*name),
             Verdict::Differs(_) => self.unexplained += 1,
         }
@@ -94,6 +96,9 @@ impl Tally {
         }
         if self.left_out.total() > 0 {
             self.left_out.print("left out: the Rust panics, or hands to the host:");
+        }
+        if self.outside.total() > 0 {
+            self.outside.print("outside R-4's limit; runs are left out from that statement on, and equal up to it:");
         }
         if self.named.total() > 0 {
             self.named.print("differences by pr_exec.c's way or NaN, by what explains them:");

@@ -1,15 +1,15 @@
 //! A case through both variants of the Rust and through this machine.
 
 use crate::classes::Class;
-use crate::compare::{compare, compare_load, wraps_an_address, Call, Rules, Verdict};
+use crate::compare::{compare, compare_load, stopped, wraps_an_address, Call, Rules, Verdict};
 use crate::entities::{self, Lent};
 use crate::generate::Case;
 use crate::oracle::{self, End, Level, Seen, Variant};
 use crate::ours::{Answer, Left, Ours};
 use crate::program::{Lump, View};
+use crate::strings::{self, Outside, Trace};
 use changed::switches::{self, Switch};
 use std::cell::Cell;
-use std::thread::LocalKey;
 
 /// What came of a case, for one variant: the verdict of the load, then of each call.
 pub type Verdicts = Vec<Verdict>;
@@ -18,24 +18,48 @@ pub type Verdicts = Vec<Verdict>;
 pub struct Performed {
     pub lent: Lent,
     pub load: Result<Left, u32>,
-    /// Each call up to the first that did not end.
+    /// Each call up to the first that did not end. One that is outside R-4's limit is there up to the statement that puts it outside.
     pub calls: Vec<Left>,
+    /// Of each call, what its EqS, NeS and NotS met.
+    pub traces: Vec<Trace>,
+    /// Whether each run gave what its statements give one by one.
+    pub as_stepped: bool,
 }
 
 pub fn perform(case: &Case) -> Performed {
     let lent = case.lent();
+    let (calls, traces) = (Vec::new(), Vec::new());
     match Ours::load(&case.bytes, &lent) {
-        Err(number) => Performed { lent, load: Err(number), calls: Vec::new() },
+        Err(number) => Performed { lent, load: Err(number), calls, traces, as_stepped: true },
         Ok(mut ours) => {
             let load = Ok(ours.left(Answer::Completed, 0));
-            let mut calls = Vec::new();
-            for &function in &case.calls {
-                calls.push(ours.execute(function));
-                if calls[calls.len() - 1].answer != Answer::Ended {
-                    break;
-                }
+            let mut performed = Performed { lent, load, calls, traces, as_stepped: true };
+            perform_calls(case, &mut ours, &mut performed);
+            performed
+        }
+    }
+}
+
+fn perform_calls(case: &Case, ours: &mut Ours, performed: &mut Performed) {
+    let watched = strings::in_file(&View(&case.bytes));
+    for &function in &case.calls {
+        let before = watched.then(|| ours.clone());
+        let mut left = ours.execute(function);
+        let mut trace = Trace::default();
+        if let Some(mut stepping) = before {
+            let (stepped, met) = stepping.watch(function);
+            trace = met;
+            if trace.outside.is_some() {
+                left = stepped;
+            } else {
+                performed.as_stepped &= left == stepped;
             }
-            Performed { lent, load, calls }
+        }
+        let goes_on = left.answer == Answer::Ended;
+        performed.calls.push(left);
+        performed.traces.push(trace);
+        if !goes_on {
+            break;
         }
     }
 }
@@ -66,33 +90,48 @@ pub fn rules(variant: Variant, nan_as_nan: bool) -> Rules {
     }
 }
 
-thread_local! {
-    /// Whether runs are being tallied below: those of the changed Rust with all switches on, each once.
-    static TALLIED: Cell<bool> = const { Cell::new(false) };
-    static UNCOUNTED: Cell<u64> = const { Cell::new(0) };
-    static ROUNDED: Cell<u64> = const { Cell::new(0) };
-    static WROTE: Cell<u64> = const { Cell::new(0) };
+/// What is tallied of the runs by the changed Rust with all switches on, each once.
+#[derive(Clone, Copy)]
+enum Tallied {
+    Uncounted,
+    Rounded,
+    Wrote,
+    MetStrings,
+    Outside,
+    EqS,
+    NeS,
+    NotS,
 }
 
-fn tally(counter: &'static LocalKey<Cell<u64>>, which: bool) {
-    if which && TALLIED.with(Cell::get) {
-        counter.with(|n| n.set(n.get() + 1));
+const TALLIES: [&str; 8] = [
+    "without a known count of statements: a name is no text, and counting would convert it",
+    "equal, with calls of fabs, floor, ceil or rint",
+    "equal, and entity cells were changed",
+    "came to an EqS, NeS or NotS that compared or tested string numbers",
+    "of these outside R-4's limit: left out from that statement on, up to it equal",
+    "equal, with an EqS that compared",
+    "equal, with a NeS that compared",
+    "equal, with a NotS that tested",
+];
+
+thread_local! {
+    static TALLYING: Cell<bool> = const { Cell::new(false) };
+    static TALLY: Cell<[u64; TALLIES.len()]> = const { Cell::new([0; TALLIES.len()]) };
+}
+
+fn tally(what: Tallied, which: bool) {
+    if which && TALLYING.with(Cell::get) {
+        TALLY.with(|tally| {
+            let mut counts = tally.get();
+            counts[what as usize] += 1;
+            tally.set(counts);
+        });
     }
 }
 
-/// How many runs of the Rust were compared without their count of statements.
-pub fn uncounted() -> u64 {
-    UNCOUNTED.with(Cell::get)
-}
-
-/// How many equal runs called builtins: those that are done here, fabs, floor, ceil and rint.
-pub fn rounded() -> u64 {
-    ROUNDED.with(Cell::get)
-}
-
-/// How many equal runs left other entity cells than were lent.
-pub fn wrote() -> u64 {
-    WROTE.with(Cell::get)
+/// How many runs, and what of them.
+pub fn tallies() -> impl Iterator<Item = (u64, &'static str)> {
+    TALLY.with(Cell::get).into_iter().zip(TALLIES)
 }
 
 /// The Rust's level, and a second one that counts where counting could panic.
@@ -122,6 +161,16 @@ impl Levels {
         seen.builtins_at = counted.builtins_at;
         (seen, true)
     }
+
+    /// A call that is stopped where so many statements are fetched. None where a name, which counting converts, may have ended it before.
+    fn execute_until(&mut self, cells: usize, function: usize, fetched: u64) -> Option<Seen> {
+        if self.names_are_texts {
+            return Some(oracle::execute_until(&mut *self.level, cells, fetched, function));
+        }
+        let counting = self.counting.as_mut()?;
+        let seen = oracle::execute_until(&mut **counting, cells, fetched, function);
+        seen.stopped().then_some(seen)
+    }
 }
 
 /// The verdicts of a case for a variant; of the changed one with the switches that are on.
@@ -139,17 +188,14 @@ pub fn verdicts(case: &Case, performed: &Performed, variant: Variant, rules: Rul
     let names_are_texts = names_are_texts(&view);
     let counting = if names_are_texts { None } else { oracle::load(variant, &case.bytes, &performed.lent).ok() };
     let mut levels = Levels { level, counting, names_are_texts };
-    for (i, (&function, left)) in case.calls.iter().zip(&performed.calls).enumerate() {
-        let (seen, counted) = levels.execute(cells, function);
+    for (i, &function) in case.calls.iter().enumerate().take(performed.calls.len()) {
         let call =
             Call { view: View(&case.bytes), entered: Some(function), entry_only: false, statement: None, entities: performed.lent.number };
-        let rules = Rules { entries_ended: if rules.ended_adds { i as i64 } else { 0 }, counted, ..rules };
-        let verdict = verdict(&call, rules, &seen, left);
-        let equal = matches!(verdict, Verdict::Same { .. });
-        tally(&UNCOUNTED, !counted);
-        tally(&ROUNDED, equal && !seen.builtins_at.is_empty());
-        tally(&WROTE, equal && left.entities != performed.lent.cells);
-        let goes_on = verdict == Verdict::Same { traces: false } && seen.end == End::Done;
+        let rules = Rules { entries_ended: if rules.ended_adds { i as i64 } else { 0 }, ..rules };
+        let (verdict, goes_on) = match performed.traces[i].outside {
+            Some(outside) => (outside_r4(&mut levels, &call, rules, &performed.calls[i], outside), false),
+            None => one_call(&mut levels, &call, rules, performed, i),
+        };
         all.push(verdict);
         if !goes_on {
             break;
@@ -158,12 +204,49 @@ pub fn verdicts(case: &Case, performed: &Performed, variant: Variant, rules: Rul
     all
 }
 
+/// A call within R-4's limit, and whether the next one can be compared too.
+fn one_call(levels: &mut Levels, call: &Call, rules: Rules, performed: &Performed, i: usize) -> (Verdict, bool) {
+    let (left, trace) = (&performed.calls[i], &performed.traces[i]);
+    let (seen, counted) = levels.execute(call.view.cells(), call.entered.unwrap_or(0));
+    let verdict = match performed.as_stepped {
+        true => verdict(call, Rules { counted, ..rules }, &seen, left),
+        false => Verdict::Differs("the run isn't what its statements give one by one".into()),
+    };
+    let equal = matches!(verdict, Verdict::Same { .. });
+    tally(Tallied::Uncounted, !counted);
+    tally(Tallied::Rounded, equal && !seen.builtins_at.is_empty());
+    tally(Tallied::Wrote, equal && left.entities != performed.lent.cells);
+    tally(Tallied::MetStrings, trace.any());
+    tally(Tallied::EqS, equal && trace.eq_s);
+    tally(Tallied::NeS, equal && trace.ne_s);
+    tally(Tallied::NotS, equal && trace.not_s);
+    let goes_on = verdict == Verdict::Same { traces: false } && seen.end == End::Done;
+    (verdict, goes_on)
+}
+
+/// A call outside R-4's limit. The Rust must come to the same statement after as many others, and everything be equal there.
+fn outside_r4(levels: &mut Levels, call: &Call, rules: Rules, left: &Left, outside: Outside) -> Verdict {
+    let until = levels.execute_until(call.view.cells(), call.entered.unwrap_or(0), left.count + 1);
+    let verdict = match &until {
+        Some(seen) => set_apart(call, rules, seen, left, stopped(rules, seen, left, outside)),
+        None => Verdict::Outside(outside),
+    };
+    tally(Tallied::Uncounted, until.is_none());
+    tally(Tallied::MetStrings, true);
+    tally(Tallied::Outside, verdict == Verdict::Outside(outside));
+    verdict
+}
+
 /// The comparison, with the addresses that the Rust wraps, and what it does otherwise with entities, set apart.
 pub fn verdict(call: &Call, rules: Rules, seen: &Seen, left: &Left) -> Verdict {
     if !rules.counted && matches!(left.answer, Answer::Builtin(_)) {
         return Verdict::LeftOut(Class::HandedOver);
     }
-    match compare(call, rules, seen, left) {
+    set_apart(call, rules, seen, left, compare(call, rules, seen, left))
+}
+
+fn set_apart(call: &Call, rules: Rules, seen: &Seen, left: &Left, verdict: Verdict) -> Verdict {
+    match verdict {
         Verdict::Differs(_) if wraps_an_address(call, left) => {
             Verdict::ByDesign("cells of an entry past 32,767, which the Rust wraps to 16 bits")
         }
@@ -178,9 +261,9 @@ pub fn verdict(call: &Call, rules: Rules, seen: &Seen, left: &Left) -> Verdict {
 /// The changed Rust with all switches on.
 pub fn changed(case: &Case, performed: &Performed) -> Verdicts {
     switches::set(&switches::ALL);
-    TALLIED.with(|t| t.set(true));
+    TALLYING.with(|t| t.set(true));
     let verdicts = verdicts(case, performed, Variant::Changed, rules(Variant::Changed, false));
-    TALLIED.with(|t| t.set(false));
+    TALLYING.with(|t| t.set(false));
     verdicts
 }
 

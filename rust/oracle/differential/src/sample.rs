@@ -6,6 +6,7 @@ use crate::generate::{self, Case};
 use crate::oracle::{self, End, Seen, Variant};
 use crate::program::{Lump, View};
 use crate::runs::{names_are_texts, reserves_too_much};
+use crate::strings::{self, Trace};
 use changed::switches;
 use std::collections::BTreeMap;
 use std::fmt::Write;
@@ -14,17 +15,24 @@ use std::fmt::Write;
 const BYTES: usize = 640;
 const TRIED: u64 = 40_000;
 
-/// An answer of the Rust: the show program's line, and the numbers of the builtins that the run called.
+/// An answer of the Rust: the show program's line, the numbers of the builtins that the run called, and which of EqS, NeS and NotS compared
+/// or tested string numbers.
 struct Answered {
     line: String,
     builtins: Vec<i32>,
+    strings: Trace,
 }
 
 impl Answered {
-    /// Outcome and detail, and the builtins if there are any: what the cases are counted by.
+    fn load(line: String) -> Answered {
+        Answered { line, builtins: Vec::new(), strings: Trace::default() }
+    }
+
+    /// Outcome and detail, and the builtins and string opcodes if there are any: what the cases are counted by.
     fn kind(&self) -> String {
         let answer = self.line.split(',').take(2).collect::<Vec<_>>().join(",");
-        let names: Vec<&str> = self.builtins.iter().map(|&number| builtin_name(number)).collect();
+        let mut names: Vec<&str> = self.builtins.iter().map(|&number| builtin_name(number)).collect();
+        names.extend(self.strings.names());
         match names.is_empty() {
             true => answer,
             false => format!("{} with {}", answer, names.join(" and ")),
@@ -48,7 +56,7 @@ fn most(answered: &Answered) -> usize {
     let line = &answered.line;
     match line.split(',').next() {
         Some("spent") => 6,
-        _ if !answered.builtins.is_empty() => 12,
+        _ if !answered.builtins.is_empty() || answered.strings.any() => 12,
         Some("ended") => 120,
         _ if line.split(',').count() == 2 => 12,
         _ => 25,
@@ -88,7 +96,7 @@ const HOW: &str = "\
 # Answers of richter's program machine, as the show program's lines: NAME LENGTH HEX LINE, bytes not given are zeros.
 # Made by `rust/oracle/differential.sh sample`, from the Rust alone: load, then execute_program of function 1. unchanged: richter as it
 # is, where no named difference of document 01 plays a part. changed: the others, with the named differences changed to pr_exec.c's
-# way and NaN made canonical. There are no entities. An error is written as the refusal it stands for, the panic at the 100,000th
+# way and NaN made canonical. There are no entities, and EqS, NeS and NotS are within the limit of 02's R-4. An error is written as the refusal it stands for, the panic at the 100,000th
 # statement as spent.
 ";
 
@@ -106,7 +114,7 @@ fn answered(case: &Case, variant: Variant) -> Option<Answered> {
     }
     let mut level = match oracle::load(variant, &case.bytes, &Lent::default()) {
         Ok(level) => level,
-        Err(End::Error(text)) => return refused_load(&view, &text).map(|line| Answered { line, builtins: Vec::new() }),
+        Err(End::Error(text)) => return refused_load(&view, &text).map(Answered::load),
         Err(_) => return None,
     };
     // What 01's sizes refuse and the Rust takes.
@@ -118,8 +126,33 @@ fn answered(case: &Case, variant: Variant) -> Option<Answered> {
     if builtins.iter().any(|&number| builtin_name(number).is_empty()) {
         return None;
     }
+    let strings = strings_met(case, variant, seen.fetched)?;
     let line = ended(&view, variant, &seen)?;
-    Some(Answered { line, builtins })
+    Some(Answered { line, builtins, strings })
+}
+
+/// What the EqS, NeS and NotS of a run met; none where one is outside R-4's limit, or refused here by another number. The run is made again
+/// and stopped at each of its statements; a long one isn't, and counts as outside.
+fn strings_met(case: &Case, variant: Variant, fetched: u64) -> Option<Trace> {
+    const LONG: u64 = 200;
+    let view = View(&case.bytes);
+    let mut trace = Trace::default();
+    if !strings::in_file(&view) {
+        return Some(trace);
+    }
+    if fetched > LONG {
+        return None;
+    }
+    for count in 1..=fetched {
+        let mut level = oracle::load_whole(variant, &case.bytes, &Lent::default());
+        let seen = oracle::execute_until(&mut *level, view.cells(), count, 1);
+        let statement = view.statement(seen.observed.pc as i64).filter(|_| seen.stopped())?;
+        if strings::first_out_of_range(&view, &seen.cells, statement) {
+            return None;
+        }
+        trace.add(strings::met(&view, &seen.cells, statement));
+    }
+    trace.outside.is_none().then_some(trace)
 }
 
 /// The numbers of the builtins that the run calls, the least first. The Rust's log doesn't tell them apart, so the run is made again with

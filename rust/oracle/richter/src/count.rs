@@ -1,5 +1,5 @@
-//! Counts the statements that `execute_program` fetches, without a change to it: it logs each one right after the fetch, and this is
-//! the logger. With the level off, which is how the benchmark runs, nothing is logged.
+//! Counts the statements that `execute_program` fetches, and stops it at one of them, without a change to it: it logs each one right after
+//! the fetch, and this is the logger. With the level off, which is how the benchmark runs, nothing is logged.
 
 use log::{LevelFilter, Log, Metadata, Record};
 use std::cell::{Cell, RefCell};
@@ -16,6 +16,7 @@ static LINES: OnceLock<Vec<Lines>> = OnceLock::new();
 
 thread_local! {
     static FETCHED: Cell<u64> = const { Cell::new(0) };
+    static STOP_AT: Cell<u64> = const { Cell::new(u64::MAX) };
     static BUILTINS_AT: RefCell<Vec<u64>> = const { RefCell::new(Vec::new()) };
 }
 
@@ -28,7 +29,18 @@ fn line_of(source: &str, text: &str) -> u32 {
     found[0] as u32
 }
 
+/// The panic by which a run is stopped.
+pub const STOPPED: &str = "stopped at a statement by the count";
+
 struct Counter;
+
+/// A statement was fetched, and nothing of it is done yet.
+fn statement() {
+    FETCHED.with(|n| n.set(n.get() + 1));
+    if fetched() == STOP_AT.with(Cell::get) {
+        panic!("{}", STOPPED);
+    }
+}
 
 impl Log for Counter {
     fn enabled(&self, _: &Metadata) -> bool {
@@ -40,7 +52,7 @@ impl Log for Counter {
         let lines = (LINES.get().unwrap().iter()).find(|l| Some(l.module) == module);
         if let Some(lines) = lines {
             if record.line() == Some(lines.statement) {
-                FETCHED.with(|n| n.set(n.get() + 1));
+                statement();
             }
             if record.line() == Some(lines.builtin) {
                 BUILTINS_AT.with(|at| at.borrow_mut().push(fetched()));
@@ -69,12 +81,19 @@ pub fn install(modules: &[(&'static str, &str)]) {
 /// Counts from 0, or not at all.
 pub fn start(on: bool) {
     FETCHED.with(|n| n.set(0));
+    STOP_AT.with(|n| n.set(u64::MAX));
     BUILTINS_AT.with(|at| at.borrow_mut().clear());
     log::set_max_level(if on {
         LevelFilter::Debug
     } else {
         LevelFilter::Off
     });
+}
+
+/// Counts from 0, and stops the run by a panic where it has fetched so many statements.
+pub fn start_until(fetched: u64) {
+    start(true);
+    STOP_AT.with(|n| n.set(fetched));
 }
 
 pub fn fetched() -> u64 {
