@@ -128,8 +128,18 @@ class Case:
         changed = self.bytes()
         return [struct.unpack_from('<2H', changed, offset + 8 * i) for i in range(count)]
 
+    def types_of(self, cell):
+        """The types of the definitions for a cell, in file order."""
+        return [kind % 32768 for kind, at in self.definitions() if at == cell]
+
     def type_of(self, cell):
-        return next((kind % 32768 for kind, at in self.definitions() if at == cell), None)
+        """R-5: void definitions are passed over."""
+        return next((kind for kind in self.types_of(cell) if kind), None)
+
+    def marked(self, test):
+        """An operand is a cell whose definitions begin with a void one, and their types pass the test."""
+        typed = [at for at, kind in zip(self.operands, self.kinds) if kind in TYPES]
+        return any(types[:1] == [0] and test(types) for types in map(self.types_of, typed))
 
     def by_address(self):
         return self.vector.opcode == STORE_V and 1 <= self.vector.b <= 27
@@ -330,6 +340,9 @@ ROWS = [
     ("NotS of number 0, its text not empty", lambda c: c.alone(lambda number, text: not number and text)),
     ("NotS of another text that isn't empty", lambda c: c.alone(lambda number, text: number and text)),
     ("NotS of operand 0, its text not empty", lambda c: c.vector.opcode == NOT_S and c.vector.a == 0 and any(text for _, text in c.texts())),
+    ('a void definition before another of that cell, and accepted', lambda c: c.accepted and c.marked(any)),
+    ('a void definition before another of that cell, and refused 16', lambda c: operand_row(c, 16) and c.marked(any)),
+    ('void definitions only of a cell', lambda c: c.marked(lambda types: not any(types))),
 ]
 
 

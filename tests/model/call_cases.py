@@ -11,10 +11,11 @@ from common import (
 )
 from entity_calls import entity_calls
 from model import (
-    CELLS, FIELD_DEFS, FLOAT, FUNCTION, FUNCTIONS, GLOBAL_DEFS, HOST_OPCODES, ONE, RECORD_SIZES,
-    STATEMENTS, STRING, STRINGS, VECTOR, VOID, Answer, Assembly, Frame, Machine, function,
+    CELLS, FIELD_DEFS, FLOAT, FUNCTION, FUNCTIONS, GLOBAL_DEFS, HOST_OPCODES, ONE, POINTER, RECORD_SIZES,
+    STATEMENTS, STRING, STRINGS, VECTOR, Answer, Assembly, Frame, Machine, function,
 )
 from string_cases import string_calls
+from void_cases import many_voids, void_calls
 
 FNV_BASIS = 0xCBF29CE484222325
 FNV_PRIME = 0x100000001B3
@@ -803,7 +804,7 @@ def rounding_refusals(c):
     argument, result, called = (ROUNDING.place(GLOBAL_DEFS, index) for index in range(3))
     c.ok("load 0", f"put 4 {flt(2.5)}", "put 1 7", "enter 1")
     for place in (argument, result):
-        for type_ in (STRING, VOID, FUNCTION):
+        for type_ in (STRING, POINTER, FUNCTION):
             c.ok(f"byte {place} {type_}")
             c.no(16, "statement")
             c.no(27, "carry")
@@ -940,12 +941,7 @@ def large_calls(c):
     c.new("29,000 functions", many)
     c.ok("load 0", "enter 28999", f"field {POSITION} 1", "statement", "statement", "abandon 0")
     c.no(20, "enter 29000")
-    last = (STATEMENTS, STRINGS, FIELD_DEFS, CELLS, FUNCTIONS, GLOBAL_DEFS)
-    statements = [("AddF", 28, 28, 29), ("NotF", 0, 0, 28)]
-    many = Assembly(statements, definitions=[(VOID, 0)] * 129_000, layout=last)
-    c.new("129,000 definitions: a lookup goes through them all", many)
-    c.ok("load 0", "statement")
-    c.no(16, "statement")
+    many_voids(c)
 
 
 def call_cases():
@@ -965,6 +961,7 @@ def call_cases():
     rounding_elsewhere(c)
     entity_calls(c)
     string_calls(c)
+    void_calls(c)
     random_calls(c)
     random_entity_calls(c)
     large_calls(c)

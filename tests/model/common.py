@@ -4,7 +4,7 @@ import struct
 
 from model import (
     FLOAT, HOST_OPCODES, INFINITY, INSIDE_BUILTINS, LOADED_FIELDS, ONE, QUIET_NAN, SAVE_FLAG, SIGN,
-    STORED_FIELDS, VECTOR, Assembly, function,
+    STORED_FIELDS, VECTOR, VOID, Assembly, function,
 )
 
 # `field N V` of calls.txt sets one number of the state
@@ -126,6 +126,8 @@ def random_program(chance, hosts=False, entities=False):
     ]
     if chance.below(4) == 0:
         definitions.append((chance.below(8), 28 + chance.below(28)))
+    if chance.below(2):  # before all others, on a cell that one of them names
+        definitions.insert(0, (chance.pick([VOID, VOID | SAVE_FLAG]), chance.pick(definitions)[1]))
     fields = []
     if entities:
         cells |= {cell: chance.below(4) for cell in range(56, 60)}

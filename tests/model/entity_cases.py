@@ -212,7 +212,7 @@ def address_vectors(v):
         v.add("Address", 28, 29, 30, {28: entity, 29: field, 30: 7}, refused=refused, world=world(3, more=STRIDE))
     v.note("R-3: a pointer's cell is typed 7, for Address and for the stores through it")
     for cell, type_ in ((28, ENTITY), (29, FIELD), (30, None), (31, FLOAT), (32, VECTOR), (35, STRING), (36, FUNCTION), (39, VOID)):
-        refused = 16 if type_ is not None else None
+        refused = 16 if type_ not in (None, VOID) else None
         v.add("Address", 28, 29, cell, {28: 1, 29: 4}, refused=refused, world=world())
         v.add("StorePF", 31, cell, 0, {31: 4, 30: 420, cell: 420}, refused=refused, world=world())
     v.note("R-3: operands that are one cell, and destinations that are an operand")

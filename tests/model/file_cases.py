@@ -10,6 +10,7 @@ from model import (
     STRINGS, VECTOR, VOID, Assembly, function, show,
 )
 from string_cases import string_files
+from void_cases import void_files
 
 
 class Files:
@@ -302,11 +303,11 @@ def statement_files(f):
     operands = dict(AddV=(28, 31), SubV=(28, 31), MulV=(28, 31), MulFV=(29, 28), MulVF=(28, 29))
     for name, (a, b) in (operands | dict(EqV=(28, 28), NeV=(31, 31))).items():
         f.add(f"{name}-returned", program((name, a, b, 40), ("Return", 40), cells=vectors), "ended,0,2,")
-    f.note("definitions: the first counts, void refuses, the save flag doesn't")
+    f.note("definitions: the first counts, void is passed over, the save flag doesn't matter")
     for name, definitions, begins in (
         ("first-float", [(FLOAT, 28), (STRING, 28)], "ended,0,2,"),
         ("first-string", [(STRING, 28), (FLOAT, 28)], "refused,16,0,"),
-        ("void-first", [(VOID, 28), (FLOAT, 28)], "refused,16,0,"),
+        ("void-first", [(VOID, 28), (FLOAT, 28)], "ended,0,2,"),
         ("vector-for-float", [(VECTOR | SAVE_FLAG, 28)], "ended,0,2,"),
         ("pointer", [(POINTER, 28)], "refused,16,0,"),
         ("of-another-cell", [(STRING, 27), (STRING, 31)], "ended,0,2,"),
@@ -326,7 +327,7 @@ def no_entity_files(f):
         (("StorePF", 28, 29, 1), 18),
         (("StorePEnt", 30, 29), 17),
     ):
-        file = program(statement, definitions=[(VOID, 35)], cells={30: 0x80000000})
+        file = program(statement, definitions=[(STRING, 35)], cells={30: 0x80000000})
         f.add(f"no-entities-{statement[0]}-{number}", file, f"refused,{number},0,1,1,1,0,")
 
 
@@ -369,7 +370,7 @@ def call_files(f):
     last = (FUNCTIONS, STRINGS, FIELD_DEFS, CELLS, STATEMENTS, GLOBAL_DEFS)
     many = dict(definitions=[(VOID, 0)] * 7900, layout=last, cells=SHOWN_CELLS)
     f.add("definitions-7900", program(("AddF", 28, 29, 30), ("Return", 30), **many), ENDED)
-    f.add("definitions-7900-void-cell", program(("AddF", 28, 29, 0), **many), "refused,16,0,1,1,1,0,")
+    f.add("definitions-7900-void-cell", program(("AddF", 28, 29, 0), ("Return", 0), **many), "ended,0,2,0,0,0,0,40700000,")
     last = (FUNCTIONS, STRINGS, CELLS, GLOBAL_DEFS, FIELD_DEFS, STATEMENTS)
     many = program(*[("Done",)] * 7900, functions=[function(7900)], layout=last, cells={0: 5})
     f.add("statements-7901", many, "ended,0,1,0,0,0,0,00000005")
@@ -576,5 +577,6 @@ def file_cases():
     call_files(f)
     rounding_files(f)
     string_files(f)
+    void_files(f)
     random_files(f)
     return f

@@ -516,14 +516,18 @@ class Machine:
         self._check_address(cell)
         self._store(self.cells, cell, value)
 
-    def _check_type(self, cell, wanted):
-        """ "the first global definition, in file order, with that cell" """
+    def _check_definition(self, lump, cell, wanted):
+        """ "the first .. definition, in file order, with that cell".  "Void definitions are passed over", of
+        globals by R-5 and of fields by R-3."""
         program = self._program
-        for index in range(program.count(GLOBAL_DEFS)):
-            definition = program.definition(GLOBAL_DEFS, index)
-            if definition.cell == cell:
+        for index in range(program.count(lump)):
+            definition = program.definition(lump, index)
+            if definition.type & ~SAVE_FLAG != VOID and definition.cell == cell:
                 check_same_type(definition, wanted)
                 return
+
+    def _check_type(self, cell, wanted):
+        self._check_definition(GLOBAL_DEFS, cell, wanted)
 
     def _get_typed(self, cell, wanted):
         """ "A typed access checks type, then address." """
@@ -685,13 +689,8 @@ class Machine:
     # -- entity fields (R-3) -------------------------------------------------------------------
 
     def _check_field_type(self, cell, wanted):
-        """As `Entity::type_check`: the first field definition with that cell, "void ones passed over"."""
-        program = self._program
-        for index in range(program.count(FIELD_DEFS)):
-            definition = program.definition(FIELD_DEFS, index)
-            if definition.type & ~SAVE_FLAG != VOID and definition.cell == cell:
-                check_same_type(definition, wanted)
-                return
+        """As `Entity::type_check`."""
+        self._check_definition(FIELD_DEFS, cell, wanted)
 
     def _field_places(self, entity, field, wanted):
         """The lent entity cells of a field: "cell by cell, 16 by field definition (not for 30) and 31

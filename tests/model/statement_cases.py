@@ -14,6 +14,7 @@ from model import (
     VOID, Answer, Assembly, Machine, function, pack_statement,
 )
 from string_cases import string_vectors
+from void_cases import void_vectors
 
 # The functions of every vector file.  All begin at statement 0, where the vector's statement is.
 PLAIN, WITH_LOCALS, BUILTIN_1, BUILTIN_78, RETURN_CELLS = 1, 2, 3, 4, 13
@@ -236,7 +237,7 @@ TYPED_DEFINITIONS = [
     (STRING, 43),
     (VECTOR, 45),  # its third cell is an entity
     (ENTITY, 47),
-    (VOID, 48),  # void counts like any type, though another follows
+    (VOID, 48),  # void ones are passed over, so 48 is a float and 28 has no type
     (FLOAT, 48),
     (ENTITY | SAVE_FLAG, 49),
     (VECTOR | SAVE_FLAG, 50),  # 51 and 52 are floats of their own
@@ -515,7 +516,7 @@ def refusal_vectors(v):
 
 
 def type_vectors(v):
-    v.note("every type under every type: only float and vector pass for each other")
+    v.note("every type under every type: only float and vector pass for each other; void is none")
     kinds = dict(f="NotF", v="NotV", s="NotS", e="NotEnt", c="NotFnc", d="StoreFld")
     places = (28, 29, 30, 31, 34, 35, 36, 37)
     for kind, name in kinds.items():
@@ -661,4 +662,5 @@ def statement_vectors():
     last_cell_vectors(v)
     entity_vectors(v)
     string_vectors(v)
+    void_vectors(v)
     return v

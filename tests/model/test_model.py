@@ -164,7 +164,7 @@ class Tempting(unittest.TestCase):
         for definitions, answer in (
             ([(FLOAT, 28), (STRING, 28)], ACCEPTED),
             ([(STRING, 28), (FLOAT, 28)], refused(16)),
-            ([(VOID, 28), (FLOAT, 28)], refused(16)),
+            ([(VOID, 28), (FLOAT, 28)], ACCEPTED),
             ([(SAVE_FLAG | VECTOR, 28)], ACCEPTED),
         ):
             self.assertEqual(loaded(("NotF", 28, 0, 30), definitions=definitions).statement(), answer)
@@ -306,7 +306,8 @@ class Rounding(unittest.TestCase):
             ([(VECTOR, 4), (FLOAT | SAVE_FLAG, 1)], ACCEPTED),
             ([(STRING, 4)], refused(16)),
             ([(STRING, 1)], refused(16)),
-            ([(VOID, 4), (FLOAT, 4)], refused(16)),
+            ([(VOID, 4), (FLOAT, 4)], ACCEPTED),
+            ([(VOID, 4), (STRING, 4)], refused(16)),
             ([(ENTITY, 1), (FLOAT, 1)], refused(16)),
             ([(STRING, 5), (STRING, 2), (STRING, 3)], ACCEPTED),
         ):
@@ -558,6 +559,86 @@ class Statements(unittest.TestCase):
         self.assertEqual(HOST_OPCODES, {60})
         self.assertEqual(self.answer("State", -1, -1, -1), Answer("opcode", 60))
         self.assertEqual(self.answer("LoadF", -1, -1, -1), refused(15))
+
+
+class VoidMarkers(unittest.TestCase):
+    """R-5."""
+
+    FLAGGED = VOID | SAVE_FLAG
+
+    def answers(self, definitions):
+        """NotF, NotS and NotEnt of cell 28: as a float, a string, an entity."""
+        found = []
+        for name in ("NotF", "NotS", "NotEnt"):
+            machine = loaded((name, 28, 0, 30), definitions=definitions)
+            before = everything(machine)
+            found.append(machine.statement())
+            if found[-1] != ACCEPTED:
+                self.assertEqual(everything(machine), before)
+        return [answer.detail for answer in found]
+
+    def test_reads(self):
+        for definitions, expected in (
+            ([(VOID, 28)], [0, 0, 0]),
+            ([(self.FLAGGED, 28)], [0, 0, 0]),
+            ([(VOID, 28), (VOID, 28), (self.FLAGGED, 28)], [0, 0, 0]),
+            ([(VOID, 28), (FLOAT, 28)], [0, 16, 16]),
+            ([(self.FLAGGED, 28), (FLOAT, 28)], [0, 16, 16]),
+            ([(VOID, 28), (self.FLAGGED, 28), (VOID, 28), (STRING, 28)], [16, 0, 16]),
+            ([(VOID, 28), (ENTITY, 28), (FLOAT, 28)], [16, 16, 0]),
+            ([(ENTITY, 28), (VOID, 28), (FLOAT, 28)], [16, 16, 0]),
+            ([(STRING, 28), (VOID, 28)], [16, 0, 16]),
+            ([(VOID, 27), (STRING, 28)], [16, 0, 16]),
+            ([(VOID, 28), (FLOAT, 29), (VECTOR | SAVE_FLAG, 28)], [0, 16, 16]),
+            ([(VOID, 28), (FLOAT, 29)], [0, 0, 0]),
+            ([(VOID, 28), (POINTER, 28)], [16, 16, 16]),
+        ):
+            self.assertEqual(self.answers(definitions), expected, definitions)
+
+    def test_writes_and_vectors(self):
+        definitions = [(VOID, 28), (STRING, 28), (VOID, 40), (VECTOR, 40), (VOID, 41), (FLOAT, 41), (VOID, 42), (VOID, 43), (STRING, 44)]
+        for statement, answer in (
+            (("StoreF", 30, 28), refused(16)),
+            (("StoreS", 30, 28), ACCEPTED),
+            (("AddF", 30, 31, 43), ACCEPTED),
+            (("AddF", 30, 31, 28), refused(16)),
+            (("NotV", 40, 0, 30), ACCEPTED),
+            (("NotV", 41, 0, 30), ACCEPTED),
+            (("NotV", 42, 0, 30), refused(16)),
+            (("AddV", 31, 31, 40), ACCEPTED),
+            (("AddV", 31, 31, 26), refused(16)),
+            (("StoreV", 40, 31), ACCEPTED),
+            (("StoreV", 31, 42), refused(16)),
+        ):
+            self.assertEqual(loaded(statement, definitions=definitions).statement(), answer, statement)
+
+    def test_type_before_address(self):
+        definitions = [(VOID, 64), (VOID, 65), (STRING, 65)]
+        for operand, number in ((64, 15), (65, 16), (66, 15)):
+            self.assertEqual(loaded(("NotF", operand, 0, 30), definitions=definitions).statement(), refused(number))
+
+    def test_bytes_as_they_are_now(self):
+        """A type with another bit than the save flag's is no void, though its lower byte is 0."""
+        machine = loaded(("NotF", 28, 0, 30), definitions=[(VOID, 28), (STRING, 28)])
+        place = machine.assembly.place(1, 1)
+        for low, high, answer in ((STRING, 0, refused(16)), (0, 0x40, refused(16)), (8, 0, refused(16)), (0, 0x80, ACCEPTED)):
+            machine.file[place : place + 2] = bytes([low, high])
+            self.assertEqual(machine.statement(), answer)
+
+    def test_the_load_is_as_before(self):
+        for type_, answer in ((VOID, ACCEPTED), (self.FLAGGED, ACCEPTED), (8, refused(8))):
+            file = Assembly(functions=[function()], definitions=[(type_, 28)]).bytes()
+            self.assertEqual(Machine(file, [0] * 64, [0] * 2048).load(), answer)
+        file = Assembly(functions=[function()], definitions=[(VOID, 28, 1)]).bytes()
+        self.assertEqual(Machine(file, [0] * 64, [0] * 2048).load(), refused(6))
+
+    def test_a_marked_file_runs(self):
+        """01's example with a void definition before each that counts."""
+        definitions = [(VOID, 28), (self.FLAGGED, 29), (VOID, 30), (FLOAT, 28), (FLOAT, 29), (FLOAT, 30)]
+        statements = [("Done",), ("AddF", 28, 29, 30), ("Return", 30)]
+        cells = {28: 0x3FC00000, 29: 0x40100000}
+        file = Assembly(statements, [function(), function(1, 30, 1)], definitions=definitions, cells=cells).bytes()
+        self.assertEqual(show(file), "ended,0,2,0,0,0,0,40700000,00000000,00000000")
 
 
 class Texts(unittest.TestCase):

@@ -35,7 +35,7 @@ function = 6
 abbrev pub pointer : ℕ
 pointer = 7
 
--- what a lookup gives for a cell without a definition: no type, since bit 15 of a definition's type is its save flag
+-- what a lookup gives for a cell that no definition gives a type: no type, since bit 15 of a definition's type is its save flag
 abbrev pub untyped : ℕ
 untyped = saveFlag
 
@@ -43,15 +43,15 @@ untyped = saveFlag
 abbrev pub typeOf : Definition → ℕ
 typeOf d = d .kind % saveFlag
 
--- "Type lookup takes the first global definition, in file order, with that cell"
+-- whether a definition gives this cell its type. R-5: "Void definitions are passed over, as the Rust already does for entities", the save flag apart
+abbrev pub binds : Definition → ℕ → Bool
+binds d cell = eqb (d .offset) cell && not (eqb (typeOf d) void)
+
+-- "Type lookup takes the first global definition, in file order, with that cell", and so for the field definitions (R-3); a cell that void definitions
+-- alone name has no type
 unfoldable pub lookup : List Definition → ℕ → ℕ
 lookup [] cell = untyped
-lookup (d ∷ ds) cell = cond (eqb (d .offset) cell) (typeOf d) (lookup ds cell)
-
--- R-3, of field definitions: "as `Entity::type_check` does, void ones passed over"
-unfoldable pub withoutVoid : List Definition → List Definition
-withoutVoid [] = []
-withoutVoid (d ∷ ds) = cond (eqb (typeOf d) void) (withoutVoid ds) (d ∷ withoutVoid ds)
+lookup (d ∷ ds) cell = cond (binds d cell) (typeOf d) (lookup ds cell)
 
 -- vector counts as float
 unfoldable pub scalar : ℕ → ℕ
@@ -83,7 +83,7 @@ abbrev pub typingOf : Contents → Typing
 typingOf k = record { definitions = k .globaldefs; count = length (k .globals) }
 
 abbrev pub fieldsOf : Contents → Typing
-fieldsOf k = record { definitions = withoutVoid (k .fielddefs); count = k .entityfields }
+fieldsOf k = record { definitions = k .fielddefs; count = k .entityfields }
 
 abbrev pub typeIs : Typing → ℕ → ℕ → Bool
 typeIs g want cell = passes (lookup (g .definitions) cell) want

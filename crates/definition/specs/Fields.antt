@@ -189,6 +189,8 @@ addressRows =
     ∷ row "entity 1, field 0" (after [] [] address (inEntity 1 0) [] (cells 1 30)) (accepted (420 ∷ []))
     ∷ row "the last field of the last entity" (after [] [] address (inEntity 1 104) [] (cells 1 30)) (accepted (836 ∷ []))
     ∷ row "to a cell typed 7" (after (define pointer 30 ∷ []) [] address (inEntity 1 10) [] (cells 1 30)) (accepted (460 ∷ []))
+    ∷ row "to a cell void alone, which has no type" (after (define void 30 ∷ []) [] address (inEntity 1 10) [] (cells 1 30)) (accepted (460 ∷ []))
+    ∷ row "to a cell void and then typed 7" (after (define void 30 ∷ define pointer 30 ∷ []) [] address (inEntity 1 10) [] (cells 1 30)) (accepted (460 ∷ []))
     ∷ row "no 16 by field definition" (after [] (define string 10 ∷ []) address (inEntity 1 10) [] (cells 1 30)) (accepted (460 ∷ []))
     ∷ row "an Address writes no field" (after [] [] address (inEntity 1 10) [] (fields 2 114)) (accepted (1114 ∷ 1115 ∷ []))
     ∷ []
@@ -202,7 +204,7 @@ addressRefusals =
     ∷ row "15: the field's cell" (loadAfter [] [] (op 30 28 38 30) []) (refused 15)
     ∷ row "17: a negative field" (after [] [] address (inEntity 1 0x80000000) [] state) (refused 17)
     ∷ row "16: the pointer's cell" (loadAfter (define field 30 ∷ []) [] address []) (refused 16)
-    ∷ row "16: the pointer's cell, void" (loadAfter (define void 30 ∷ []) [] address []) (refused 16)
+    ∷ row "16: the pointer's cell, void and then a field" (loadAfter (define void 30 ∷ define field 30 ∷ []) [] address []) (refused 16)
     ∷ row "15: the pointer's cell" (loadAfter [] [] (op 30 28 29 38) []) (refused 15)
     ∷ row "30: an entity not below the count" (after [] [] address (inEntity 2 10) [] state) (refused 30)
     ∷ row "31: a field not below the cells per entity" (after [] [] address (inEntity 0 105) [] state) (refused 31)

@@ -13,6 +13,7 @@ pub mod Starred
 pub mod Rounding
 pub mod Fields
 pub mod StringRows
+pub mod Voids
 pub mod Calls
 pub mod Log
 pub mod Trace

@@ -16,7 +16,7 @@ use Rattle.definition.specs.declared.StackFrame.{StackFrame}
 use Rattle.definition.specs.Checks.{judge, Checked, refused, accepted, guard}
 use Rattle.definition.specs.Floats.{roundingOf}
 use Rattle.definition.specs.File.{byteAt, u16At, u32At, fileOf, lumpsFit, records, Contents, contentsAt, builtinNumber, noFunction}
-use Rattle.definition.specs.Cells.{float, entity, lookup, withoutVoid, scalar, passes, signed, cellOf, cellAccess, vectorAccess, access, readAccess, fieldCellAccess, fieldAccess}
+use Rattle.definition.specs.Cells.{float, entity, lookup, scalar, passes, signed, cellOf, cellAccess, vectorAccess, access, readAccess, fieldCellAccess, fieldAccess}
 use Rattle.definition.specs.Statements.{shapeOf, floatsEffect, vectorResult, vectorsEffect, vectorsToFloatEffect, negatesVEffect, storesEffect, storesVEffect, branchesDo, callOf, callDoes}
 use Rattle.definition.specs.Statements.{fetchConditions, execute, doesAt, valueMoved, loadsEffect, addressesEffect, storesPEffect}
 use Rattle.definition.specs.Machine.{Program, Config, limits, zeroFrame, entitiesFit, present, copied, successive, arguments, copiesPresent}
@@ -677,7 +677,7 @@ unfolding judge guard
     Ieee.ofBits Ieee.toBits Ieee.add Ieee.mul Ieee.div Ieee.eq Ieee.toSigned Ieee.ofInt
     lookup scalar passes signed cellOf cellAccess vectorAccess access readAccess
     shapeOf floatsEffect vectorResult vectorsEffect vectorsToFloatEffect negatesVEffect storesEffect storesVEffect branchesDo roundingOf callOf callDoes fetchConditions execute doesAt
-    withoutVoid fieldCellAccess fieldAccess valueMoved loadsEffect addressesEffect storesPEffect
+    fieldCellAccess fieldAccess valueMoved loadsEffect addressesEffect storesPEffect
     entitiesFit limits present copied successive arguments copiesPresent entryConditions entered leaveConditions left stepAs step runFor
     each headerConditions recordConditions cellConditions loaded load sameFile recordedIn programAt
     frameFunctions enteredFunctions allPresent localsOf sound hostEnter statement runConditions run carryOnConditions carryOn leftTimes leavingsConditions abandonConditions abandon rawRead rawWrite

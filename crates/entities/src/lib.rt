@@ -9,7 +9,7 @@ ghost use Prim.Native.Nat.{ℕ, _+_, _*_, _≤_, _<_};
 ghost use lib.ListN.{length};
 ghost use Rattle.definition.specs.Cells.{Typing};
 ghost use Rattle.definition.specs.Statements.{Entities, valueMoved, loadsEffect, addressesEffect, storesPEffect};
-ghost use Rattle.typed.specs.Typing.{typing, fieldTyping};
+ghost use Rattle.typed.specs.Typing.{typing};
 ghost use Rattle.typed.specs.Checking.{Reaches};
 ghost use Rattle.globals.specs.Effects.{after, effectOn};
 ghost use Rattle.entities.specs.Lent.{Sized, Lent, entitiesIn};
@@ -50,7 +50,7 @@ fn check_loaded(
     field: usize,
 ) -> u8
     requires { ⌜ Lent table (length (now entities)) ⌝ }
-    ensures { λ r. ⌜ r ≡ loadedRefusal t (fieldTyping (now (fields .entry)) (table .size)) (entitiesIn table (now (entities .entry))) entity field ⌝ }
+    ensures { λ r. ⌜ r ≡ loadedRefusal t (typing (now (fields .entry)) (table .size)) (entitiesIn table (now (entities .entry))) entity field ⌝ }
 {
     if table.number <= entity {
         return 30;
@@ -78,7 +78,7 @@ fn check_loads(
     at: Operands,
 ) -> u8
     requires { ⌜ (count ≤ length (now cells)) × Lent table (length (now entities)) ⌝ }
-    ensures { λ r. ⌜ r ≡ loadsRefusal t (typing (now (defs .entry)) count) (fieldTyping (now (fields .entry)) (table .size)) (entitiesIn table (now (entities .entry))) (at .a) (at .b) (at .c) (now (cells .entry)) ⌝ }
+    ensures { λ r. ⌜ r ≡ loadsRefusal t (typing (now (defs .entry)) count) (typing (now (fields .entry)) (table .size)) (entitiesIn table (now (entities .entry))) (at .a) (at .b) (at .c) (now (cells .entry)) ⌝ }
 {
     let r = check_operands(defs, count, cells, t, at);
     if r != 0 {
@@ -120,7 +120,7 @@ pub fn op_loads(
     at: Operands,
 ) -> Answer
     requires { ⌜ (count ≤ length (now cells)) × Lent table (length (now entities)) ⌝ }
-    ensures { λ r. ⌜ after r (now (cells .exit)) ≡ effectOn (loadsEffect t (typing (now (defs .entry)) count) (fieldTyping (now (fields .entry)) (table .size)) (entitiesIn table (now (entities .entry))) (at .a) (at .b) (at .c) (now (cells .entry))) (now (cells .entry)) ⌝ }
+    ensures { λ r. ⌜ after r (now (cells .exit)) ≡ effectOn (loadsEffect t (typing (now (defs .entry)) count) (typing (now (fields .entry)) (table .size)) (entitiesIn table (now (entities .entry))) (at .a) (at .b) (at .c) (now (cells .entry))) (now (cells .entry)) ⌝ }
 {
     let refusal = check_loads(defs, count, fields, table, cells, entities, t, at);
     if refusal != 0 {
@@ -190,7 +190,7 @@ pub fn op_address(
 // A pointer to a field of type t that is written.
 fn check_pointed(fields: &[u8], table: EntityTable, t: u16, p: u32) -> u8
     requires { ⌜ Sized table ⌝ }
-    ensures { λ r. ⌜ ((cells : List ℕ) → r ≡ pointedRefusal t (fieldTyping (now (fields .entry)) (table .size)) (entitiesIn table cells) p) ⌝ }
+    ensures { λ r. ⌜ ((cells : List ℕ) → r ≡ pointedRefusal t (typing (now (fields .entry)) (table .size)) (entitiesIn table cells) p) ⌝ }
 {
     let place = reads::wide(p) / 4;
     let size = table.size;
@@ -210,7 +210,7 @@ fn check_stores_p(
     at: Operands,
 ) -> u8
     requires { ⌜ (count ≤ length (now cells)) × Sized table ⌝ }
-    ensures { λ r. ⌜ ((entities : List ℕ) → r ≡ storesPRefusal t (typing (now (defs .entry)) count) (fieldTyping (now (fields .entry)) (table .size)) (entitiesIn table entities) (at .a) (at .b) (at .c) (now (cells .entry))) ⌝ }
+    ensures { λ r. ⌜ ((entities : List ℕ) → r ≡ storesPRefusal t (typing (now (defs .entry)) count) (typing (now (fields .entry)) (table .size)) (entitiesIn table entities) (at .a) (at .b) (at .c) (now (cells .entry))) ⌝ }
 {
     let natural = typed::must_be_natural(t);
     let x = globals::check_unary(
@@ -251,7 +251,7 @@ pub fn op_stores_p(
     at: Operands,
 ) -> Answer
     requires { ⌜ (count ≤ length (now cells)) × Lent table (length (now entities)) ⌝ }
-    ensures { λ r. ⌜ after r (now (entities .exit)) ≡ effectOn (storesPEffect t (typing (now (defs .entry)) count) (fieldTyping (now (fields .entry)) (table .size)) (entitiesIn table (now (entities .entry))) (at .a) (at .b) (at .c) (now (cells .entry))) (now (entities .entry)) ⌝ }
+    ensures { λ r. ⌜ after r (now (entities .exit)) ≡ effectOn (storesPEffect t (typing (now (defs .entry)) count) (typing (now (fields .entry)) (table .size)) (entitiesIn table (now (entities .entry))) (at .a) (at .b) (at .c) (now (cells .entry))) (now (entities .entry)) ⌝ }
 {
     let refusal = check_stores_p(defs, count, fields, table, cells, t, at);
     if refusal != 0 {

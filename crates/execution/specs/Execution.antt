@@ -15,9 +15,9 @@ use Rattle.definition.specs.RecordLaws.{length-records}
 use Rattle.functions.specs.Laws.{AllFit}
 use Rattle.functions.specs.Parts.{partOf, functionsIn}
 use Rattle.functions.specs.PartLaws.{part-globaldefs, part-fielddefs, part-functions, part-strings}
-use Rattle.typed.specs.Typing.{typing, fieldTyping}
+use Rattle.typed.specs.Typing.{typing}
 use Rattle.definition.specs.declared.Handover.the-variants.{Builtin}
-use Rattle.definition.specs.Cells.{cellOf, withoutVoid, Typing, typingOf, fieldsOf}
+use Rattle.definition.specs.Cells.{cellOf, Typing, typingOf, fieldsOf}
 use Rattle.definition.specs.Statements.{Entities, Does, next, puts, calls, returns, refuses, handsOver, effectDoes, roundingEffect, Tables, tablesOf, executeIn, execute}
 use Rattle.floats.specs.Rounding.{roundingOp}
 use Rattle.execution.specs.declared.Callee.{Callee}
@@ -48,7 +48,7 @@ entitiesAt number cells = record { count = number; cells = cells }
 
 abbrev pub tablesIn : List ℕ → List ℕ → ℕ → List ℕ → ℕ → List ℕ → Tables
 tablesIn functions defs count fields size strings =
-    record { functions = functionsIn functions; globals = typing defs count; fields = fieldTyping fields size; strings = strings }
+    record { functions = functionsIn functions; globals = typing defs count; fields = typing fields size; strings = strings }
 
 module _ (r : FileRecord) (file : List ℕ) (fit : AllFit (length file) r) where
   pub typing-here : typing (partOf 8 (r .globaldefs) file) (r .globals .count) ≡ typingOf (contentsAt r file)
@@ -58,9 +58,9 @@ module _ (r : FileRecord) (file : List ℕ) (fit : AllFit (length file) r) where
       let count = length-records (u32At file) 4 (r .globals .count) (r .globals .offset) in
       cc
 
-  fields-here : fieldTyping (partOf 8 (r .fielddefs) file) (r .entityfields) ≡ fieldsOf (contentsAt r file)
+  fields-here : typing (partOf 8 (r .fielddefs) file) (r .entityfields) ≡ fieldsOf (contentsAt r file)
   unfolding contentsAt
-  fields-here = ap (λ (ds : List Definition). record { definitions = withoutVoid ds; count = r .entityfields }) (part-fielddefs r file fit)
+  fields-here = ap (λ (ds : List Definition). record { definitions = ds; count = r .entityfields }) (part-fielddefs r file fit)
 
   tables-here : tablesIn (partOf 36 (r .functions) file) (partOf 8 (r .globaldefs) file) (r .globals .count) (partOf 8 (r .fielddefs) file) (r .entityfields) (partOf 1 (r .strings) file)
       ≡ tablesOf (contentsAt r file)

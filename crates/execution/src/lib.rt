@@ -27,7 +27,7 @@ ghost use Rattle.definition.specs.Cells.{signed, cellOf, Typing};
 ghost use Rattle.definition.specs.Statements.{Entities, branchesDo, builtinDoes, callOf, callDoes, execute, doesAt};
 ghost use Rattle.definition.specs.Operations.{isHandedOver};
 ghost use Rattle.functions.specs.Parts.{functionsIn};
-ghost use Rattle.typed.specs.Typing.{typing, fieldTyping};
+ghost use Rattle.typed.specs.Typing.{typing};
 ghost use Rattle.entities.specs.Lent.{Lent, entitiesIn};
 ghost use Rattle.globals.specs.Effects.{after, effectOn};
 ghost use Rattle.execution.specs.Shapes.{effectAs, stringEffect, fieldDoes};
@@ -125,7 +125,7 @@ fn field(
 ) -> Executed
     requires { ⌜ (count ≤ length (now cells)) × (k < 2147483648) ⌝ }
     requires { ⌜ Lent table (length (now entities)) ⌝ }
-    ensures { λ r. ⌜ executed r (now (cells .exit)) (now (entities .exit)) ≡ execution (fieldDoes what (typing (now (defs .entry)) count) (fieldTyping (now (fields .entry)) (table .size)) (pos k) (entitiesIn table (now (entities .entry))) (at .a) (at .b) (at .c) (now (cells .entry))) (now (cells .entry)) (now (entities .entry)) ⌝ }
+    ensures { λ r. ⌜ executed r (now (cells .exit)) (now (entities .exit)) ≡ execution (fieldDoes what (typing (now (defs .entry)) count) (typing (now (fields .entry)) (table .size)) (pos k) (entitiesIn table (now (entities .entry))) (at .a) (at .b) (at .c) (now (cells .entry))) (now (cells .entry)) (now (entities .entry)) ⌝ }
 {
     match what {
         FieldOp::Loads(t) => {

@@ -17,7 +17,7 @@ use Rattle.definition.specs.declared.Handover.the-variants.{Builtin, Opcode}
 use Rattle.definition.specs.Checks.{judge}
 use Rattle.definition.specs.File.{Contents, builtinNumber}
 use Rattle.definition.specs.Floats.{rounded, absolute, roundingOf}
-use Rattle.definition.specs.Cells.{lookup, scalar, passes, signed, cellOf, cellAccess, vectorAccess, access, readAccess, withoutVoid, fieldCellAccess, fieldAccess}
+use Rattle.definition.specs.Cells.{lookup, scalar, passes, signed, cellOf, cellAccess, vectorAccess, access, readAccess, fieldCellAccess, fieldAccess}
 use Rattle.definition.specs.Strings.{upToZero, sameText, textAccess}
 use Rattle.definition.specs.Statements.{Does, next, puts, calls, returns, refuses, handsOver, shapeOf, fetchConditions, execute, doesAt}
 use Rattle.definition.specs.Statements.{floatsEffect, valuesEffect, vectorResult, vectorsEffect, vectorsToFloatEffect, stringsEffect}
@@ -77,18 +77,19 @@ lentEntities = numbers 212 1000
 abbrev untyped : List Definition
 untyped = []
 
--- cell 0 is a float, 1 a string, 27 an entity, 28 a string; from 36 on every third cell has a type, so that a vector there has one typed cell: 36 void,
--- 39 string, 42 float, 45 vector, 48 entity, 51 field, 54 function, 57 pointer, 60 a float with the save flag; of the cells past the count 64 is a string,
--- 65 a float
+-- cell 0 is a float, 1 a string, 27 an entity, 28 a string, 29 void; from 36 on every third cell has a type, so that a vector there has one typed cell: 36
+-- is void and then a pointer, 39 void with the save flag and then a string, 42 a float and then void, 45 a vector, 48 an entity, 51 a field, 54 a function,
+-- 57 a pointer, 60 a float with the save flag; of the cells past the count 64 is a string, 65 a float
 abbrev typed : List Definition
 typed =
-    (define 2 0 ∷ define 1 1 ∷ define 4 27 ∷ define 1 28 ∷ [])
-    ++ (define 0 36 ∷ define 1 39 ∷ define 2 42 ∷ define 3 45 ∷ define 4 48 ∷ define 5 51 ∷ define 6 54 ∷ define 7 57 ∷ define 0x8002 60 ∷ [])
+    (define 2 0 ∷ define 1 1 ∷ define 4 27 ∷ define 1 28 ∷ define 0 29 ∷ [])
+    ++ (define 0 36 ∷ define 7 36 ∷ define 0x8000 39 ∷ define 1 39 ∷ define 2 42 ∷ define 0 42 ∷ [])
+    ++ (define 3 45 ∷ define 4 48 ∷ define 5 51 ∷ define 6 54 ∷ define 7 57 ∷ define 0x8002 60 ∷ [])
     ++ (define 1 64 ∷ define 2 65 ∷ [])
 
--- a cell without a type, then those of all types
+-- a cell without a definition, one with a void definition alone, then those of all types
 abbrev cellsOfTypes : List ℕ
-cellsOfTypes = 30 ∷ 36 ∷ 39 ∷ 42 ∷ 45 ∷ 48 ∷ 51 ∷ 54 ∷ 57 ∷ 60 ∷ []
+cellsOfTypes = 30 ∷ 29 ∷ 39 ∷ 42 ∷ 45 ∷ 48 ∷ 51 ∷ 54 ∷ 57 ∷ 60 ∷ []
 
 -- ---- what is seen
 
@@ -470,7 +471,7 @@ nans =
     ∷ [])
 
 -- ---- "access by access, 16: type": "Float and vector pass for each other; otherwise types must match; a cell without a definition passes"; "Bit 15 of the
--- type is the save flag"
+-- type is the save flag". R-5: "Void definitions are passed over"
 
 abbrev floatOpcodes : List ℕ
 floatOpcodes = 1 ∷ 5 ∷ 6 ∷ 8 ∷ 10 ∷ 15 ∷ 20 ∷ 21 ∷ 22 ∷ 23 ∷ 62 ∷ 63 ∷ 64 ∷ 65 ∷ []
@@ -483,25 +484,25 @@ firstVector = 2 ∷ 4 ∷ 7 ∷ 9 ∷ 11 ∷ 16 ∷ []
 abbrev secondVector : List ℕ
 secondVector = 2 ∷ 3 ∷ 7 ∷ 9 ∷ 11 ∷ 16 ∷ []
 
--- for the cells without a type, void, string, float, vector, entity, field, function, pointer, and float with the save flag
+-- for the cells without a definition, void, string, float, vector, entity, field, function, pointer, and float with the save flag
 abbrev asString : List ℕ
-asString = 0 ∷ 16 ∷ 0 ∷ 16 ∷ 16 ∷ 16 ∷ 16 ∷ 16 ∷ 16 ∷ 16 ∷ []
+asString = 0 ∷ 0 ∷ 0 ∷ 16 ∷ 16 ∷ 16 ∷ 16 ∷ 16 ∷ 16 ∷ 16 ∷ []
 
 abbrev asFloat : List ℕ
-asFloat = 0 ∷ 16 ∷ 16 ∷ 0 ∷ 0 ∷ 16 ∷ 16 ∷ 16 ∷ 16 ∷ 0 ∷ []
+asFloat = 0 ∷ 0 ∷ 16 ∷ 0 ∷ 0 ∷ 16 ∷ 16 ∷ 16 ∷ 16 ∷ 0 ∷ []
 
 abbrev asEntity : List ℕ
-asEntity = 0 ∷ 16 ∷ 16 ∷ 16 ∷ 16 ∷ 0 ∷ 16 ∷ 16 ∷ 16 ∷ 16 ∷ []
+asEntity = 0 ∷ 0 ∷ 16 ∷ 16 ∷ 16 ∷ 0 ∷ 16 ∷ 16 ∷ 16 ∷ 16 ∷ []
 
 abbrev asField : List ℕ
-asField = 0 ∷ 16 ∷ 16 ∷ 16 ∷ 16 ∷ 16 ∷ 0 ∷ 16 ∷ 16 ∷ 16 ∷ []
+asField = 0 ∷ 0 ∷ 16 ∷ 16 ∷ 16 ∷ 16 ∷ 0 ∷ 16 ∷ 16 ∷ 16 ∷ []
 
 abbrev asFunction : List ℕ
-asFunction = 0 ∷ 16 ∷ 16 ∷ 16 ∷ 16 ∷ 16 ∷ 16 ∷ 0 ∷ 16 ∷ 16 ∷ []
+asFunction = 0 ∷ 0 ∷ 16 ∷ 16 ∷ 16 ∷ 16 ∷ 16 ∷ 0 ∷ 16 ∷ 16 ∷ []
 
--- a Call of the functions 30 and 54, which there are none of
+-- a Call of the functions 29, 30 and 54, which there are none of
 abbrev asCalled : List ℕ
-asCalled = 20 ∷ 16 ∷ 16 ∷ 16 ∷ 16 ∷ 16 ∷ 16 ∷ 20 ∷ 16 ∷ 16 ∷ []
+asCalled = 20 ∷ 20 ∷ 16 ∷ 16 ∷ 16 ∷ 16 ∷ 16 ∷ 20 ∷ 16 ∷ 16 ∷ []
 
 abbrev first : ℕ → ℕ → Statement
 first o a = op o a 33 33
@@ -610,7 +611,7 @@ passing n (zero ∷ xs) = n ∷ passing n xs
 passing n (suc m ∷ xs) = suc m ∷ passing n xs
 
 abbrev asPointer : List ℕ
-asPointer = 0 ∷ 16 ∷ 16 ∷ 16 ∷ 16 ∷ 16 ∷ 16 ∷ 16 ∷ 0 ∷ 16 ∷ []
+asPointer = 0 ∷ 0 ∷ 16 ∷ 16 ∷ 16 ∷ 16 ∷ 16 ∷ 16 ∷ 0 ∷ 16 ∷ []
 
 -- a Load and a StoreP of fields of entity 1: those that pass, and those that are refused 16
 abbrev fieldTypes : ℕ → ℕ → List ℕ → List ℕ → List Row
@@ -621,7 +622,7 @@ fieldTypes load store pass fail =
     ++ of fail (λ f. row "StoreP of a field of another type" untyped (op store 30 33 0) (33 holds ((105 + f) * 4) ∷ []) (refused 16))
 
 -- "Typed accesses look up field definitions as `Entity::type_check` does, void ones passed over". An operand that passes leads to 30, since there is no
--- entity 33, or to 32, since 33, 30 and 57 are no multiples of 4.
+-- entity 33, or to 32, since 33, 29, 30 and 57 are no multiples of 4.
 abbrev fieldAccesses : List Row
 fieldAccesses =
     types "Load, Address, entity" (30 ∷ loadOpcodes) first (passing 30 asEntity)
@@ -857,7 +858,7 @@ unfoldable computing : Unit {0}
 unfolding judge builtinNumber
     Ieee.ofBits Ieee.toBits Ieee.add Ieee.sub Ieee.mul Ieee.div Ieee.eq Ieee.ne Ieee.le Ieee.lt Ieee.round Ieee.toSigned Ieee.ofInt
     lookup scalar passes signed cellOf cellAccess vectorAccess access readAccess upToZero sameText textAccess
-    withoutVoid fieldCellAccess fieldAccess valueMoved loadsEffect addressesEffect storesPEffect
+    fieldCellAccess fieldAccess valueMoved loadsEffect addressesEffect storesPEffect
     shapeOf floatsEffect valuesEffect vectorResult vectorsEffect vectorsToFloatEffect stringsEffect negatesEffect negatesVEffect negatesSEffect
     storesEffect storesVEffect branchesDo rounded absolute roundingOf roundingEffect callOf callDoes fetchConditions execute doesAt
 computing = tt

@@ -1,107 +1,114 @@
 -- Laws of the type lookup, definition by definition. Assumes nothing.
 use Prim.Native.Nat.{ℕ, zero, suc, _+_, _-_, _*_, _/_, _%_, _≤_, _<_}
-use mathlib.Core.Path.{_≡_, refl, sym, _∙_}
-use mathlib.Core.List.{List, [], _∷_}
-use mathlib.Core.Bool.{Bool, true, false, not, _&&_, _||_, cond}
+use mathlib.Core.Path.{_≡_, refl, ap, _∙_}
+use mathlib.Core.List.{List}
+use mathlib.Core.Bool.{Bool, true, false, cond}
 use native.Mathlib.Omega.{arith}
 use lib.Dec.{eqb}
 use lib.ListN.{length, getD}
 use borrow.Author.Tests.{eq-eqb, ne-eqb}
 use Rattle.definition.specs.declared.Definition.{Definition}
 use Rattle.definition.specs.File.{byteAt, u16At, records, readDefinition}
-use Rattle.definition.specs.Cells.{lookup, typeOf, withoutVoid, passes}
+use Rattle.definition.specs.Cells.{lookup, binds, passes}
 use Rattle.functions.specs.Parts.{definitionsIn}
 use Rattle.typed.specs.declared.TypeCheck.the-variants.{Passed, Failed}
-use Rattle.typed.specs.Typing.{bindingIn, typeCheck}
+use Rattle.typed.specs.Typing.{givenBy, typeCheck}
 
--- ---- one definition
+-- ---- one definition; o and k, as they were read: its cell and its type
 
--- whether a definition of a type gives a cell that type
-abbrev pub binds : Bool → ℕ → Bool
-binds void t = void || not (eqb t 0)
+module _ (defs : List ℕ) (at cell o k : ℕ) (eo : o ≡ u16At defs (at + 2)) where
+  pub other-cell : (o ≡ cell → ⊥) → 32768 ≡ givenBy 1 defs at cell
+  unfolding records lookup
+  other-cell h = rw (← eo, ne-eqb o cell h)
 
-first-of : (void : Bool) (d : Definition) (ds : List Definition) (cell : ℕ)
-    → lookup (bindingIn void (d ∷ ds)) cell ≡ cond (eqb (d .offset) cell && binds void (typeOf d)) (typeOf d) (lookup (bindingIn void ds) cell)
-unfolding lookup withoutVoid
-first-of true d ds cell = go (eqb (d .offset) cell)
-  where
-    go : (h : Bool) → cond h (typeOf d) (lookup ds cell) ≡ cond (h && true) (typeOf d) (lookup ds cell)
-    go true = refl
-    go false = refl
-first-of false d ds cell = go (eqb (typeOf d) 0) (eqb (d .offset) cell) refl
-  where
-    go : (v h : Bool) → eqb (d .offset) cell ≡ h
-        → lookup (cond v (withoutVoid ds) (d ∷ withoutVoid ds)) cell ≡ cond (h && not v) (typeOf d) (lookup (withoutVoid ds) cell)
-    go true true p = refl
-    go true false p = refl
-    go false true p = rw p
-    go false false p = rw p
+  module _ (ek : k ≡ u16At defs at) (h : o ≡ cell) where
+    pub void-one : k % 32768 ≡ 0 → 32768 ≡ givenBy 1 defs at cell
+    unfolding records lookup
+    void-one v = rw (← eo, ← ek, eq-eqb o cell h, eq-eqb (k % 32768) 0 v)
 
--- ---- the definitions from number i on
+    pub given-here : (k % 32768 ≡ 0 → ⊥) → k % 32768 ≡ givenBy 1 defs at cell
+    unfolding records lookup
+    given-here v = rw (← eo, ← ek, eq-eqb o cell h, ne-eqb (k % 32768) 0 v)
 
-abbrev pub rest : Bool → List ℕ → ℕ → List Definition
-rest void defs i = bindingIn void (records (readDefinition defs) 8 (length defs / 8 - i) (8 * i))
+-- ---- some definitions, then others
 
-module _ (void : Bool) (defs : List ℕ) (cell : ℕ) where
-  nothing-binds : 32768 ≡ lookup (bindingIn void []) cell
-  unfolding lookup withoutVoid
-  nothing-binds = go void
+module _ (defs : List ℕ) (cell : ℕ) where
+  -- what the first m give, or the n after them
+  parts : (m n at : ℕ) → givenBy (m + n) defs at cell ≡ cond (eqb (givenBy m defs at cell) 32768) (givenBy n defs (at + 8 * m) cell) (givenBy m defs at cell)
+  unfolding records lookup
+  parts zero n at = let here : at + 8 * 0 ≡ at = omega arith in let all : 0 + n ≡ n = omega arith in rw (here, all)
+  parts (suc m) n at = rw more (go (binds (readDefinition defs at) cell) (parts m n (at + 8)))
     where
-      go : (b : Bool) → 32768 ≡ lookup (bindingIn b []) cell
-      go true = refl
-      go false = refl
+      k : ℕ
+      k = u16At defs at % 32768
 
-  pub none-left : (i : ℕ) → i ≡ length defs / 8 → 32768 ≡ lookup (rest void defs i) cell
-  unfolding records
-  none-left i e = let none : length defs / 8 - i ≡ 0 = omega arith in rw none nothing-binds
+      next : at + 8 + 8 * m ≡ at + 8 * suc m
+      next = omega arith
 
-  module _ (i : ℕ) (there : i < length defs / 8) where
-    one-more : length defs / 8 - i ≡ suc (length defs / 8 - (i + 1))
-    one-more = omega arith
+      more : suc m + n ≡ suc (m + n)
+      more = omega arith
 
-    next : 8 * i + 8 ≡ 8 * (i + 1)
-    next = omega arith
+      go : (b : Bool)
+          → givenBy (m + n) defs (at + 8) cell ≡ cond (eqb (givenBy m defs (at + 8) cell) 32768) (givenBy n defs (at + 8 + 8 * m) cell) (givenBy m defs (at + 8) cell)
+          → cond b k (givenBy (m + n) defs (at + 8) cell)
+          ≡ cond (eqb (cond b k (givenBy m defs (at + 8) cell)) 32768) (givenBy n defs (at + 8 * suc m) cell) (cond b k (givenBy m defs (at + 8) cell))
+      go true after = rw (ne-eqb k 32768 (λ z. omega arith))
+      go false after = rw (← next) after
 
-    here : lookup (rest void defs i) cell ≡ cond (eqb (u16At defs (8 * i + 2)) cell && binds void (u16At defs (8 * i) % 32768)) (u16At defs (8 * i) % 32768) (lookup (rest void defs (i + 1)) cell)
-    unfolding records
-    here = rw (one-more, ← next) (first-of void _ _ cell)
+  -- t is what the first m give
+  module _ (m n at : ℕ) (t : ℕ) (e : t ≡ givenBy m defs at cell) where
+    pub found-in : (t ≡ 32768 → ⊥) → t ≡ givenBy (m + n) defs at cell
+    found-in h = rw (parts m n at, ← e, ne-eqb t 32768 h)
 
-    -- o and k, as they were read: the cell and the type of definition i
-    pub found-at : (a b o k : ℕ) → a ≡ 8 * i + 2 → b ≡ 8 * i → o ≡ u16At defs a → k ≡ u16At defs b → o ≡ cell → binds void (k % 32768) ≡ true
-        → k % 32768 ≡ lookup (rest void defs i) cell
-    found-at a b o k ea eb eo ek h v = rw (here, ← ea, ← eb, ← eo, ← ek, eq-eqb o cell h, v)
+    pub passed-over : t ≡ 32768 → givenBy n defs (at + 8 * m) cell ≡ givenBy (m + n) defs at cell
+    passed-over h = rw (parts m n at, ← e, eq-eqb t 32768 h)
 
-    pub passed-over : (a o : ℕ) → a ≡ 8 * i + 2 → o ≡ u16At defs a → (o ≡ cell → ⊥) → lookup (rest void defs (i + 1)) cell ≡ lookup (rest void defs i) cell
-    passed-over a o ea eo h = rw (here, ← ea, ← eo, ne-eqb o cell h)
+-- ---- of the first n definitions those from number i on
 
-    -- a definition of the cell that doesn't bind
-    pub void-over : (a b o k : ℕ) → a ≡ 8 * i + 2 → b ≡ 8 * i → o ≡ u16At defs a → k ≡ u16At defs b → o ≡ cell → binds void (k % 32768) ≡ false
-        → lookup (rest void defs (i + 1)) cell ≡ lookup (rest void defs i) cell
-    void-over a b o k ea eb eo ek h v = rw (here, ← ea, ← eb, ← eo, ← ek, eq-eqb o cell h, v)
+abbrev pub remaining : ℕ → List ℕ → ℕ → ℕ → ℕ
+remaining n defs cell i = givenBy (n - i) defs (8 * i) cell
 
-  pub from-the-first : lookup (rest void defs 0) cell ≡ lookup (bindingIn void (definitionsIn defs)) cell
-  from-the-first = let all : length defs / 8 - 0 ≡ length defs / 8 = omega arith in rw all
+module _ (n : ℕ) (defs : List ℕ) (cell : ℕ) where
+  pub all-of-them : remaining n defs cell 0 ≡ givenBy n defs 0 cell
+  all-of-them = let all : n - 0 ≡ n = omega arith in rw all
 
-  -- the first one of an odd number is passed over; of an even number none is
-  pub odd-start : length defs / 8 % 2 ≡ 1 → lookup (rest void defs 1) cell ≡ lookup (rest void defs 0) cell
-      → lookup (rest void defs (length defs / 8 % 2)) cell ≡ lookup (bindingIn void (definitionsIn defs)) cell
-  odd-start e over = rw e (over ∙ from-the-first)
+  pub none-left : (i : ℕ) → i ≡ n → 32768 ≡ remaining n defs cell i
+  unfolding records lookup
+  none-left i e = let none : n - i ≡ 0 = omega arith in rw none
 
-  pub even-start : (length defs / 8 % 2 ≡ 1 → ⊥) → lookup (rest void defs (length defs / 8 % 2)) cell ≡ lookup (bindingIn void (definitionsIn defs)) cell
-  even-start h = let none : length defs / 8 % 2 ≡ 0 = omega arith in rw none from-the-first
+  -- t is what m of them give
+  module _ (m i t : ℕ) (there : i + m ≤ n) (e : t ≡ givenBy m defs (8 * i) cell) where
+    split : m + (n - (i + m)) ≡ n - i
+    split = omega arith
 
+    pub found-from : (t ≡ 32768 → ⊥) → t ≡ remaining n defs cell i
+    found-from h = rw (← split) (found-in defs cell m (n - (i + m)) (8 * i) t e h)
+
+    pub go-on-from : t ≡ 32768 → remaining n defs cell (i + m) ≡ remaining n defs cell i
+    go-on-from h =
+        let place : 8 * (i + m) ≡ 8 * i + 8 * m = omega arith in
+        rw (← split, place) (passed-over defs cell m (n - (i + m)) (8 * i) t e h)
+
+  -- t is what the first m of them give
+  module _ (m t : ℕ) (there : m ≤ n) (e : t ≡ givenBy m defs 0 cell) where
+    pub found-first : (t ≡ 32768 → ⊥) → t ≡ givenBy n defs 0 cell
+    found-first h = found-from m 0 t (omega arith) e h ∙ all-of-them
+
+    pub go-on-after : t ≡ 32768 → remaining n defs cell m ≡ givenBy n defs 0 cell
+    go-on-after h = let next : m ≡ 0 + m = omega arith in ap (remaining n defs cell) next ∙ go-on-from m 0 t (omega arith) e h ∙ all-of-them
+
+module _ (defs : List ℕ) (cell : ℕ) where
   -- a definition's cell has 16 bits
-  pub none-so-high : ((k : ℕ) → getD defs k 0 < 256) → 65536 ≤ cell → 32768 ≡ lookup (bindingIn void (definitionsIn defs)) cell
-  unfolding records u16At byteAt
+  pub none-so-high : ((k : ℕ) → getD defs k 0 < 256) → 65536 ≤ cell → 32768 ≡ lookup (definitionsIn defs) cell
+  unfolding records lookup u16At byteAt
   none-so-high bytes high = go (length defs / 8) 0
     where
       short : (at : ℕ) → u16At defs at < 65536
       short at = omega (arith, bytes at, bytes (at + 1))
 
-      go : (n at : ℕ) → 32768 ≡ lookup (bindingIn void (records (readDefinition defs) 8 n at)) cell
-      go zero at = nothing-binds
-      go (suc n) at =
-          rw (first-of void (readDefinition defs at) (records (readDefinition defs) 8 n (at + 8)) cell, ne-eqb (u16At defs (at + 2)) cell (λ z. omega (arith, short (at + 2)))) (go n (at + 8))
+      go : (n at : ℕ) → 32768 ≡ givenBy n defs at cell
+      go zero at = refl
+      go (suc n) at = rw (ne-eqb (u16At defs (at + 2)) cell (λ z. omega (arith, short (at + 2)))) (go n (at + 8))
 
 -- ---- the type check
 
@@ -114,6 +121,6 @@ module _ (definitions : List Definition) (want cell : ℕ) where
   unfolding typeCheck
   type-failed h = rw h
 
-pub type-none : (void : Bool) (defs : List ℕ) (want cell : ℕ) → length defs ≡ 0 → Passed ≡ typeCheck (bindingIn void (definitionsIn defs)) want cell
-unfolding passes records
-type-none void defs want cell e = type-passed _ want cell (rw (e, ← nothing-binds void defs cell))
+pub type-none : (defs : List ℕ) (want cell : ℕ) → length defs ≡ 0 → Passed ≡ typeCheck (definitionsIn defs) want cell
+unfolding passes records lookup
+type-none defs want cell e = type-passed _ want cell (rw e)

@@ -1,11 +1,11 @@
 // Typed access to cells. A refusal is its number here, and 0 stands for none.
 ghost use mathlib.Core.Path.{_≡_};
-ghost use Prim.Native.Nat.{_≤_};
+ghost use Prim.Native.Nat.{_+_, _*_, _≤_};
 ghost use lib.ListN.{length};
 ghost use Rattle.definition.specs.Checks.{judge};
 ghost use Rattle.functions.specs.Parts.{definitionsIn};
 ghost use Rattle.definition.specs.Cells.{lookup, scalar, passes, cellAccess, vectorAccess, access, mustBeNatural, readAccess, fieldCellAccess, fieldAccess};
-ghost use Rattle.typed.specs.Typing.{typing, fieldTyping, bindingIn, typeCheck};
+ghost use Rattle.typed.specs.Typing.{typing, givenBy, typeCheck};
 ghost use Rattle.typed.specs.Checking.{threeRefusal, moveRefusal};
 use definition::DEFINITION_SIZE;
 use definition::SAVE_FLAG;
@@ -37,43 +37,88 @@ pub enum TypeCheck {
     Failed,
 }
 
-// The type of the first definition of a cell, where a void one counts only if it binds. A turn of the loop looks at two definitions, so that the test
-// for the end is made half as often; the first one of an odd number comes before them. Whether a type is void is asked of definitions of the cell alone.
-pub fn find(defs: &[u8], cell: usize, void_binds: bool) -> u16
-    ensures { λ r. ⌜ r ≡ lookup (bindingIn «void_binds» (definitionsIn (now (defs .entry)))) cell ⌝ }
+// The type that the definition at a place gives a cell: none if it is another cell's, or void.
+fn given(defs: &[u8], at: usize, wanted: u16) -> u16
+    requires { ⌜ at + 8 ≤ length (now defs) ⌝ }
+    ensures { λ r. ⌜ r ≡ givenBy 1 (now (defs .entry)) at wanted ⌝ }
+{
+    if reads::u16_at(defs, at + 2) != wanted {
+        return UNTYPED;
+    }
+    let kind = reads::u16_at(defs, at);
+    if kind % SAVE_FLAG == VOID {
+        return UNTYPED;
+    }
+    kind % SAVE_FLAG
+}
+
+// The same of two definitions, and of four.
+fn given_by_two(defs: &[u8], at: usize, wanted: u16) -> u16
+    requires { ⌜ at + 16 ≤ length (now defs) ⌝ }
+    ensures { λ r. ⌜ r ≡ givenBy 2 (now (defs .entry)) at wanted ⌝ }
+{
+    let t = given(defs, at, wanted);
+    if t != UNTYPED {
+        return t;
+    }
+    given(defs, at + DEFINITION_SIZE, wanted)
+}
+
+fn given_by_four(defs: &[u8], at: usize, wanted: u16) -> u16
+    requires { ⌜ at + 32 ≤ length (now defs) ⌝ }
+    ensures { λ r. ⌜ r ≡ givenBy 4 (now (defs .entry)) at wanted ⌝ }
+{
+    let t = given_by_two(defs, at, wanted);
+    if t != UNTYPED {
+        return t;
+    }
+    given_by_two(defs, at + 2 * DEFINITION_SIZE, wanted)
+}
+
+// The type that the first definitions, so many, give a cell.
+fn given_by_first(defs: &[u8], number: usize, wanted: u16) -> u16
+    requires { ⌜ 8 * number ≤ length (now defs) ⌝ }
+    ensures { λ r. ⌜ r ≡ givenBy number (now (defs .entry)) 0 wanted ⌝ }
+{
+    let mut i: usize = 0;
+    let found = loop {
+        if i == number {
+            break UNTYPED;
+        }
+        let t = given(defs, DEFINITION_SIZE * i, wanted);
+        if t != UNTYPED {
+            break t;
+        }
+        i += 1;
+    };
+    found
+}
+
+// The type of the first definition of a cell that isn't void. A turn of the loop looks at four definitions, so that the test for the end is made once for
+// them; those that are over come before. Whether a definition is void is asked of definitions of the cell alone.
+pub fn find(defs: &[u8], cell: usize) -> u16
+    ensures { λ r. ⌜ r ≡ lookup (definitionsIn (now (defs .entry))) cell ⌝ }
 {
     if 65536 <= cell {
         return UNTYPED;
     }
     let wanted = cell as u16;
     let end = defs.len() / DEFINITION_SIZE;
-    let mut i = end % 2;
-    if i == 1 {
-        if reads::u16_at(defs, 2) == wanted {
-            let t = reads::u16_at(defs, 0) % SAVE_FLAG;
-            if void_binds | (t != VOID) {
-                return t;
-            }
-        }
+    let over = end % 4;
+    let first = given_by_first(defs, over, wanted);
+    if first != UNTYPED {
+        return first;
     }
+    let mut i = over;
     let found = loop {
         if i == end {
             break UNTYPED;
         }
-        let at = DEFINITION_SIZE * i;
-        if reads::u16_at(defs, at + 2) == wanted {
-            let t = reads::u16_at(defs, at) % SAVE_FLAG;
-            if void_binds | (t != VOID) {
-                break t;
-            }
+        let t = given_by_four(defs, DEFINITION_SIZE * i, wanted);
+        if t != UNTYPED {
+            break t;
         }
-        if reads::u16_at(defs, at + 10) == wanted {
-            let t = reads::u16_at(defs, at + 8) % SAVE_FLAG;
-            if void_binds | (t != VOID) {
-                break t;
-            }
-        }
-        i += 2;
+        i += 4;
     };
     found
 }
@@ -90,25 +135,18 @@ fn passes(t: u16, want: u16) -> bool
     (t == UNTYPED) | (scalar(t) == scalar(want))
 }
 
-// Where there are no definitions nothing is looked up.
-fn check_type(defs: &[u8], cell: usize, want: u16, void_binds: bool) -> TypeCheck
-    ensures { λ r. ⌜ r ≡ typeCheck (bindingIn «void_binds» (definitionsIn (now (defs .entry)))) want cell ⌝ }
+// The type check of a cell by global definitions, of an entity's cell by field definitions. Where there are none nothing is looked up.
+pub fn type_check(defs: &[u8], cell: usize, want: u16) -> TypeCheck
+    ensures { λ r. ⌜ r ≡ typeCheck (definitionsIn (now (defs .entry))) want cell ⌝ }
 {
     if defs.len() == 0 {
         return TypeCheck::Passed;
     }
-    if passes(find(defs, cell, void_binds), want) {
+    if passes(find(defs, cell), want) {
         TypeCheck::Passed
     } else {
         TypeCheck::Failed
     }
-}
-
-// The type check of a cell, by global definitions.
-pub fn type_check(defs: &[u8], cell: usize, want: u16) -> TypeCheck
-    ensures { λ r. ⌜ r ≡ typeCheck (definitionsIn (now (defs .entry))) want cell ⌝ }
-{
-    check_type(defs, cell, want, true)
 }
 
 // A typed access of one cell.
@@ -226,11 +264,11 @@ pub fn check_move(
     check_access(defs, count, tb, b)
 }
 
-// An access of one field cell, by field definitions, of which void ones are passed over: 31 if an entity hasn't so many cells.
+// An access of one field cell, by field definitions: 31 if an entity hasn't so many cells.
 fn check_field_cell(fields: &[u8], size: usize, want: u16, field: usize) -> u8
-    ensures { λ r. ⌜ r ≡ judge (fieldCellAccess (fieldTyping (now (fields .entry)) size) want field) ⌝ }
+    ensures { λ r. ⌜ r ≡ judge (fieldCellAccess (typing (now (fields .entry)) size) want field) ⌝ }
 {
-    let t = check_type(fields, field, want, false);
+    let t = type_check(fields, field, want);
     match t {
         TypeCheck::Failed => return 16,
         TypeCheck::Passed => {
@@ -244,7 +282,7 @@ fn check_field_cell(fields: &[u8], size: usize, want: u16, field: usize) -> u8
 
 // An access of a field: a vector is three cells, each typed as float.
 pub fn check_field(fields: &[u8], size: usize, want: u16, field: usize) -> u8
-    ensures { λ r. ⌜ r ≡ judge (fieldAccess (fieldTyping (now (fields .entry)) size) want field) ⌝ }
+    ensures { λ r. ⌜ r ≡ judge (fieldAccess (typing (now (fields .entry)) size) want field) ⌝ }
 {
     if want != VECTOR {
         return check_field_cell(fields, size, want, field);

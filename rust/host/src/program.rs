@@ -61,6 +61,9 @@ impl From<DefinitionRecord> for Definition {
     }
 }
 
+/// The type of a marker, which gives a cell no type.
+const VOID: u16 = 0;
+
 /// A reader of the library, for definitions of cells or of fields.
 type ReadDefinition = fn(&[u8], &FileRecord, i64) -> Option<DefinitionRecord>;
 
@@ -140,10 +143,18 @@ impl<'a> Program<'a> {
         self.find_by_name(library::read_definition, name.as_ref())
     }
 
-    /// The first definition of a cell, by the cell's number.
+    /// The definition that gives a cell its type: the first of the cell that isn't void.
+    ///
+    /// ```
+    /// # use host::{assemble::Assembly, Program};
+    /// let file = Assembly { definitions: vec![(0, 40, 0), (2, 40, 0), (0, 41, 0)], ..Assembly::default() }.bytes();
+    /// let program = Program::new(&file);
+    /// assert_eq!(program.find_definition_of_cell(40).map(|found| found.kind), Some(2));
+    /// assert_eq!(program.find_definition_of_cell(41), None);
+    /// ```
     pub fn find_definition_of_cell(&self, cell: u16) -> Option<Definition> {
         let mut all = self.all(library::read_definition);
-        all.find(|definition| definition.cell == cell)
+        all.find(|definition| definition.cell == cell && definition.kind != VOID)
     }
 
     /// The number of definitions of fields that the header names.

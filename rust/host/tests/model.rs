@@ -121,7 +121,7 @@ fn whole_files() {
         );
         count += 1;
     }
-    assert_eq!(count, 416);
+    assert_eq!(count, 432);
 }
 
 /// The numbers that differ, in rising order: how many, then place and value of each.
@@ -224,7 +224,7 @@ fn single_statements() {
         vector(line, offset, cells, &file);
         count += 1;
     }
-    assert_eq!(count, 4_519);
+    assert_eq!(count, 4_837);
 }
 
 fn digest(machine: &Machine) -> String {
@@ -348,5 +348,5 @@ fn lists_of_calls() {
         assert_eq!(found, expected, "{call}");
         count += 1;
     }
-    assert_eq!(count, 4_996);
+    assert_eq!(count, 5_027);
 }

@@ -2,7 +2,7 @@ use mathlib.Core.Path.{sym, _∙_}
 use native.Mathlib.Omega.{arith}
 use Rattle.typed.specs.Laws.{field-reach}
 use Rattle.definition.specs.StatementLaws.{entity-cell}
-use Rattle.typed.specs.Typing.{fieldTyping}
+use Rattle.typed.specs.Typing.{typing}
 use Rattle.typed.specs.Checking.{Reaches}
 use Rattle.entities.specs.Lent.{entitiesIn}
 use Rattle.entities.proofs.Entities.{no-entity, field-refused, value-refused, value-passes, offset-below}
@@ -17,12 +17,12 @@ inside c = field-reach _ _ _ (sym (c .before .check-field .ensures) ∙ c .if2 .
 returns : tie.Need-returns
 returns c =
     let s = c .before .before .before .before .args in
-    no-entity (s .t) (fieldTyping (s .fields .now) (s .table .size)) (entitiesIn (s .table) (s .entities .now)) (s .entity) (s .field) (c .if1 .taken)
+    no-entity (s .t) (typing (s .fields .now) (s .table .size)) (entitiesIn (s .table) (s .entities .now)) (s .entity) (s .field) (c .if1 .taken)
 
 returns-2 : tie.Need-returns-2
 returns-2 c =
     let s = c .before .before .before .before .before .before .args in
-    field-refused (s .t) (fieldTyping (s .fields .now) (s .table .size)) (entitiesIn (s .table) (s .entities .now)) (s .entity) (s .field) (c .before .before .if1 .left) _ (c .if2 .taken) (c .before .check-field .ensures)
+    field-refused (s .t) (typing (s .fields .now) (s .table .size)) (entitiesIn (s .table) (s .entities .now)) (s .entity) (s .field) (c .before .before .if1 .left) _ (c .if2 .taken) (c .before .check-field .ensures)
 
 shared-slice-read-if3 : tie.Need-shared-slice-read-if3
 shared-slice-read-if3 c =
@@ -34,13 +34,13 @@ returns-3 : tie.Need-returns-3
 returns-3 c =
     let s = c .before .before .before .before .before .before .before .before .before .before .args in
     let passes = sym (c .before .before .before .before .before .check-field .ensures) ∙ c .before .before .before .before .if2 .left in
-    value-refused (s .t) (fieldTyping (s .fields .now) (s .table .size)) (entitiesIn (s .table) (s .entities .now)) (s .entity) (s .field) (c .before .before .before .before .before .before .if1 .left) passes (rw (c .before .before .must-be-natural .ensures) at (c .if3 .taken))
+    value-refused (s .t) (typing (s .fields .now) (s .table .size)) (entitiesIn (s .table) (s .entities .now)) (s .entity) (s .field) (c .before .before .before .before .before .before .if1 .left) passes (rw (c .before .before .must-be-natural .ensures) at (c .if3 .taken))
 
 returns-4 : tie.Need-returns-4
 returns-4 c =
     let s = c .before .before .before .before .before .before .before .before .before .before .args in
     let passes = sym (c .before .before .before .before .before .check-field .ensures) ∙ c .before .before .before .before .if2 .left in
-    value-passes (s .t) (fieldTyping (s .fields .now) (s .table .size)) (entitiesIn (s .table) (s .entities .now)) (s .entity) (s .field) (c .before .before .before .before .before .before .if1 .left) passes (rw (c .before .before .must-be-natural .ensures) at (c .if3 .left))
+    value-passes (s .t) (typing (s .fields .now) (s .table .size)) (entitiesIn (s .table) (s .entities .now)) (s .entity) (s .field) (c .before .before .before .before .before .before .if1 .left) passes (rw (c .before .before .must-be-natural .ensures) at (c .if3 .left))
 
 pub check-loaded-spec : {M : Type 1} → statement M
 check-loaded-spec =

@@ -1,4 +1,4 @@
-use Rattle.typed.specs.Typing.{fieldTyping}
+use Rattle.typed.specs.Typing.{typing}
 use Rattle.entities.specs.Lent.{entitiesIn}
 use Rattle.entities.proofs.Entities.{points-there, points-nowhere}
 use borrow.Author.Needs.{needs}
@@ -6,10 +6,10 @@ use Rattle.entities.proofs.check_pointed.Statement.{statement}
 use Rattle.entities.proofs.check_pointed.Tie as tie
 
 returns : tie.Need-returns
-returns c = λ cells. let s = c .before .before .before .before .before .args in points-there (s .t) (fieldTyping (s .fields .now) (s .table .size)) (entitiesIn (s .table) cells) (s .p) _ (rw (c .before .before .before .wide .ensures .0) at (c .before .if1 .taken)) (rw (c .before .before .before .wide .ensures .0) at (c .check-field .ensures))
+returns c = λ cells. let s = c .before .before .before .before .before .args in points-there (s .t) (typing (s .fields .now) (s .table .size)) (entitiesIn (s .table) cells) (s .p) _ (rw (c .before .before .before .wide .ensures .0) at (c .before .if1 .taken)) (rw (c .before .before .before .wide .ensures .0) at (c .check-field .ensures))
 
 returns-2 : tie.Need-returns-2
-returns-2 c = λ cells. let s = c .before .before .before .before .args in points-nowhere (s .t) (fieldTyping (s .fields .now) (s .table .size)) (entitiesIn (s .table) cells) (s .p) (rw (c .before .before .wide .ensures .0) at (c .if1 .left))
+returns-2 c = λ cells. let s = c .before .before .before .before .args in points-nowhere (s .t) (typing (s .fields .now) (s .table .size)) (entitiesIn (s .table) cells) (s .p) (rw (c .before .before .wide .ensures .0) at (c .if1 .left))
 
 pub check-pointed-spec : {M : Type 1} → statement M
 check-pointed-spec =

@@ -135,6 +135,9 @@ impl Single {
     }
 
     fn verdict(&self, variant: Variant, rules: Rules) -> Verdict {
+        if View(&self.bytes).has_void_globals() {
+            return Verdict::VoidGlobals;
+        }
         if let Met::Outside(outside) = self.met {
             return Verdict::Outside(outside);
         }

@@ -20,6 +20,8 @@ pub enum Verdict {
     LeftOut(Class),
     /// From a statement on outside R-4's limit; that everything was equal up to it was checked.
     Outside(Outside),
+    /// The file has void global definitions, which R-5 keeps the runs from.
+    VoidGlobals,
     /// A difference that 01 names under "By design".
     ByDesign(&'static str),
     Differs(String),

@@ -48,6 +48,7 @@ pub fn run() -> bool {
         texts(),
         compared_texts(),
         tested_texts(),
+        void_definitions(),
         loads(),
         fields(),
         pointers(),
@@ -377,6 +378,24 @@ fn tested_texts() -> Vec<Fact> {
         fact("strings: NotS 0 0 30 of 1, text \"a\"", &operand_0(1), "ends", "ended", Some((30, ONE, ONE))),
         fact("strings: NotS of 1 of one byte", &of(1, b"\0"), "ends", "refused 33", None),
         fact("strings: NotS 0 0 30 of 3 of three bytes", &operand_0(3), "ends", "refused 33", Some((30, ONE, 0))),
+    ]
+}
+
+/// AddF 28 29 30 with definitions of cell 28.
+fn void_definitions() -> Vec<Fact> {
+    const SAVED: u16 = 0x8000;
+    let defined = |types: &[u16]| {
+        let mut program = program(&[[6, 28, 29, 30], DONE], &[(28, ONE)]);
+        program.globaldefs.extend(types.iter().map(|&type_| (type_, 28, 0)));
+        program
+    };
+    const FAILED: &str = "error Globals error: type check failed";
+    vec![
+        fact("void: AddF, cell 28 void, then a float", &defined(&[0, 2]), FAILED, "ended", Some((30, 0, ONE))),
+        fact("void: AddF, cell 28 void with the save flag, then a float", &defined(&[SAVED, 2]), FAILED, "ended", Some((30, 0, ONE))),
+        fact("void: AddF, cell 28 void alone", &defined(&[0]), FAILED, "ended", Some((30, 0, ONE))),
+        fact("void: AddF, cell 28 void, then a string", &defined(&[0, 1]), FAILED, "refused 16", None),
+        fact("void: AddF, cell 28 a float, then void", &defined(&[2, 0]), "ends", "ended", Some((30, ONE, ONE))),
     ]
 }
 

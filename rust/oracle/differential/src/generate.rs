@@ -178,6 +178,14 @@ const FIELD: u16 = 5;
 const FUNCTION: u16 = 6;
 const POINTER: u16 = 7;
 
+/// Any type of a global definition, seldom void: runs are kept to files without such.
+fn global_type(r: &mut Random) -> u16 {
+    match r.below(40) {
+        0 => 0,
+        _ => 1 + r.below(7) as u16,
+    }
+}
+
 /// The types that the definitions give, and one that each cell is used as. For a cell with a field number or a pointer also the type of the
 /// field.
 struct Cells {
@@ -281,7 +289,7 @@ impl Cells {
         }
         if r.percent(5) {
             let name = 0;
-            program.globaldefs.push((r.below(8) as u16, r.below(count + 4) as u16, name));
+            program.globaldefs.push((global_type(r), r.below(count + 4) as u16, name));
         }
         cells
     }
@@ -294,7 +302,7 @@ impl Cells {
         if type_ == VECTOR && r.percent(50) {
             program.globaldefs.push((FLOAT, cell as u16, 0));
         } else if r.percent(3) {
-            program.globaldefs.push((r.below(8) as u16, cell as u16, 0));
+            program.globaldefs.push((global_type(r), cell as u16, 0));
         }
     }
 
@@ -710,7 +718,7 @@ fn few_cells(r: &mut Random) -> Program {
     }
     for _ in 0..r.below(5) {
         let cell = r.below(program.cells.len() + 3) as u16;
-        program.globaldefs.push((r.below(8) as u16, cell, 0));
+        program.globaldefs.push((global_type(r), cell, 0));
     }
     program.functions.push(Function { first: 1, local: 30, ..Function::default() });
     program

@@ -102,6 +102,25 @@ fn bytes_of_functions(functions: &[Function]) -> Vec<u8> {
     functions.iter().flat_map(record).collect()
 }
 
+fn is_void(type_: u16) -> bool {
+    type_ & 0x7fff == 0
+}
+
+/// A whole file without its void global definitions: those after them move up, and their number is lower.
+pub fn without_void_globals(bytes: &[u8]) -> Vec<u8> {
+    let view = View(bytes);
+    let first = view.offset(Lump::GlobalDefs) as usize;
+    let records = bytes[first..].chunks(8).zip(view.definitions(Lump::GlobalDefs));
+    let kept: Vec<&[u8]> = records.filter(|(_, (type_, _))| !is_void(*type_)).map(|(record, _)| record).collect();
+    let mut without = bytes.to_vec();
+    for (i, record) in kept.iter().enumerate() {
+        without[first + 8 * i..][..8].copy_from_slice(record);
+    }
+    let count = 12 + 8 * Lump::GlobalDefs as usize;
+    without[count..count + 4].copy_from_slice(&(kept.len() as i32).to_le_bytes());
+    without
+}
+
 /// The header's length.
 pub const HEADER: usize = 60;
 
@@ -182,6 +201,11 @@ impl View<'_> {
     pub fn global_type(&self, cell: i16) -> Option<u16> {
         let found = self.definitions(Lump::GlobalDefs).into_iter().find(|&(_, c)| c as i32 == cell as i32);
         found.map(|(type_, _)| type_ & 0x7fff)
+    }
+
+    /// Whether a global definition is void, its save flag apart.
+    pub fn has_void_globals(&self) -> bool {
+        self.definitions(Lump::GlobalDefs).iter().any(|&(type_, _)| is_void(type_))
     }
 
     fn definitions(&self, lump: Lump) -> Vec<(u16, u16)> {

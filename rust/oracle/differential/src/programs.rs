@@ -4,7 +4,7 @@ use crate::classes::Class;
 use crate::compare::Verdict;
 use crate::generate::{self, Case, KINDS};
 use crate::ours::Answer;
-use crate::program::{Lump, View};
+use crate::program::{without_void_globals, Lump, View};
 use crate::report::{grouped, Counts, Tally};
 use crate::runs::{self, Performed, Verdicts};
 
@@ -75,6 +75,7 @@ fn outcome(verdicts: &Verdicts) -> &'static str {
         Some(Verdict::LeftOut(Class::HandedOver)) => "left out: handed over to the host",
         Some(Verdict::LeftOut(Class::Runaway)) => "left out: the Rust panics at the 100,000th statement; up to there compared, equal",
         Some(Verdict::LeftOut(_)) => "left out: the Rust panics",
+        Some(Verdict::VoidGlobals) => "left out: void global definitions; the load compared, equal",
         Some(Verdict::Outside(_)) => "left out: outside R-4's limit; up to there compared, equal",
         Some(Verdict::ByDesign(_)) => "differs by design",
         Some(Verdict::Differs(_)) | None => "differs, see below",
@@ -241,7 +242,8 @@ pub fn show(case: &Case) -> bool {
 /// How many entities the rule files of a folder get.
 const PLAYERS: usize = 33;
 
-/// Every function of every program file in a folder, entered by the host right after the load.
+/// Every function of every program file in a folder, entered by the host right after the load. The compiler writes void definitions, which
+/// R-5 keeps the runs from: they are taken out.
 pub fn run_folder(folder: &str) -> bool {
     let mut files: Vec<_> = (std::fs::read_dir(folder).into_iter().flatten().flatten())
         .map(|entry| entry.path())
@@ -249,11 +251,11 @@ pub fn run_folder(folder: &str) -> bool {
         .collect();
     files.sort();
     let functions = files.iter().flat_map(|path| {
-        let bytes = std::fs::read(path).unwrap_or_default();
+        let bytes = without_void_globals(&std::fs::read(path).unwrap_or_default());
         let functions = View(&bytes).count(Lump::Functions).max(0) as usize;
         (0..functions).map(move |function| (bytes.clone(), function))
     });
-    run_files("functions of compiled rule files", PLAYERS, functions)
+    run_files("functions of compiled rule files, their void global definitions taken out", PLAYERS, functions)
 }
 
 /// The files of tests/model: `NAME LENGTH HEX LINE`, bytes not given are zeros. The host enters function 1.

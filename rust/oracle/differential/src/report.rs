@@ -58,6 +58,8 @@ pub struct Tally {
     pub other_numbers: Counts,
     pub left_out: Counts,
     pub outside: Counts,
+    /// Left out for void global definitions.
+    pub void_globals: u64,
     pub by_design: Counts,
     /// Differences that one or more of the named ones explain.
     pub named: Counts,
@@ -82,6 +84,7 @@ impl Tally {
                 self.left_out.add(format!("{} (here: {}{})", class.name(), what, answer))
             }
             Verdict::Outside(outside) => self.outside.add(outside.name()),
+            Verdict::VoidGlobals => self.void_globals += 1,
             Verdict::ByDesign(name) => self.by_design.add(*name),
             Verdict::Differs(_) => self.unexplained += 1,
         }
@@ -96,6 +99,9 @@ impl Tally {
         }
         if self.left_out.total() > 0 {
             self.left_out.print("left out: the Rust panics, or hands to the host:");
+        }
+        if self.void_globals > 0 {
+            println!("    {} left out: void global definitions, which R-5 keeps the runs from", grouped(self.void_globals));
         }
         if self.outside.total() > 0 {
             self.outside.print("outside R-4's limit; runs are left out from that statement on, and equal up to it:");

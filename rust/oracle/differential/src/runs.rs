@@ -185,6 +185,10 @@ pub fn verdicts(case: &Case, performed: &Performed, variant: Variant, rules: Rul
     };
     let seen = oracle::call(&mut *level, cells, false, |_| Ok(()));
     let mut all = vec![compare_load(&view, Ok(&seen), ours)];
+    if !performed.calls.is_empty() && view.has_void_globals() {
+        all.push(Verdict::VoidGlobals);
+        return all;
+    }
     let names_are_texts = names_are_texts(&view);
     let counting = if names_are_texts { None } else { oracle::load(variant, &case.bytes, &performed.lent).ok() };
     let mut levels = Levels { level, counting, names_are_texts };

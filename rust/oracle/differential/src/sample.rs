@@ -96,8 +96,8 @@ const HOW: &str = "\
 # Answers of richter's program machine, as the show program's lines: NAME LENGTH HEX LINE, bytes not given are zeros.
 # Made by `rust/oracle/differential.sh sample`, from the Rust alone: load, then execute_program of function 1. unchanged: richter as it
 # is, where no named difference of document 01 plays a part. changed: the others, with the named differences changed to pr_exec.c's
-# way and NaN made canonical. There are no entities, and EqS, NeS and NotS are within the limit of 02's R-4. An error is written as the refusal it stands for, the panic at the 100,000th
-# statement as spent.
+# way and NaN made canonical. There are no entities and no void global definitions, and EqS, NeS and NotS are within the limit
+# of 02's R-4. An error is written as the refusal it stands for, the panic at the 100,000th statement as spent.
 ";
 
 fn file(bytes: &[u8]) -> String {
@@ -117,6 +117,9 @@ fn answered(case: &Case, variant: Variant) -> Option<Answered> {
         Err(End::Error(text)) => return refused_load(&view, &text).map(Answered::load),
         Err(_) => return None,
     };
+    if view.has_void_globals() {
+        return None;
+    }
     // What 01's sizes refuse and the Rust takes.
     if view.cells() > 32_768 || view.entity_cells() < 0 || negative_offset(&view) || wraps(&view) || has_pointers_by_design(&view) {
         return None;
