@@ -5,15 +5,21 @@
 #[path = "../examples/replay.rs"]
 mod replay;
 
+use host::assemble::Assembly;
+
 const PROGRAM: &[u8] = include_bytes!("replay/program.dat");
 const CALLS: &str = include_str!("replay/calls");
 const EXPECTED: &str = include_str!("replay/expected");
 
-fn printed(calls: &str) -> Result<String, String> {
+fn printed_on(program: &[u8], calls: &str) -> Result<String, String> {
     let mut output = Vec::new();
-    replay::replay(PROGRAM.to_vec(), calls.as_bytes(), &mut output)
+    replay::replay(program.to_vec(), calls.as_bytes(), &mut output)
         .map_err(|error| error.to_string())?;
     Ok(String::from_utf8(output).unwrap())
+}
+
+fn printed(calls: &str) -> Result<String, String> {
+    printed_on(PROGRAM, calls)
 }
 
 #[test]
@@ -51,9 +57,10 @@ fn fnv(bytes: &[u8]) -> String {
 /// The program is in the form that is written, so that its own bytes stand in the output buffer.
 #[test]
 fn written_files() {
-    let length = PROGRAM.len();
+    let program = Assembly::default().bytes();
+    let length = program.len();
     let answer = |count: usize| {
-        let printed = printed(&format!("load 0\nimage {count}\n")).unwrap();
+        let printed = printed_on(&program, &format!("load 0\nimage {count}\n")).unwrap();
         let line = printed.lines().last().unwrap().to_string();
         let (answer, _) = line.split_once(" | ").unwrap();
         let (_, answer) = answer.split_once(" => ").unwrap();
@@ -63,8 +70,8 @@ fn written_files() {
     assert_eq!(answer(1), "refused 34 af64634c8602d1f1");
     let short = fnv(&vec![238; length - 1]);
     assert_eq!(answer(length - 1), format!("refused 34 {short}"));
-    assert_eq!(answer(length), format!("ok {length} {}", fnv(PROGRAM)));
-    let long = fnv(&[PROGRAM, &[238; 3]].concat());
+    assert_eq!(answer(length), format!("ok {length} {}", fnv(&program)));
+    let long = fnv(&[&program[..], &[238; 3]].concat());
     assert_eq!(answer(length + 3), format!("ok {length} {long}"));
 }
 
