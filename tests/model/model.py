@@ -296,8 +296,8 @@ class Program:
         if lump == FUNCTIONS:  # "profile numbers 0"; all eight argument sizes as they are
             return b"".join(pack_function(self.function(i)._replace(profile=0)) for i in numbers)
         if lump == STRINGS:
-            offset = self.lumps[2 * STRINGS]
-            return bytes(self.file[offset : offset + self.count(STRINGS)])
+            start = self.lumps[2 * STRINGS]
+            return bytes(self.file[start : start + self.count(STRINGS)])
         # "from the file's own cells and not from the running ones"
         return b"".join(struct.pack("<I", self.cell(i)) for i in numbers)
 
