@@ -223,7 +223,7 @@ def long_images(c):
 
 
 def change_images(c):
-    """13 before 34; what check 13 doesn't look at; bytes changed after the load."""
+    """13 before 34, and what check 13 doesn't look at."""
     assembly = moved_file()
     length = len(WRITTEN)
     c.new("13 before 34: a number of the header another than the state records", assembly)
@@ -243,6 +243,10 @@ def change_images(c):
     c.new("version and check number are written as they must be, whatever the file has now", assembly)
     c.ok("load 0", "byte 0 7", "byte 3 255", "byte 4 0", "byte 6 1")
     c.image(WRITTEN)
+
+
+def changed_record_images(c):
+    assembly = moved_file()
     c.new("bytes changed after the load are written as they are", assembly)
     c.ok("load 0", "enter 1")
     for place, byte in (
@@ -347,6 +351,7 @@ def image_cases():
     empty_images(c)
     overlap_images(c)
     change_images(c)
+    changed_record_images(c)
     running_images(c)
     random_images(c)
     long_images(c)
