@@ -160,12 +160,3 @@ pub record WriteOutcome : Type 0 where
 abbrev pub writeOutcome : List ℕ → Checked Image → WriteOutcome
 writeOutcome output (refused n) = record { answer = write.Refused n; output = output }
 writeOutcome output (accepted i) = record { answer = write.Length (i .length); output = i .output }
-
--- the length that was written, 0 where it was refused; and the number of the refusal, 0 where there is none
-abbrev pub writtenLength : WriteAnswer → ℕ
-writtenLength (write.Length n) = n
-writtenLength (write.Refused n) = 0
-
-abbrev pub writeRefusal : WriteAnswer → ℕ
-writeRefusal (write.Length n) = 0
-writeRefusal (write.Refused n) = n
