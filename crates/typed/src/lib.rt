@@ -5,7 +5,7 @@ ghost use lib.ListN.{length};
 ghost use Rattle.definition.specs.Checks.{judge};
 ghost use Rattle.functions.specs.Parts.{definitionsIn};
 ghost use Rattle.definition.specs.Cells.{lookup, scalar, passes, cellAccess, vectorAccess, access, mustBeNatural, readAccess, fieldCellAccess, fieldAccess};
-ghost use Rattle.typed.specs.Typing.{typing, givenBy, typeCheck};
+ghost use Rattle.typed.specs.Typing.{typing, firstIn, typeCheck};
 ghost use Rattle.typed.specs.Checking.{threeRefusal, moveRefusal};
 use definition::DEFINITION_SIZE;
 use definition::SAVE_FLAG;
@@ -37,56 +37,47 @@ pub enum TypeCheck {
     Failed,
 }
 
-// The type that the definition at a place gives a cell: none if it is another cell's, or void.
-fn given(defs: &[u8], at: usize, wanted: u16) -> u16
-    requires { ⌜ at + 8 ≤ length (now defs) ⌝ }
-    ensures { λ r. ⌜ r ≡ givenBy 1 (now (defs .entry)) at wanted ⌝ }
+// The type of the first definition of a cell, void or not. A turn of the loop looks at two definitions, so that the test for the end is made half as often;
+// the first one of an odd number comes before them.
+fn first_type(defs: &[u8], wanted: u16) -> u16
+    ensures { λ r. ⌜ r ≡ firstIn (definitionsIn (now (defs .entry))) wanted ⌝ }
 {
-    if reads::u16_at(defs, at + 2) != wanted {
-        return UNTYPED;
+    let end = defs.len() / DEFINITION_SIZE;
+    let mut i = end % 2;
+    if i == 1 {
+        if reads::u16_at(defs, 2) == wanted {
+            return reads::u16_at(defs, 0) % SAVE_FLAG;
+        }
     }
-    let kind = reads::u16_at(defs, at);
-    if kind % SAVE_FLAG == VOID {
-        return UNTYPED;
-    }
-    kind % SAVE_FLAG
-}
-
-// The same of two definitions, and of four.
-fn given_by_two(defs: &[u8], at: usize, wanted: u16) -> u16
-    requires { ⌜ at + 16 ≤ length (now defs) ⌝ }
-    ensures { λ r. ⌜ r ≡ givenBy 2 (now (defs .entry)) at wanted ⌝ }
-{
-    let t = given(defs, at, wanted);
-    if t != UNTYPED {
-        return t;
-    }
-    given(defs, at + DEFINITION_SIZE, wanted)
-}
-
-fn given_by_four(defs: &[u8], at: usize, wanted: u16) -> u16
-    requires { ⌜ at + 32 ≤ length (now defs) ⌝ }
-    ensures { λ r. ⌜ r ≡ givenBy 4 (now (defs .entry)) at wanted ⌝ }
-{
-    let t = given_by_two(defs, at, wanted);
-    if t != UNTYPED {
-        return t;
-    }
-    given_by_two(defs, at + 2 * DEFINITION_SIZE, wanted)
-}
-
-// The type that the first definitions, so many, give a cell.
-fn given_by_first(defs: &[u8], number: usize, wanted: u16) -> u16
-    requires { ⌜ 8 * number ≤ length (now defs) ⌝ }
-    ensures { λ r. ⌜ r ≡ givenBy number (now (defs .entry)) 0 wanted ⌝ }
-{
-    let mut i: usize = 0;
     let found = loop {
-        if i == number {
+        if i == end {
             break UNTYPED;
         }
-        let t = given(defs, DEFINITION_SIZE * i, wanted);
-        if t != UNTYPED {
+        let at = DEFINITION_SIZE * i;
+        if reads::u16_at(defs, at + 2) == wanted {
+            break reads::u16_at(defs, at) % SAVE_FLAG;
+        }
+        if reads::u16_at(defs, at + 10) == wanted {
+            break reads::u16_at(defs, at + 8) % SAVE_FLAG;
+        }
+        i += 2;
+    };
+    found
+}
+
+// The type of the first definition of a cell that isn't void. Cells whose first definition is void are seldom, so this search is a plain one.
+fn find_past_void(defs: &[u8], wanted: u16) -> u16
+    ensures { λ r. ⌜ r ≡ lookup (definitionsIn (now (defs .entry))) wanted ⌝ }
+{
+    let end = defs.len() / DEFINITION_SIZE;
+    let mut i: usize = 0;
+    let found = loop {
+        if i == end {
+            break UNTYPED;
+        }
+        let at = DEFINITION_SIZE * i;
+        let t = reads::u16_at(defs, at) % SAVE_FLAG;
+        if (reads::u16_at(defs, at + 2) == wanted) & (t != VOID) {
             break t;
         }
         i += 1;
@@ -94,8 +85,8 @@ fn given_by_first(defs: &[u8], number: usize, wanted: u16) -> u16
     found
 }
 
-// The type of the first definition of a cell that isn't void. A turn of the loop looks at four definitions, so that the test for the end is made once for
-// them; those that are over come before. Whether a definition is void is asked of definitions of the cell alone.
+// The type of the first definition of a cell that isn't void. Whether a definition is void is asked after the search, of the one that was found, so that
+// those of other cells cost no more for it.
 pub fn find(defs: &[u8], cell: usize) -> u16
     ensures { λ r. ⌜ r ≡ lookup (definitionsIn (now (defs .entry))) cell ⌝ }
 {
@@ -103,24 +94,11 @@ pub fn find(defs: &[u8], cell: usize) -> u16
         return UNTYPED;
     }
     let wanted = cell as u16;
-    let end = defs.len() / DEFINITION_SIZE;
-    let over = end % 4;
-    let first = given_by_first(defs, over, wanted);
-    if first != UNTYPED {
-        return first;
+    let t = first_type(defs, wanted);
+    if t != VOID {
+        return t;
     }
-    let mut i = over;
-    let found = loop {
-        if i == end {
-            break UNTYPED;
-        }
-        let t = given_by_four(defs, DEFINITION_SIZE * i, wanted);
-        if t != UNTYPED {
-            break t;
-        }
-        i += 4;
-    };
-    found
+    find_past_void(defs, wanted)
 }
 
 fn scalar(t: u16) -> u16
