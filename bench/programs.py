@@ -193,3 +193,30 @@ OPERATIONS = [
 # how many times, to count instructions and to take the time
 FEW = (1_000, 11_000)
 MANY = (20_000, 320_000)
+
+
+def in_form(scale):
+    """A file as R-6 writes it, so many times 384 bytes and 316 more, with parts of all kinds: statements and cells above all."""
+    return bytes(model.Assembly(
+        statements=[("Done",)] * (20 * scale),
+        definitions=[(model.FLOAT, 60, 0)] * (8 * scale),
+        fields=[(model.FLOAT, 60, 0)] * (2 * scale),
+        functions=[model.function()] * (2 * scale),
+        strings=bytes(40 * scale),
+        cell_count=64 + 8 * scale,
+    ).bytes())
+
+
+def short_file():
+    return in_form(15)
+
+
+def long_file():
+    return in_form(2700)
+
+
+# file, and how often it is written, to count instructions and to take the time
+WRITINGS = [
+    (short_file, (100, 1_100), (2_000, 32_000)),
+    (long_file, (2, 12), (10, 160)),
+]

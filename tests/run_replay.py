@@ -1,7 +1,8 @@
 #!/usr/bin/env python3
 """Runs the host's replay program on lists of calls and compares what it prints with what the model of tests/model answers.
 
-    python3 tests/run_replay.py REPLAY      the lists of tests/model/cases/calls.txt, the list of rust/host/tests/replay, and lists made by chance
+    python3 tests/run_replay.py REPLAY      the lists of calls.txt and images.txt of tests/model/cases, the list of rust/host/tests/replay, the rule files of
+                                            tests/rules written, and lists made by chance
     python3 tests/run_replay.py --write     writes the list of rust/host/tests/replay, with what the model prints for it
     python3 tests/run_replay.py --check     says whether the committed one is that
 
@@ -16,6 +17,7 @@ import tempfile
 
 ROOT = os.path.dirname(os.path.dirname(os.path.abspath(__file__)))
 FOLDER = os.path.join(ROOT, "rust/host/tests/replay")
+RULES = os.path.join(ROOT, "tests/rules")
 
 sys.path.insert(0, os.path.join(ROOT, "tests/model"))
 import model
@@ -29,6 +31,8 @@ RANDOM_LISTS = 300
 EDGES = [-2**64, -2**63, -2**31 - 1, -1, 0, 30, 31, 63, 64, 2048, 100000, 2**31 - 1, 2**31, 2**32, 2**32 + 1, 2**63 - 1, 2**64]
 # what calls.txt calls otherwise
 NAMES = {"get": "read", "put": "write", "byte": "poke"}
+# what each byte of an output buffer that is lent holds
+UNWRITTEN = 238
 # what only calls.txt has; its `lend` is of entity cells alone
 LEFT_OUT = ("field", "lend", "eput")
 
@@ -89,6 +93,8 @@ class Lent:
         machine = model.Machine(bytearray(self.program[:self.length]), self.cells, self.saved, self.entity_cells)
         if name == "load":
             answer = self.load(machine, *given)
+        elif name == "image":
+            answer = self.image(machine, *given)
         else:
             machine.state = self.state
             if name == "write":
@@ -103,6 +109,10 @@ class Lent:
             return "refused %d" % answer.detail
         self.loaded, self.state = True, machine.state
         return "ok"
+
+    def image(self, machine, size):
+        machine.state, output = self.state, bytearray([UNWRITTEN] * size)
+        return "%s %s" % (words_of("image", machine.image(output)), digest(output))
 
     @staticmethod
     def operation(machine, name):
@@ -132,10 +142,10 @@ def expected(program, lines):
     return [answer for answer in answers if answer is not None]
 
 
-def lists():
-    """The program and the calls of each list of calls.txt; no calls where one of them can't be replayed."""
+def lists(file):
+    """The program and the calls of each list of a case file; no calls where one of them can't be replayed."""
     program, calls, left_out = None, [], False
-    for line in lines_of("calls.txt"):
+    for line in lines_of(file):
         name, *words = line.split(" ")
         if name == "new":
             if program is not None:
@@ -155,7 +165,7 @@ def fixed_list():
         statements=[("Done",), ("AddF", 28, 29, 30), ("Call0", 40), ("State", 28, 28, 31), ("Call0", 41), ("Return", 30),
                     ("AddF", 28, 33, 30), ("Goto", 0), ("LoadF", 50, 51, 52), ("Address", 50, 51, 53), ("StorePF", 28, 53),
                     ("Return", 52)],
-        functions=[f(), f(1, 30, 2), f(-7, arguments=-1), f(5, 44, 1), f(6), f(7), f(8)],
+        functions=[f(profile=-1), f(1, 30, 2), f(-7, arguments=-1, profile=255), f(5, 44, 1), f(6), f(7), f(8, profile=2**31 - 1)],
         definitions=[(model.STRING, 33)],
         cells={28: 0x3FC00000, 29: 0x40100000, 40: 2, 41: 3, 50: 1, 51: 104},
     )
@@ -163,6 +173,7 @@ def fixed_list():
     calls = """
         statement
         read 0
+        image 0
         lend 10 2048 2
         load 0
         carry
@@ -173,6 +184,11 @@ def fixed_list():
         lend 70 2050 5
         enter 3
         load 0
+        image %(length)d
+        image %(short)d
+        image 0
+        image 60
+        image %(spare)d
         read 28
         read 63
         read 64
@@ -181,7 +197,9 @@ def fixed_list():
         write 64 1
         enter 1
         run 0 1
+        image %(length)d
         run 0 100
+        image %(length)d
         statement
         carry
         statement
@@ -213,6 +231,7 @@ def fixed_list():
         statement
         poke 0 7
         read 1
+        image %(length)d
         load 0
         poke 0 6
         load 0
@@ -221,31 +240,36 @@ def fixed_list():
         read 1
         lend 63 2048 0
         read 1
+        image 0
+        image %(length)d
         lend 64 2047 1
         read 1
+        image %(length)d
         lend 64 2048 1
         read 1
-        file %d
+        file %(short)d
         read 1
+        image %(length)d
         load 0
-        file %d
+        file %(spare)d
         load 0
-        file %d
+        file %(length)d
         read 1
         file 59
         load 0
         file 0
         load 0
         statement
-        file %d
+        file %(length)d
         load 0
         run 0 1
         poke 60 66
         statement
+        image %(length)d
         file 100
         statement
         poke 200 9
-        file %d
+        file %(length)d
         statement
         poke 60 61
         statement
@@ -273,7 +297,7 @@ def fixed_list():
         file 18446744073709551616
         statement
         load 0
-        file %d
+        file %(length)d
         statement
         lend 64 2048 211
         load 2
@@ -306,12 +330,25 @@ def fixed_list():
         load 600
         enter 6
         run 0 3
+        image %(spare)d
         abandon 0
         load 0
         enter 6
         statement
-    """ % (len(data) - 1, len(data) + 40, len(data), len(data), len(data), len(data))
+    """ % {"length": len(data), "short": len(data) - 1, "spare": len(data) + 40}
     return data, [line.strip() for line in calls.strip().splitlines()]
+
+
+def rule_lists():
+    """The rule files, each written before and during a run of its first function."""
+    for name in sorted(os.listdir(RULES)):
+        if not name.endswith(".dat"):
+            continue
+        with open(os.path.join(RULES, name), "rb") as f:
+            program = f.read()
+        longest = 2 * len(program)  # their lumps don't overlap
+        lend = "lend %d 2048 0" % model.MOST_CELLS
+        yield program, [lend, "load 0", "image %d" % longest, "enter 1", "run 0 50", "image %d" % longest, "image 60"]
 
 
 def random_call(chance, length):
@@ -333,6 +370,8 @@ def random_call(chance, length):
         return "write %d %d" % (28 + chance.below(40), chance.draw())
     if kind < 94:
         return "poke %d %d" % (60 + chance.below(max(1, length - 60)), chance.below(256))
+    if kind < 96:
+        return "image %d" % chance.pick([length, length, length + 1, max(0, length - 1), chance.below(2 * length + 1)])
     return chance.pick(["load 0", "load 2", "load -1", "lend 64 2048 2", "lend 64 2048 315", "lend 66 2050 210", "lend 66 2050 0", "lend 63 2048 1", "lend 64 2047 0", "file %d" % length,
                         "file %d" % max(0, length - 1), "file %d" % (length + 1), "poke 4 0", "poke 4 39",
                         "poke %d %d" % (chance.below(60), chance.below(256))])
@@ -400,7 +439,8 @@ def run(replay, program, calls):
 
 def compare(replay):
     counted, left_out, differ = 0, 0, 0
-    for program, calls in [fixed_list()] + list(lists()) + list(random_lists()):
+    every = [fixed_list()] + list(lists("calls.txt")) + list(lists("images.txt")) + list(rule_lists()) + list(random_lists())
+    for program, calls in every:
         if not calls:
             left_out += 1
             continue

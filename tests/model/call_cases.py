@@ -79,9 +79,20 @@ class Calls:
     def do(self, call, expect=None):
         """One call; `expect` is the word or the refusal that was worked out by hand."""
         word, *given = call.split()
-        given = [int(number) for number in given]
+        answer = self._perform(word, [int(number) for number in given])
+        if isinstance(expect, str):
+            assert answer.word == expect, (call, answer, expect)
+        elif expect is not None:
+            assert (answer.word, answer.detail) == ("refused", expect), (call, answer, expect)
+        state = self.machine.state
+        after = [answer.detail, answer.count, state.position, state.function, state.depth, state.saved]
+        self.lines.append(f"{call} = {answer.word} {numbers(after)} {digest_of(self.machine):016x}")
+        self.seen.append((call, answer))
+        return answer
+
+    def _perform(self, word, given):
         machine = self.machine
-        answer = {
+        return {
             "load": machine.load,
             "enter": machine.enter,
             "statement": machine.statement,
@@ -95,15 +106,6 @@ class Calls:
             "lend": self._lend,
             "eput": self._eput,
         }[word](*given)
-        if isinstance(expect, str):
-            assert answer.word == expect, (call, answer, expect)
-        elif expect is not None:
-            assert (answer.word, answer.detail) == ("refused", expect), (call, answer, expect)
-        state = machine.state
-        after = [answer.detail, answer.count, state.position, state.function, state.depth, state.saved]
-        self.lines.append(f"{call} = {answer.word} {numbers(after)} {digest_of(machine):016x}")
-        self.seen.append((call, answer))
-        return answer
 
     def ok(self, *calls):
         for call in calls:

@@ -1,4 +1,4 @@
-"""Writes the case files cases/statements.txt, cases/files.txt, cases/calls.txt and cases/traces.txt.
+"""Writes the case files cases/statements.txt, cases/files.txt, cases/calls.txt, cases/traces.txt and cases/images.txt.
 
 What is expected in them is what model.py answers.  README.md says how to read them.  The same
 files come out every time: the only chance numbers are those of a xorshift with fixed seeds.
@@ -8,6 +8,7 @@ import os
 
 from call_cases import call_cases
 from file_cases import file_cases
+from image_cases import image_cases
 from statement_cases import statement_vectors
 from trace_cases import trace_cases
 
@@ -15,9 +16,9 @@ FOLDER = os.path.join(os.path.dirname(os.path.abspath(__file__)), "cases")
 
 
 def make():
-    """The four case files' texts, by name, and the makers that know what they hold."""
+    """The five case files' texts, by name, and the makers that know what they hold."""
     makers = {"statements.txt": statement_vectors(), "files.txt": file_cases(), "calls.txt": call_cases()}
-    makers["traces.txt"] = trace_cases()
+    makers |= {"traces.txt": trace_cases(), "images.txt": image_cases()}
     texts = {name: "\n".join(maker.lines) + "\n" for name, maker in makers.items()}
     return texts, makers
 

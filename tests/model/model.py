@@ -286,6 +286,30 @@ class Program:
         rest = bytes(self.file[offset + number : offset + self.count(STRINGS)])
         return rest.split(b"\0", 1)[0]
 
+    def packed(self, lump):
+        """R-6: the bytes of a lump as they are written."""
+        numbers = range(self.count(lump))
+        if lump == STATEMENTS:
+            return b"".join(pack_statement(self.statement(i)) for i in numbers)
+        if lump in (GLOBAL_DEFS, FIELD_DEFS):
+            return b"".join(pack_definition(self.definition(lump, i)) for i in numbers)
+        if lump == FUNCTIONS:  # "profile numbers 0"; all eight argument sizes as they are
+            return b"".join(pack_function(self.function(i)._replace(profile=0)) for i in numbers)
+        if lump == STRINGS:
+            start = self.lumps[2 * STRINGS]
+            return bytes(self.file[start : start + self.count(STRINGS)])
+        # "from the file's own cells and not from the running ones"
+        return b"".join(struct.pack("<I", self.cell(i)) for i in numbers)
+
+    def written(self, cells_per_entity):
+        """R-6: the program's file, "header, then the six lumps in header order without gaps"."""
+        header, body = [VERSION, CHECK_NUMBER], b""
+        for lump in range(6):
+            # an empty lump's offset is where it would begin, as any other's
+            header += [HEADER_SIZE + len(body), self.count(lump)]
+            body += self.packed(lump)
+        return struct.pack("<15i", *header, cells_per_entity) + body
+
 
 # ---------------------------------------------------------------------------------------------
 # State and answers
@@ -312,7 +336,7 @@ def check(fine, number):
 Frame = namedtuple("Frame", "position function")
 
 # word: accepted, ended, spent, refused, builtin or opcode; detail: the refusal's, builtin's or
-# opcode's number, or the cell that a raw read gives; count: completed statements of a run
+# opcode's number, the cell that a raw read gives, or the length that was written; count: completed statements of a run
 Answer = namedtuple("Answer", "word detail count", defaults=(0, 0))
 
 
@@ -391,6 +415,10 @@ class Machine:
 
     def write(self, cell, value):
         return self._operation(lambda: self._put(cell, value))
+
+    def image(self, output):
+        """R-6: writes the loaded program into the output buffer; the answer has the written length."""
+        return self._operation(lambda: self._image(output))
 
     # -- load ----------------------------------------------------------------------------------
 
@@ -825,6 +853,18 @@ class Machine:
             saved=saved,
             frames=tuple(frames),
         )
+
+    # -- writing the program -------------------------------------------------------------------
+
+    def _image(self, output):
+        file = self._program.written(self.state.cells_per_entity)
+        # "An output buffer that is too short, or a written length over 1,048,576, is refused 34 and
+        # nothing is written."  Bytes past the length stay, too.
+        check(len(file) <= LARGEST_FILE, 34)
+        check(len(file) <= len(output), 34)
+        for index, byte in enumerate(file):
+            output[index] = byte
+        return Answer("accepted", len(file))
 
     # -- run, carry on, abandon ----------------------------------------------------------------
 

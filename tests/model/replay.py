@@ -126,7 +126,15 @@ def fnv(data):
 
 
 def replay_calls(model):
-    for line in lines_of("calls.txt"):
+    yield from replay_lists(model, "calls.txt")
+
+
+def replay_images(model):
+    yield from replay_lists(model, "images.txt")
+
+
+def replay_lists(model, name):
+    for line in lines_of(name):
         kind, *words = line.split(" ")
         if kind == "new":
             cells = [0xDEAD0000 + i for i in range(int(words[0]))]
@@ -135,17 +143,23 @@ def replay_calls(model):
             machine = model.Machine(bytes_of(words[3], words[4]), cells, saved, entity_cells)
             continue
         at = words.index("=")
-        given = [int(word) for word in words[:at]]
-        operations = dict(load="load", enter="enter", statement="statement", run="run")
-        operations |= dict(carry="carry_on", abandon="abandon", get="read", put="write")
-        if kind in operations:
-            answer = getattr(machine, operations[kind])(*given)
-        else:
-            changed = {"field": set_number, "byte": set_byte, "lend": lend, "eput": set_entity_cell}
-            answer = changed[kind](model, machine, *given)
+        answer, output = call(model, machine, kind, [int(word) for word in words[:at]])
         state = machine.state
         got = [answer.detail, answer.count, state.position, state.function, state.depth, state.saved]
-        yield line, words[at + 1 :], [answer.word, *map(str, got), digest(machine)]
+        yield line, words[at + 1 :], [answer.word, *map(str, got), digest(machine), *output]
+
+
+def call(model, machine, kind, given):
+    """The answer, and what an image's line has besides: the digest of its output buffer."""
+    operations = dict(load="load", enter="enter", statement="statement", run="run")
+    operations |= dict(carry="carry_on", abandon="abandon", get="read", put="write")
+    if kind in operations:
+        return getattr(machine, operations[kind])(*given), []
+    if kind == "image":
+        output = bytearray([238] * given[0])
+        return machine.image(output), [fnv(bytes(output))]
+    changed = {"field": set_number, "byte": set_byte, "lend": lend, "eput": set_entity_cell}
+    return changed[kind](model, machine, *given), []
 
 
 # lump's number in the header, record size, shape, and the refusal where there is no such record
@@ -197,7 +211,7 @@ def replay_traces(model):
         yield line, expected, " ".join(map(str, got))
 
 
-REPLAYS = (replay_statements, replay_calls, replay_files, replay_traces)
+REPLAYS = (replay_statements, replay_calls, replay_files, replay_traces, replay_images)
 
 
 def differences(model):

@@ -18,10 +18,12 @@ import model
 import replay
 from common import Xorshift, flt, triple
 from model import (
-    BUILTINS, CELLS, ENTITY, FIELD, FLOAT, FUNCTION, FUNCTIONS, HOST_OPCODES, INFINITY, OPCODES, POINTER,
-    QUIET_NAN, SAVE_FLAG, SIGN, STATEMENTS, STRING, VECTOR, VOID, Answer, Assembly, Frame, Machine, State,
-    function, replace, show,
+    BUILTINS, CELLS, ENTITY, FIELD, FIELD_DEFS, FLOAT, FUNCTION, FUNCTIONS, GLOBAL_DEFS, HOST_OPCODES, INFINITY,
+    OPCODES, POINTER, QUIET_NAN, SAVE_FLAG, SIGN, STATEMENTS, STRING, STRINGS, VECTOR, VOID, Answer, Assembly, Frame,
+    Machine, State, function, replace, show,
 )
+
+RULES = os.path.join(os.path.dirname(os.path.dirname(os.path.abspath(__file__))), "rules")
 
 ACCEPTED = Answer("accepted")
 ONE, TWO, THREE = 0x3F800000, 0x40000000, 0x40400000
@@ -1085,6 +1087,161 @@ class Check13(unittest.TestCase):
             self.assertEqual(answer, refused(13))
 
 
+def contents(machine):
+    """What R-6 says is equal: statements, functions but for profile numbers, definitions, strings, starting cells, cells per entity."""
+    program = model.Program(machine.file, machine.state.lumps)
+    offset, count = program.lumps[2 * STRINGS], program.count(STRINGS)
+    return (
+        [program.statement(i) for i in range(program.count(STATEMENTS))],
+        [program.function(i)._replace(profile=0) for i in range(program.count(FUNCTIONS))],
+        [[program.definition(lump, i) for i in range(program.count(lump))] for lump in (GLOBAL_DEFS, FIELD_DEFS)],
+        bytes(machine.file[offset : offset + count]),
+        [program.cell(i) for i in range(program.count(CELLS))],
+        machine.state.cells_per_entity,
+    )
+
+
+def machine_of(file):
+    """A machine with the file, and what its load answers."""
+    machine = Machine(bytearray(file), [0] * model.MOST_CELLS, [0] * 2048)
+    return machine, machine.load()
+
+
+def written(machine):
+    """All that the machine writes, into a buffer that is long enough."""
+    output = bytearray(model.LARGEST_FILE)
+    answer = machine.image(output)
+    assert answer.word == "accepted", answer
+    return bytes(output[: answer.detail])
+
+
+def accepted_files():
+    """Files that load: those of files.txt, those that images.txt begins its lists with, and the compiled rule files."""
+    for line in replay.lines_of("files.txt"):
+        _, length, text, _ = line.split(" ")
+        yield replay.bytes_of(length, text)
+    for line in replay.lines_of("images.txt"):
+        if line.startswith("new "):
+            yield replay.bytes_of(*line.split(" ")[4:])
+    for name in sorted(os.listdir(RULES)):
+        if name.endswith(".dat"):
+            with open(os.path.join(RULES, name), "rb") as file:
+                yield file.read()
+
+
+class Images(unittest.TestCase):
+    """R-6: program files written."""
+
+    STATEMENT = bytes.fromhex("0600 1c00 feff 1e00")  # AddF 28 -2 30
+    DEFINITION = bytes.fromhex("0280 1c00 01000000")  # a saved float, cell 28, name 1
+    FUNCTION = "f9ffffff 03000000 02000000 %s 01000000 00000000 ffffffff 01020304050607ff"
+    STRING_BYTES = b"\0a"
+    CELL_BYTES = bytes.fromhex("efbeadde" + "00" * 136 + "01000000")
+    # 60: statements; 68: global definitions; 76: field definitions, none, and functions; 112: strings; 114: 36 cells; 258
+    HEADER = """06000000 27170000 3c000000 01000000 44000000 01000000 4c000000 00000000
+                4c000000 01000000 70000000 02000000 72000000 24000000 69000000"""
+
+    def setUp(self):
+        """Strings at 60, a byte of no lump, cells at 63, the function at 207, the definition at 243, the statement at 251."""
+        header = [6, 5927, 251, 1, 243, 1, 1000, 0, 207, 1, 60, 2, 63, 36, 105]
+        function_bytes = bytes.fromhex(self.FUNCTION % "09000000")
+        body = self.STRING_BYTES + b"?" + self.CELL_BYTES + function_bytes + self.DEFINITION + self.STATEMENT
+        self.machine, answer = machine_of(struct.pack("<15i", *header) + body)
+        self.assertEqual(answer, ACCEPTED)
+        function_bytes = bytes.fromhex(self.FUNCTION % "00000000")
+        self.expected = bytes.fromhex(self.HEADER) + self.STATEMENT + self.DEFINITION + function_bytes + self.STRING_BYTES + self.CELL_BYTES
+        self.assertEqual(len(self.expected), 258)
+
+    def test_byte_for_byte(self):
+        output = bytearray([238] * 261)
+        self.assertEqual(self.machine.image(output), Answer("accepted", 258))
+        self.assertEqual(output.hex(), self.expected.hex() + "eeeeee")
+        output = bytearray([238] * 258)
+        self.assertEqual(self.machine.image(output), Answer("accepted", 258))
+        self.assertEqual(output, self.expected)
+
+    def test_too_short(self):
+        for size in (0, 1, 60, 257):
+            output = bytearray([238] * size)
+            before = everything(self.machine)
+            self.assertEqual(self.machine.image(output), refused(34))
+            self.assertEqual(output, bytes([238] * size))
+            self.assertEqual(everything(self.machine), before)
+
+    def test_13_first(self):
+        state = self.machine.state
+        for changed in (dict(saved=1), dict(depth=32), dict(entities=1), dict(length=258), dict(cells_per_entity=106)):
+            self.machine.state = replace(state, **changed)
+            for size in (0, 257, 258):
+                output = bytearray([238] * size)
+                self.assertEqual(self.machine.image(output), refused(13))
+                self.assertEqual(output, bytes([238] * size))
+        self.machine.state = State()
+        self.assertEqual(self.machine.image(bytearray()), refused(13))
+
+    def test_too_long(self):
+        """Four lumps of 200,000 bytes at one place, one of 199,980 and 12,134 cells: 60 + 800,000 + 199,980 + 48,536."""
+        for strings, length in ((200_000, 1_048_576), (200_001, 1_048_577)):
+            lumps = [60, 25_000, 60, 25_000, 60, 25_000, 60, 5_555, 60, strings, 60, 12_134]
+            machine, answer = machine_of(struct.pack("<15i", 6, 5927, *lumps, 105) + bytes(strings))
+            self.assertEqual(answer, ACCEPTED)
+            output = bytearray([238] * 1_048_580)
+            if length > 1_048_576:
+                self.assertEqual(machine.image(output), refused(34))
+                self.assertEqual(output, bytes([238] * 1_048_580))
+            else:
+                self.assertEqual(machine.image(output), Answer("accepted", length))
+                self.assertEqual(output[60:], bytes(length - 60) + bytes([238] * 4))
+
+    def test_nothing_else_changes(self):
+        before = everything(self.machine)
+        self.assertEqual(written(self.machine), self.expected)
+        self.assertEqual(everything(self.machine), before)
+
+    def test_running_cells(self):
+        machine = loaded(("StoreF", 28, 29), ("Call0", 40), ("Return",), functions=[function(0, 28, 2), function(-7)],
+                         cells={28: ONE, 40: 2})
+        file = bytes(machine.file)
+        machine.enter(1)
+        for answer in (Answer("builtin", 7, 1), Answer("ended", 0, 1)):
+            self.assertEqual(machine.run(0, 9), answer)
+            self.assertEqual(machine.write(63, 5), ACCEPTED)
+            self.assertEqual(written(machine), file)
+            machine.carry_on()
+
+    def test_the_laws(self):
+        """Loaded again the contents are equal, and written again the bytes."""
+        count = 0
+        for file in accepted_files():
+            machine, answer = machine_of(file)
+            if answer.word == "refused":
+                continue
+            output = bytearray(model.LARGEST_FILE)
+            if machine.image(output) == refused(34):
+                continue  # too long
+            first = written(machine)
+            again, answer = machine_of(first)
+            self.assertEqual(answer, ACCEPTED)
+            self.assertEqual(contents(again), contents(machine))
+            self.assertEqual(written(again), first)
+            count += 1
+        self.assertGreater(count, 300)
+
+    def test_alike(self):
+        """The same contents at other places, with other profile numbers."""
+        layouts = ((0, 1, 2, 3, 4, 5), (5, 4, 3, 2, 1, 0), (3, 5, 0, 4, 2, 1), (1, 0, 3, 2, 5, 4))
+        found = set()
+        for number, layout in enumerate(layouts):
+            functions = [function(profile=number), function(1, sizes=(1, 2), arguments=1, profile=-number)]
+            parts = dict(statements=[("Done", 1, 2, 3)], functions=functions, definitions=[(FLOAT, 28)], fields=[(FLOAT, 3)])
+            file = Assembly(**parts, strings=b"\0b", cells={5: 6}, layout=layout, gap=number).bytes()
+            found.add((bytes(file), written(machine_of(file)[0])))
+        self.assertEqual(len(found), 4)
+        # the first is one that is written as it is
+        in_order = Assembly(**dict(parts, functions=[function(), function(1, sizes=(1, 2), arguments=1)]), strings=b"\0b", cells={5: 6})
+        self.assertEqual({image for _, image in found}, {bytes(in_order.bytes())})
+
+
 class CaseFiles(unittest.TestCase):
     @classmethod
     def setUpClass(cls):
@@ -1097,6 +1254,11 @@ class CaseFiles(unittest.TestCase):
 
     def test_readable(self):
         self.assertEqual(list(replay.differences(model)), [])
+
+    def test_images_can_be_replayed(self):
+        """tests/run_replay.py plays every list of images.txt: nothing in it changes what replay can't."""
+        calls = {call.split(" ")[0] for call, _ in self.makers["images.txt"].seen}
+        self.assertFalse(calls & {"field", "lend", "eput"})
 
     def test_every_opcode(self):
         seen = self.makers["statements.txt"].seen
@@ -1131,8 +1293,10 @@ class CaseFiles(unittest.TestCase):
         calls = {answer.detail for _, answer in self.makers["calls.txt"].seen if answer.word == "refused"}
         shown = [line.split(",") for _, line in self.makers["files.txt"].seen]
         files = {int(fields[1]) for fields in shown if fields[0] == "refused"}
+        images = {answer.detail for call, answer in self.makers["images.txt"].seen if call.startswith("image ") and answer.word == "refused"}
+        self.assertEqual(images, {13, 34})
         # 26 can't be met after 13; 8 and 9 are a field definition's in the files
-        self.assertEqual(calls | files, set(range(1, 34)) - {26})
+        self.assertEqual(calls | files | images, set(range(1, 35)) - {26})
         # a file alone can't reach these: nothing lent is short, no state is made up, nothing changed
         self.assertEqual(set(range(1, 25)) - files, {12, 13})
         # without entities 31 isn't reached

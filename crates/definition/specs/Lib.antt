@@ -8,6 +8,7 @@ pub mod Statements
 pub mod Machine
 pub mod Load
 pub mod Operations
+pub mod Written
 pub mod Answers
 pub mod Starred
 pub mod Rounding

@@ -149,3 +149,9 @@ pub enum ReadAnswer {
     Value(u32),
     Refused(u8),
 }
+
+// What writing a program file answers: its length in bytes (document 02, R-6).
+pub enum WriteAnswer {
+    Length(usize),
+    Refused(u8),
+}

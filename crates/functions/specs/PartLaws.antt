@@ -30,14 +30,14 @@ module _ {f g : List ℕ} {n i j : ℕ} (s : Same f i g j n) where
   first : (m : ℕ) → m ≤ n → Same f i g j m
   first m h = record { byte = λ k l. s .byte k (omega arith) }
 
-byte-local : Local byteAt 1
+pub byte-local : Local byteAt 1
 byte-local f g i j s = rw (add-zero i, add-zero j) at (s .byte 0 (omega arith))
 
 u16-local : Local u16At 2
 unfolding u16At
 u16-local f g i j s = let low = byte-local f g i j (first s 1 (omega arith)) in let high = s .byte 1 (omega arith) in cc
 
-u32-local : Local u32At 4
+pub u32-local : Local u32At 4
 unfolding u32At
 u32-local f g i j s = let low = u16-local f g i j (first s 2 (omega arith)) in let high = u16-local _ _ _ _ (inner s 2 2 (omega arith)) in cc
 

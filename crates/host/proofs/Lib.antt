@@ -1,3 +1,4 @@
 pub mod LoadLaws
 pub mod RecordLaws
 pub mod LayoutLaws
+pub mod WriteLaws

@@ -1,3 +1,4 @@
 pub mod Loading
 pub mod Found
 pub mod Layout
+pub mod Writing

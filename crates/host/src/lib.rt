@@ -7,7 +7,10 @@ ghost use Rattle.definition.specs.Calls.{enters, steps, runs, carries, abandons
 ghost use Rattle.progs.specs.Contexts.{config};
 ghost use Rattle.call_list.specs.Encoding.{repliedOf, afterCall};
 ghost use Rattle.host.specs.Loading.{afterLoad};
+ghost use Rattle.host.specs.Writing.{writingOf, afterWriting};
 use call_list::Replied;
+use definition::ReadAnswer;
+use definition::WriteAnswer;
 use progs::ExecutionContext;
 use progs::load;
 
@@ -133,4 +136,25 @@ pub extern "C" fn host_write(
 {
     let written = context.write(file, address, value, cells, store, entities);
     call_list::reply_answer(written)
+}
+
+// The program of the file at the front of the output buffer (document 02, R-6). The detail is its length where it is accepted.
+#[no_mangle]
+pub extern "C" fn host_write_file(
+    context: ExecutionContext,
+    file: &[u8],
+    cells: &[u32],
+    store: &[u32],
+    entities: &[u32],
+    output: &mut [u8],
+) -> Replied
+    ensures { λ r. ⌜ writingOf r (now (output .exit)) ≡ afterWriting (now (file .entry)) (now (output .entry)) context (now (cells .entry)) (now (store .entry)) (now (entities .entry)) ⌝ }
+{
+    match image::write_file(context, file, cells, store, entities, output) {
+        WriteAnswer::Length(n) => return call_list::reply_read(
+            context,
+            ReadAnswer::Value(n as u32),
+        ),
+        WriteAnswer::Refused(n) => return call_list::reply_read(context, ReadAnswer::Refused(n)),
+    }
 }

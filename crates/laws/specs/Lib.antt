@@ -12,6 +12,7 @@ pub mod Completed
 pub mod Runs
 pub mod Untouched
 pub mod RoundTrip
+pub mod Lookup
 pub mod Texts
 pub mod Opcodes
 pub mod Refusals

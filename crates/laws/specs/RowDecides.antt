@@ -1,6 +1,6 @@
 -- After an accepted load the row of an operation alone decides whether it is refused, as long as the host lends entity cells enough: so 13 takes no
--- acceptance away, and a run is begun, a cell read or written, a function entered and a handed-over statement carried on from wherever the row's
--- conditions hold.
+-- acceptance away, and a run is begun, a cell read or written, a function entered, a handed-over statement carried on and the program written from wherever
+-- the row's conditions hold.
 use Prim.Native.Nat.{ℕ, suc, _+_}
 use mathlib.Core.Path.{_≡_, subst}
 use mathlib.Core.Logic.{inr}
@@ -16,6 +16,7 @@ use Rattle.definition.specs.Statements.{placeOf}
 use Rattle.definition.specs.Machine.{Program, Config, entitiesOf, countOf, limits, withCells, advanced, entryConditions, entered, step, Ran, runFor}
 use Rattle.definition.specs.Load.{load, programOf}
 use Rattle.definition.specs.Operations.{sound, natural, below, permitted, isHandedOver, hostEnter, statement, runConditions, run, carryOnConditions, carryOn, rawRead, rawWrite}
+use Rattle.definition.specs.Written.{roomConditions, placed, image, writeConditions, writeFile}
 use Rattle.definition.specs.Calls.{Call}
 use Rattle.definition.specs.Trace.{Always}
 use Rattle.definition.specs.CheckLaws.{All, FailsFirst, judge-all, judge-first, WhenAccepted}
@@ -56,6 +57,8 @@ module _ (file : List ℕ) (c : Config) where
     pub carries : Exactly carryOnRow (advanced c (c .state .pc +ℤ pos 1) (c .cells) (c .entities)) (carryOn P c)
     pub reads : (a : ℤ) → Exactly (rawRow a) (getD (c .cells) (natural a) 0) (rawRead P a c)
     pub writes : (a : ℤ) (v : ℕ) → Exactly (rawRow a) (withCells c (set (c .cells) (natural a) v)) (rawWrite P a v c)
+    -- R-6: 34 alone, so in the middle of a run too the same file is written
+    pub writes-file : (output : List ℕ) → Exactly (roomConditions (image file) (length output)) (placed (image file) output) (writeFile file output c)
 
   module _ (k : Consistent file c) (lent : Suffice file c) where
     passes : sound P c ≡ true
@@ -78,7 +81,7 @@ module _ (file : List ℕ) (c : Config) where
     by-count a v x e = subst (λ (r : FileRecord). Exactly ((below a (r .globals .count) otherwise 15) ∷ []) v x) (k .recorded) e
 
     decides : RowDecides
-    unfolding hostEnter statement carryOn carryOnConditions rawRead rawWrite
+    unfolding hostEnter statement carryOn carryOnConditions rawRead rawWrite writeFile writeConditions
     decides =
         record {
           enters = λ f. without-13 _ _;
@@ -87,6 +90,7 @@ module _ (file : List ℕ) (c : Config) where
           carries = without-13 _ _;
           reads = λ a. by-count a _ _ (without-13 _ _);
           writes = λ a v. by-count a _ _ (without-13 _ _);
+          writes-file = λ output. without-13 _ _;
         }
 
 pub row-always-decides : (file : List ℕ) (n : ℤ) (cells saved entities : List ℕ) (c : Config) → load file n cells saved entities ≡ accepted c

@@ -10,6 +10,7 @@
 //! | `field` | a read of `frags` of entity 1, by its definition; it is 1.0 | the sum |
 //! | `set_field` | a write of it | what stands there |
 //! | `named_field` | a read of it by its name | the sum |
+//! | `image` | the program file written to a buffer, the same each time | the sum of the lengths |
 
 use std::env;
 use std::error::Error;
@@ -17,7 +18,7 @@ use std::fs;
 use std::hint::black_box;
 use std::process::ExitCode;
 
-use host::{Machine, Program, Settings, CELLS, SAVED_STORE};
+use host::{Machine, Program, Settings, CELLS, IMAGE, SAVED_STORE};
 
 /// The most that a call may take.
 const LIMIT: i64 = 99_999;
@@ -85,6 +86,12 @@ fn measured(what: &str, machine: &mut Machine, times: u32) -> Result<String, Box
                 machine.write(black_box(CELL), value)?;
             }
             total = machine.read(CELL)?.into();
+        }
+        "image" => {
+            let mut output = vec![0; IMAGE];
+            for _ in 0..times {
+                total += machine.write_image(black_box(&mut output))? as u64;
+            }
         }
         "field" | "set_field" | "named_field" => {
             return Ok(fields(what, machine, times)?.to_string())

@@ -18,6 +18,9 @@ const SAVED: u32 = 2048;
 const FIRST_CELL: u32 = 3_221_225_472;
 const FIRST_SAVED: u32 = 2_684_354_560;
 
+/// Each byte of a fresh output buffer.
+const OUTPUT: u8 = 238;
+
 /// A longer file is answered by its length alone, as this one is: refused 1 or 13.
 const TOO_LONG: usize = 1_048_577;
 
@@ -44,6 +47,7 @@ enum Call {
     Abandon(i64),
     Read(i64),
     Write(i64, u32),
+    Image(u32),
 }
 
 /// What is lent, and the machine over it.
@@ -159,6 +163,7 @@ fn operate(machine: &mut Machine, call: Call) -> Result<String, LoadError> {
             Ok(value) => format!("ok {value}"),
             Err(refusal) => refused(refusal),
         },
+        Call::Image(length) => image(machine, length),
         Call::Statement => match machine.statement() {
             Outcome::Completed => "completed 0".to_string(),
             Outcome::Refused(refusal) => refused(refusal),
@@ -175,6 +180,16 @@ fn operate(machine: &mut Machine, call: Call) -> Result<String, LoadError> {
             format!("{word} {}", run.count)
         }
     })
+}
+
+/// The program file in a fresh output buffer: its length, and the digest of the whole buffer.
+fn image(machine: &Machine, length: u32) -> String {
+    let mut output = vec![OUTPUT; length as usize];
+    let answer = match machine.write_image(&mut output) {
+        Ok(written) => format!("ok {written}"),
+        Err(refusal) => refused(refusal),
+    };
+    format!("{answer} {}", digest(output.into_iter()))
 }
 
 fn refused(refusal: Refusal) -> String {
@@ -226,6 +241,7 @@ fn parse_call(words: &[&str]) -> Option<Call> {
         ["abandon", depth] => Call::Abandon(number(depth)?),
         ["read", address] => Call::Read(number(address)?),
         ["write", address, value] => Call::Write(number(address)?, low_bits(value)?),
+        ["image", length] => Call::Image(length.parse().ok()?),
         _ => return None,
     })
 }

@@ -3,8 +3,8 @@
 //! A [`Machine`] owns a program file's bytes, the cells, the saved store and the entity cells that it lends to the
 //! library, and the context that the library hands back. Every operation of the library is a method:
 //! [`Machine::load`], or [`Machine::load_with`] a number of entities, [`Machine::enter`], [`Machine::statement`], [`Machine::run`], [`Machine::carry_on`], [`Machine::abandon`],
-//! [`Machine::read`] and [`Machine::write`]. What is refused changes nothing and gives a [`Refusal`], the number of
-//! document 01 with its sentence. [`Machine::call`] does what a server does with a function: it enters, runs, has
+//! [`Machine::read`], [`Machine::write`] and [`Machine::image`]. What is refused changes nothing and gives a [`Refusal`], the
+//! number of document 01 or 02 with its sentence. [`Machine::call`] does what a server does with a function: it enters, runs, has
 //! the host answer what is handed over, and leaves the machine at the depth where it was, however the call went.
 //! [`Machine::field`] and [`Machine::field_mut`] read and set the fields of entities, by name and type.
 //!
@@ -62,7 +62,7 @@ pub use field::{Field, FieldError, FieldMut};
 pub use float_mode::{check_float_mode, FloatModeError};
 pub use layout::LayoutError;
 pub use machine::{
-    Handover, Machine, Outcome, Run, RunOutcome, Settings, CELLS, ENTITIES, SAVED_STORE,
+    Handover, Machine, Outcome, Run, RunOutcome, Settings, CELLS, ENTITIES, IMAGE, SAVED_STORE,
 };
 pub use program::{Definition, Function, Program};
 pub use refusal::{LoadError, Refusal};

@@ -33,7 +33,7 @@ pub struct Reply {
 pub struct Answer {
     /// One of the words below; 3 is refused.
     pub word: u32,
-    /// The refusal's, builtin's or opcode's number, or the cell that was read; else 0.
+    /// The refusal's, builtin's or opcode's number, the cell that was read, or the length that was written; else 0.
     pub detail: u32,
     /// How many statements a run completed; else 0.
     pub count: u32,
@@ -120,6 +120,7 @@ extern "C" {
     fn host_abandon(out: *mut Reply, context: Context, file: *const u8, file_len: usize, target: i64, cells: *mut u32, cells_len: usize, saved: *const u32, saved_len: usize, entities: *const u32, entities_len: usize) -> *mut Reply;
     fn host_read(out: *mut Reply, context: Context, file: *const u8, file_len: usize, address: i64, cells: *const u32, cells_len: usize, saved: *const u32, saved_len: usize, entities: *const u32, entities_len: usize) -> *mut Reply;
     fn host_write(out: *mut Reply, context: Context, file: *const u8, file_len: usize, address: i64, value: u32, cells: *mut u32, cells_len: usize, saved: *const u32, saved_len: usize, entities: *const u32, entities_len: usize) -> *mut Reply;
+    fn host_write_file(out: *mut Reply, context: Context, file: *const u8, file_len: usize, cells: *const u32, cells_len: usize, saved: *const u32, saved_len: usize, entities: *const u32, entities_len: usize, output: *mut u8, output_len: usize) -> *mut Reply;
     fn host_read_header(file: *const u8, file_len: usize) -> Found<FileRecord>;
     fn host_read_statement(file: *const u8, file_len: usize, recorded: FileRecord, pc: i64) -> Found<StatementRecord>;
     fn host_read_function(file: *const u8, file_len: usize, recorded: FileRecord, id: i64) -> Found<FunctionRecord>;
@@ -368,6 +369,37 @@ pub fn write(
             saved.len(),
             entities.as_ptr(),
             entities.len(),
+        );
+        reply.assume_init_ref().answer
+    }
+}
+
+/// The context after it is the one before it, and isn't given back.
+pub fn write_file(
+    context: &Context,
+    file: &[u8],
+    cells: &[u32],
+    saved: &[u32],
+    entities: &[u32],
+    output: &mut [u8],
+) -> Answer {
+    assert_layout();
+    let mut reply = MaybeUninit::<Reply>::uninit();
+    // SAFETY: see the module's text. The function writes the whole answer.
+    unsafe {
+        host_write_file(
+            reply.as_mut_ptr(),
+            *context,
+            file.as_ptr(),
+            file.len(),
+            cells.as_ptr(),
+            cells.len(),
+            saved.as_ptr(),
+            saved.len(),
+            entities.as_ptr(),
+            entities.len(),
+            output.as_mut_ptr(),
+            output.len(),
         );
         reply.assume_init_ref().answer
     }

@@ -14,6 +14,9 @@ pub const SAVED_STORE: usize = 2_048;
 /// The most entities that a load takes.
 pub const ENTITIES: usize = 600;
 
+/// The most bytes that a written program file has; an output buffer of so many is long enough for any.
+pub const IMAGE: usize = 1_048_576;
+
 /// What is handed to the host, with its number.
 ///
 /// After [`Machine::run`] or [`Machine::statement`] the position stays at the statement until [`Machine::carry_on`].
@@ -308,6 +311,70 @@ impl Machine {
             self.write_float(address, value)?;
         }
         Ok(())
+    }
+
+    // ---- the program file in its one form
+
+    /// The loaded program as a file in the one form that each has: the header, then the six parts in the header's order
+    /// without gaps, profile numbers 0.
+    ///
+    /// Files with the same contents, profile numbers and the places of their parts aside, are written alike. What is
+    /// written loads to the same contents, and is written again byte for byte. It is made of the program's bytes alone, the
+    /// file's own cells among them: what ran since the load, and what was written to cells, isn't in it.
+    ///
+    /// Refused 34 where it would be longer than [`IMAGE`], as where the parts of the file lie over each other.
+    ///
+    /// ```
+    /// use host::assemble::Assembly;
+    /// use host::{Machine, CELLS, SAVED_STORE};
+    ///
+    /// let program = Assembly { cells: vec![(28, 7)], ..Assembly::default() }.bytes();
+    /// // 100 bytes that no part has
+    /// let longer = [&program[..], &[9; 100]].concat();
+    /// let mut machine = Machine::new(longer, vec![0; CELLS], vec![0; SAVED_STORE]);
+    /// machine.load()?;
+    /// machine.write(28, 8)?;
+    /// assert_eq!(machine.image()?, program);
+    /// # Ok::<(), Box<dyn std::error::Error>>(())
+    /// ```
+    pub fn image(&self) -> Result<Vec<u8>, Refusal> {
+        let mut bytes = vec![0; IMAGE];
+        let length = self.write_image(&mut bytes)?;
+        bytes.truncate(length);
+        bytes.shrink_to_fit();
+        Ok(bytes)
+    }
+
+    /// Writes what [`Machine::image`] gives to the front of a buffer, and gives its length. The bytes after it stay.
+    ///
+    /// Refused 34 where the buffer is shorter, too. Where it is refused, nothing is written.
+    ///
+    /// ```
+    /// use host::assemble::Assembly;
+    /// use host::{Machine, Refusal, CELLS, SAVED_STORE};
+    ///
+    /// let program = Assembly::default().bytes();
+    /// let mut machine = Machine::new(program.clone(), vec![0; CELLS], vec![0; SAVED_STORE]);
+    /// machine.load()?;
+    /// let mut output = [9; 1000];
+    /// assert_eq!(machine.write_image(&mut output[..316]), Err(Refusal::new(34)));
+    /// assert_eq!(output, [9; 1000]);
+    /// assert_eq!(machine.write_image(&mut output), Ok(317));
+    /// assert_eq!(output[..317], program);
+    /// assert_eq!(output[317..], [9; 683]);
+    /// # Ok::<(), Box<dyn std::error::Error>>(())
+    /// ```
+    pub fn write_image(&self, output: &mut [u8]) -> Result<usize, Refusal> {
+        let answer = library::write_file(
+            self.context(),
+            &self.program,
+            &self.cells,
+            &self.saved,
+            &self.entities,
+            output,
+        );
+        accepted(answer)?;
+        Ok(answer.detail as usize)
     }
 
     // ---- what is there between calls

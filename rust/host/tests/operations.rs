@@ -280,6 +280,6 @@ fn sentences() {
             assert_eq!(Refusal::new(number).sentence(), sentence);
         }
     }
-    assert_eq!(rows, 33);
-    assert_eq!(Refusal::new(0).sentence(), Refusal::new(34).sentence());
+    assert_eq!(rows, 34);
+    assert_eq!(Refusal::new(0).sentence(), Refusal::new(35).sentence());
 }

@@ -21,6 +21,7 @@ enum Call {
     Abandon(i64),
     Read(i64),
     Write(i64, u32),
+    Image(usize),
 }
 
 /// A number of entities that a load might be given: mostly one for which cells are lent.
@@ -41,9 +42,19 @@ fn random_call(chance: &mut Chance) -> Call {
         23 => Call::Run(chance.number(), chance.number()),
         24..=27 => Call::CarryOn,
         28..=31 => Call::Abandon(chance.number() % 5),
-        32..=35 => Call::Read(chance.number()),
+        32..=34 => Call::Read(chance.number()),
+        35 => Call::Image(chance.below(1_500) as usize),
         _ => Call::Write(chance.number(), chance.draw() as u32),
     }
+}
+
+/// Writes the program file to a buffer of a length. Bytes that aren't of the file stay.
+fn write_image(machine: &Machine, length: usize) -> Result<(), Refusal> {
+    let mut output = vec![238; length];
+    let answer = machine.write_image(&mut output);
+    let kept = answer.unwrap_or(0);
+    assert!(output[kept..].iter().all(|byte| *byte == 238));
+    answer.map(drop)
 }
 
 /// Does a call; a refusal is given, with the completed statements of a run.
@@ -58,6 +69,7 @@ fn perform(machine: &mut Machine, call: Call) -> Result<(), (Refusal, u32)> {
         Call::Abandon(depth) => machine.abandon(depth).map_err(alone),
         Call::Read(address) => machine.read(address).map(drop).map_err(alone),
         Call::Write(address, value) => machine.write(address, value).map_err(alone),
+        Call::Image(length) => write_image(machine, length).map_err(alone),
         Call::Statement => match machine.statement() {
             Outcome::Refused(refusal) => Err(alone(refusal)),
             _ => Ok(()),
@@ -89,13 +101,13 @@ fn check(machine: &mut Machine, call: Call) -> Result<(), (Refusal, u32)> {
     assert_eq!(machine.saved()[store..], before.saved()[store..]);
     assert_entities(machine, &before, call);
     if let Err((refusal, count)) = answer {
-        assert!((1..=33).contains(&refusal.number()), "{call:?} {refusal}");
+        assert!((1..=34).contains(&refusal.number()), "{call:?} {refusal}");
         assert!(refusal.to_string().len() > 20);
         if count == 0 {
             assert_unchanged(machine, &before, call);
         }
     }
-    if let Call::Read(_) = call {
+    if let Call::Read(_) | Call::Image(_) = call {
         assert_unchanged(machine, &before, call);
     }
     answer
@@ -171,7 +183,7 @@ fn random_programs_and_calls() {
     assert!(seen.accepted > 30_000, "{}", seen.accepted);
     assert!(seen.entities > 200, "{}", seen.entities);
     let met = [
-        13, 14, 15, 16, 17, 18, 19, 20, 21, 23, 24, 25, 27, 28, 29, 30, 31, 32,
+        13, 14, 15, 16, 17, 18, 19, 20, 21, 23, 24, 25, 27, 28, 29, 30, 31, 32, 34,
     ];
     for number in met {
         assert!(seen.refused.contains(&number), "{number} was never met");

@@ -5,15 +5,21 @@
 #[path = "../examples/replay.rs"]
 mod replay;
 
+use host::assemble::Assembly;
+
 const PROGRAM: &[u8] = include_bytes!("replay/program.dat");
 const CALLS: &str = include_str!("replay/calls");
 const EXPECTED: &str = include_str!("replay/expected");
 
-fn printed(calls: &str) -> Result<String, String> {
+fn printed_on(program: &[u8], calls: &str) -> Result<String, String> {
     let mut output = Vec::new();
-    replay::replay(PROGRAM.to_vec(), calls.as_bytes(), &mut output)
+    replay::replay(program.to_vec(), calls.as_bytes(), &mut output)
         .map_err(|error| error.to_string())?;
     Ok(String::from_utf8(output).unwrap())
+}
+
+fn printed(calls: &str) -> Result<String, String> {
+    printed_on(PROGRAM, calls)
 }
 
 #[test]
@@ -28,13 +34,45 @@ fn the_fixed_list() {
 /// Worked out by hand: FNV-1a of nothing is its start, 14695981039346656037.
 #[test]
 fn before_a_load() {
-    assert_eq!(printed("enter 1\n").unwrap(), "enter 1 => no state\n");
+    for call in ["enter 1", "image 9"] {
+        assert_eq!(printed(call).unwrap(), format!("{call} => no state\n"));
+    }
     let refused = printed("lend 0 0 0\nload 0\n").unwrap();
     let nothing = "cbf29ce484222325";
     assert_eq!(
         refused,
         format!("load 0 => refused 12 | - {nothing} {nothing} {nothing}\n")
     );
+}
+
+/// FNV-1a once more, as the offset basis and the prime give it.
+fn fnv(bytes: &[u8]) -> String {
+    let mut hash: u64 = 0xcbf2_9ce4_8422_2325;
+    for byte in bytes {
+        hash = (hash ^ u64::from(*byte)).wrapping_mul(0x0000_0100_0000_01b3);
+    }
+    format!("{hash:016x}")
+}
+
+/// The program is in the form that is written, so that its own bytes stand in the output buffer.
+#[test]
+fn written_files() {
+    let program = Assembly::default().bytes();
+    let length = program.len();
+    let answer = |count: usize| {
+        let printed = printed_on(&program, &format!("load 0\nimage {count}\n")).unwrap();
+        let line = printed.lines().last().unwrap().to_string();
+        let (answer, _) = line.split_once(" | ").unwrap();
+        let (_, answer) = answer.split_once(" => ").unwrap();
+        answer.to_string()
+    };
+    assert_eq!(answer(0), "refused 34 cbf29ce484222325");
+    assert_eq!(answer(1), "refused 34 af64634c8602d1f1");
+    let short = fnv(&vec![238; length - 1]);
+    assert_eq!(answer(length - 1), format!("refused 34 {short}"));
+    assert_eq!(answer(length), format!("ok {length} {}", fnv(&program)));
+    let long = fnv(&[&program[..], &[238; 3]].concat());
+    assert_eq!(answer(length + 3), format!("ok {length} {long}"));
 }
 
 #[test]
@@ -47,6 +85,10 @@ fn lines_that_are_no_calls() {
         "write 1 x",
         "file -1",
         "load",
+        "image",
+        "image -1",
+        "image 4294967296",
+        "image 1 2",
     ] {
         assert_eq!(
             printed(line).unwrap_err(),

@@ -1,0 +1,2 @@
+-- What the proof of `image` cites.
+mod Thirteen

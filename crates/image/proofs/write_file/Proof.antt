@@ -1,0 +1,36 @@
+-- `image::write_file` meets its contract: 13 where the check fails, and past it what `writer` leaves. Assumes nothing.
+use mathlib.Core.Path.{_≡_, sym, _∙_}
+use mathlib.Core.Bool.{true}
+use native.Mathlib.Omega.{arith}
+use borrow.Author.Needs.{needs}
+use borrow.Author.Tests.{not-true, not-false}
+use lib.ListN.{length}
+use Rattle.definition.specs.Load.{programOf}
+use Rattle.definition.specs.Operations.{sound}
+use Rattle.progs.specs.Contexts.{config, Within}
+use Rattle.progs.proofs.StateLaws.{passed}
+use Rattle.image.proofs.Thirteen.{refused-13, past-13}
+use Rattle.image.proofs.write_file.Statement.{statement}
+use Rattle.image.proofs.write_file.Tie as tie
+
+-- check 13 passed
+
+sound-here : (c : tie.Else1) → let s = c .before .before .before .before .before .before .before .args in sound (programOf (s .file .now)) (config (s .context) (s .cells .now) (s .store .now) (s .entities .now)) ≡ true
+sound-here c = sym (c .before .check-state .ensures) ∙ not-false _ (c .if1 .left)
+
+within : (c : tie.Else1) → let s = c .before .before .before .before .before .before .before .args in Within (s .file .now) (s .context) (length (s .cells .now)) (length (s .store .now)) (length (s .entities .now))
+within c = let s = c .before .before .before .before .before .before .before .args in passed (s .file .now) (s .cells .now) (s .store .now) (s .entities .now) (s .context) (sound-here c)
+
+returns : tie.Need-returns
+returns c = refused-13 _ _ _ (sym (c .before .check-state .ensures) ∙ not-true _ (c .if1 .taken))
+
+write-program-requires : tie.Need-write-program-requires
+write-program-requires c κs = (within (c .before) .loaded .lumps, omega (arith, within (c .before) .size-most))
+
+returns-2 : tie.Need-returns-2
+returns-2 c = past-13 _ _ _ _ _ (sound-here (c .before .before .before .before)) (within (c .before .before .before .before) .loaded .same) (c .before .before .write-program .ensures)
+
+pub write-file-spec : {M : Type 1} → statement M
+write-file-spec =
+    tie.close
+    (tie.spec (λ c κs. search needs) returns write-program-requires (λ c. search needs) returns-2)

@@ -1,0 +1,5 @@
+-- What the proofs of `writer` share.
+mod Copying
+mod Headers
+mod Functions
+mod Program
