@@ -130,7 +130,7 @@ pub fn same_file(a: FileRecord, b: FileRecord) -> bool
 
 // The first of 13's conditions. A state can record no file that is too short for a header.
 pub fn recorded_in(file: &[u8], r: FileRecord, lent: usize) -> bool
-    ensures { λ b. ⌜ b ≡ recordedIn (now (file .entry)) r lent ⌝ }
+    ensures { λ b. ⌜ b ≡ recordedIn leastCells (now (file .entry)) r lent ⌝ }
 {
     if file.len() < HEADER_LENGTH {
         return false;

@@ -18,7 +18,7 @@ use Rattle.definition.specs.Checks.{Condition, Conditions, Checked, refused, ac
 use Rattle.definition.specs.File.{leastCells, savedStore, mostEntities, greatestDepth, negative, fileOf, contentsOf, lengthFits, lumpsFit, cellsFit, entityFits, contentsAt}
 use Rattle.definition.specs.Machine.{Program, functionOf, State, Config, countOf, limits, zeroFrame, startState, entitiesFit, present, copied, successive, argumentsOf, withCells, advanced}
 use Rattle.definition.specs.Machine.{entryConditions, entered, leaveConditions, left, returnConditions, returned}
-use Rattle.definition.specs.Load.{headerConditions, recordConditions, cellConditions, loadConditions, loaded, entitiesGiven, load, sameLump, sameFile, recordedIn, programAt, programOf}
+use Rattle.definition.specs.Load.{headerConditions, recordConditions, cellConditions, loadConditions, loaded, entitiesGiven, load, sameLump, sameFile, recordedIn, programWith, programOf}
 use Rattle.definition.specs.Operations.{frameFunctions, enteredAt, enteredFunctions, allPresent, localsOf, sound}
 use Rattle.definition.specs.Calls.{Call}
 use Rattle.definition.specs.Log.{Log, Kind, entry, leaving, other}
@@ -92,7 +92,7 @@ same-file r =
       same-number (r .entityfields),
     )
 
-consistent-recorded : (file : List ℕ) (c : Config) → Consistent file c → recordedIn file (c .state .file) (length (c .cells)) ≡ true
+consistent-recorded : (file : List ℕ) (c : Config) → Consistent file c → recordedIn leastCells file (c .state .file) (length (c .cells)) ≡ true
 unfolding recordedIn
 consistent-recorded file c k =
     let r = fileOf file in
@@ -106,7 +106,7 @@ consistent-entities file c k lent =
     rw (k .recorded, le-leb (c .state .entityCount) mostEntities (k .few)) (le-leb _ _ lent)
 
 pub consistent-sound : (file : List ℕ) (c : Config) → Consistent file c → Suffice file c → sound (programOf file) c ≡ true
-unfolding sound limits programAt
+unfolding sound limits programWith
 consistent-sound file c k lent =
     rw (
       consistent-recorded file c k,

@@ -82,7 +82,7 @@ pub record Recorded (file : List ℕ) (r : FileRecord) (lent : ℕ) : Type 0 whe
   pub signed : not (negative (r .entityfields)) ≡ true
   pub enough : r .globals .count ≤ lent
 
-pub recorded-passes : (file : List ℕ) (r : FileRecord) (lent : ℕ) → Recorded file r lent → recordedIn file r lent ≡ true
+pub recorded-passes : (file : List ℕ) (r : FileRecord) (lent : ℕ) → Recorded file r lent → recordedIn leastCells file r lent ≡ true
 unfolding recordedIn
 recorded-passes file r lent h =
     rw (
@@ -97,7 +97,7 @@ recorded-passes file r lent h =
       le-leb (r .globals .count) lent (h .enough),
     )
 
-pub recorded-only : (file : List ℕ) (r : FileRecord) (lent : ℕ) → recordedIn file r lent ≡ true → Recorded file r lent
+pub recorded-only : (file : List ℕ) (r : FileRecord) (lent : ℕ) → recordedIn leastCells file r lent ≡ true → Recorded file r lent
 unfolding recordedIn
 recorded-only file r lent h =
     let a : Bool = sameFile r (fileOf file) in

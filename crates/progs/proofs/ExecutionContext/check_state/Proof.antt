@@ -9,7 +9,7 @@ use Rattle.progs.proofs.ExecutionContext.check_state.Statement.{stateme
 use Rattle.progs.proofs.ExecutionContext.check_state.Tie as tie
 
 -- the file is as the context records
-as-recorded : (c : tie.Else1) → let s = c .before .before .before .before .before .before .before in recordedIn (s .args .file .now) (s .args .self .file) (length (s .args .cells .now)) ≡ true
+as-recorded : (c : tie.Else1) → let s = c .before .before .before .before .before .before .before in recordedIn leastCells (s .args .file .now) (s .args .self .file) (length (s .args .cells .now)) ≡ true
 as-recorded c = sym (c .before .recorded-in .ensures) ∙ not-false _ (c .if1 .left)
 
 returns : tie.Need-returns
