@@ -157,13 +157,13 @@ pub record Recorded (file : List ℕ) (r : FileRecord) (lent : ℕ) : Type 0 whe
   pub same : r ≡ fileOf file
   pub longest : length file ≤ 1048576
   pub lumps : AllFit (length file) r
-  pub least : 36 ≤ r .globals .count
+  pub least : 64 ≤ r .globals .count
   pub most : r .globals .count ≤ 32768
   pub lends : r .globals .count ≤ lent
   pub size : EntitySize r
 
 pub recorded : (file : List ℕ) (r : FileRecord) (lent : ℕ) → recordedIn leastCells file r lent ≡ true → Recorded file r lent
-unfolding recordedIn leastCells fileOf
+unfolding recordedIn fileOf
 recorded file r lent e =
     let e5 = both _ _ e in
     let e4 = both _ _ (e5 .0) in
@@ -186,7 +186,7 @@ recorded file r lent e =
 
 -- a file that is too short for a header is as no state records
 pub short-file : (file : List ℕ) (r : FileRecord) (lent : ℕ) → length file < 60 → false ≡ recordedIn leastCells file r lent
-unfolding recordedIn leastCells fileOf
+unfolding recordedIn fileOf
 short-file file r lent h = by (sameFile r (fileOf file)) refl
   where
     by : (t : Bool)

@@ -2,7 +2,7 @@
 ghost use mathlib.Core.Path.{_≡_};
 ghost use Prim.Native.Nat.{_+_, _≤_, _<_};
 ghost use lib.ListN.{length};
-ghost use Rattle.definition.specs.File.{lumpAt, fileOf, lengthFits, lumpFits, lumpsFit, cellsFit, entityFits};
+ghost use Rattle.definition.specs.File.{leastCells, lumpAt, fileOf, lengthFits, lumpFits, lumpsFit, cellsFit, entityFits};
 ghost use Rattle.definition.specs.Load.{sameLump, sameFile, recordedIn};
 ghost use Rattle.definition.specs.Machine.{entitiesFit};
 use crate::reads;

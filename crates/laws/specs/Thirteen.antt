@@ -76,7 +76,7 @@ pub record Recorded (file : List ℕ) (r : FileRecord) (lent : ℕ) : Type 0 whe
   pub shortest : 60 ≤ r .length
   pub longest : r .length ≤ 1048576
   pub lumps : lumpsFit r ≡ true
-  pub least : 36 ≤ r .globals .count
+  pub least : 64 ≤ r .globals .count
   pub most : r .globals .count ≤ 32768
   pub per-entity : 105 ≤ r .entityfields
   pub signed : not (negative (r .entityfields)) ≡ true
@@ -90,7 +90,7 @@ recorded-passes file r lent h =
       le-leb 60 (r .length) (h .shortest),
       le-leb (r .length) 1048576 (h .longest),
       h .lumps,
-      le-leb 36 (r .globals .count) (h .least),
+      le-leb 64 (r .globals .count) (h .least),
       le-leb (r .globals .count) 32768 (h .most),
       le-leb 105 (r .entityfields) (h .per-entity),
       h .signed,
@@ -118,8 +118,8 @@ recorded-only file r lent h =
       shortest = leb-true 60 (r .length) (and-left (leb 60 (r .length)) (leb (r .length) 1048576) long);
       longest = leb-true (r .length) 1048576 (and-right (leb 60 (r .length)) (leb (r .length) 1048576) long);
       lumps = and-right (a && b) c h2;
-      least = leb-true 36 (r .globals .count) (and-left (leb 36 (r .globals .count)) (leb (r .globals .count) 32768) cells);
-      most = leb-true (r .globals .count) 32768 (and-right (leb 36 (r .globals .count)) (leb (r .globals .count) 32768) cells);
+      least = leb-true 64 (r .globals .count) (and-left (leb 64 (r .globals .count)) (leb (r .globals .count) 32768) cells);
+      most = leb-true (r .globals .count) 32768 (and-right (leb 64 (r .globals .count)) (leb (r .globals .count) 32768) cells);
       per-entity = leb-true 105 (r .entityfields) (and-left (leb 105 (r .entityfields)) (not (negative (r .entityfields))) entity);
       signed = and-right (leb 105 (r .entityfields)) (not (negative (r .entityfields))) entity;
       enough = leb-true (r .globals .count) lent (and-right (a && b && c && d && e) f h);

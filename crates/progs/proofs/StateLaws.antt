@@ -14,7 +14,7 @@ use Rattle.definition.specs.declared.FileRecord.{FileRecord}
 use Rattle.definition.specs.declared.StackFrame.{StackFrame}
 use Rattle.definition.specs.declared.FunctionDef.{FunctionDef}
 use Rattle.definition.specs.Checks.{judge}
-use Rattle.definition.specs.File.{negative}
+use Rattle.definition.specs.File.{negative, leastCells}
 use Rattle.definition.specs.Machine.{Program, functionOf, State, Config, limits, entitiesFit, zeroFrame, entryConditions, entered, enter, left, returnConditions, returned}
 use Rattle.definition.specs.Load.{programWith, programOf, recordedIn}
 use Rattle.definition.specs.Operations.{frameFunctions, enteredAt, enteredFunctions, allPresent, localsOf, sound}

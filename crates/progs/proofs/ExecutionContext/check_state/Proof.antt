@@ -2,6 +2,7 @@ use mathlib.Core.Path.{_≡_, sym, _∙_}
 use mathlib.Core.Bool.{true}
 use borrow.Author.Tests.{not-true, not-false}
 use lib.ListN.{length}
+use Rattle.definition.specs.File.{leastCells}
 use Rattle.definition.specs.Load.{recordedIn}
 use Rattle.progs.proofs.StateLaws.{unrecorded, short-store, too-deep, too-full, no-room, adding-up, loaded-of, size-of}
 use borrow.Author.Needs.{needs}
