@@ -4,3 +4,5 @@ pub mod Conditions
 pub mod Effects
 pub mod Statements
 pub mod Transfers
+pub mod PaddedFile
+pub mod Padding
