@@ -12,7 +12,7 @@ use lib.Dec.{leb, ltb}
 use Rattle.definition.specs.declared.FunctionDef.{FunctionDef}
 use Rattle.definition.specs.declared.StackFrame.{StackFrame}
 use Rattle.definition.specs.Checks.{Condition, Conditions, Checked, accepted, guard}
-use Rattle.definition.specs.File.{savedStore, greatestDepth, negative, contentsOf, fileOf}
+use Rattle.definition.specs.File.{leastCells, savedStore, greatestDepth, negative, contentsOf, fileOf}
 use Rattle.definition.specs.Machine.{Program, functionOf, Config, countOf, limits, zeroFrame, present, copied, successive, argumentsOf, withCells, withEntities, advanced}
 use Rattle.definition.specs.Machine.{entryConditions, entered, leaveConditions, left, returnConditions, returned}
 use Rattle.definition.specs.Load.{cellConditions, entitiesGiven, loaded, load, programWith, programOf}
@@ -262,7 +262,7 @@ unfolding load loaded localsNoted cellConditions
 loaded-matches file n cells saved entities =
     guarded (λ (c : Config). StackMatches file c []) _ _ λ h.
     let r = fileOf file in
-    let twelve = load-rows file (entitiesGiven n) (length cells) (length saved) (length entities) h .cells .1 .1 .0 in
+    let twelve = load-rows leastCells file (entitiesGiven n) (length cells) (length saved) (length entities) h .cells .1 .1 .0 in
     record {
       depths = record { depth-is = refl; depth-most = omega arith; saved-is = refl; saved-most = omega arith };
       room = omega (arith, length-replicate greatestDepth zeroFrame);

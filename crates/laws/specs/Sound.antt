@@ -252,7 +252,7 @@ loaded-consistent file n cells saved entities =
     guarded (Consistent file) _ _ λ h.
     let r = fileOf file in
     let k = contentsOf file in
-    let rows = load-rows file (entitiesGiven n) (length cells) (length saved) (length entities) h in
+    let rows = load-rows leastCells file (entitiesGiven n) (length cells) (length saved) (length entities) h in
     record {
       stack = record { room = omega (arith, length-replicate greatestDepth zeroFrame); depth-most = omega arith; all = refl; sum = refl; saved-most = omega arith };
       long = leb-true savedStore (length saved) (and-right (leb (r .globals .count) (length cells)) (leb savedStore (length saved)) (rows .cells .1 .1 .0));
@@ -283,7 +283,7 @@ loaded-suffices : (file : List ℕ) (n : ℤ) (cells saved entities : List ℕ) 
 unfolding load loaded entitiesFit contentsAt
 loaded-suffices file n cells saved entities =
     guarded (Suffice file) _ _ λ h.
-    let rows = load-rows file (entitiesGiven n) (length cells) (length saved) (length entities) h in
+    let rows = load-rows leastCells file (entitiesGiven n) (length cells) (length saved) (length entities) h in
     leb-true _ _ (and-right (leb (entitiesGiven n) mostEntities) (leb (entitiesGiven n * fileOf file .entityfields) (length entities)) (rows .fields .0))
 
 -- the lent entity cells of an accepted load suffice

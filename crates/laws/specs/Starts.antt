@@ -43,7 +43,7 @@ unfolding load loaded entitiesFit
 when-accepted-starts file n cells saved entities =
     guarded (Started file n cells saved entities) _ _ λ h.
     let count = fileOf file .globals .count in
-    let rows = load-rows file (entitiesGiven n) (length cells) (length saved) (length entities) h in
+    let rows = load-rows leastCells file (entitiesGiven n) (length cells) (length saved) (length entities) h in
     record {
       recorded = refl;
       position = refl;
@@ -104,7 +104,7 @@ when-accepted-sizes file n cells saved entities =
     guarded (λ (c : Config). Sizes file n cells saved entities) _ _ λ h.
     let r = fileOf file in
     let count = r .globals .count in
-    let rows = load-rows file (entitiesGiven n) (length cells) (length saved) (length entities) h in
+    let rows = load-rows leastCells file (entitiesGiven n) (length cells) (length saved) (length entities) h in
     record {
       length-least = leb-true 60 (length file) (and-left (leb 60 (length file)) (leb (length file) 1048576) (rows .header .0));
       length-most = leb-true (length file) 1048576 (and-right (leb 60 (length file)) (leb (length file) 1048576) (rows .header .0));

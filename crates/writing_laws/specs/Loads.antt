@@ -129,7 +129,7 @@ module _ (file : List ℕ) where
         → load (image file) number cells saved entities ≡ accepted (loaded (image file) (entitiesGiven number) cells saved entities)
     unfolding load cellConditions
     written-loads a short lent =
-        let rows = load-rows file (entitiesGiven (a .number)) (length (a .cells)) (length (a .saved)) (length (a .entities)) (accepted-all _ _ _ (a .loads) .0) in
+        let rows = load-rows leastCells file (entitiesGiven (a .number)) (length (a .cells)) (length (a .saved)) (length (a .entities)) (accepted-all _ _ _ (a .loads) .0) in
         let w : List ℕ = image file in
         let hs : Conditions = headerConditions w in
         let rs : Conditions = recordConditions (fileOf w .strings .count) (contentsOf w) in
