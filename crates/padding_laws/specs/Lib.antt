@@ -6,3 +6,4 @@ pub mod Statements
 pub mod Transfers
 pub mod PaddedFile
 pub mod Padding
+pub mod Loads
