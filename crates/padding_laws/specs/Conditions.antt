@@ -1,7 +1,7 @@
 -- CONDITIONS OF A STATEMENT that held with the file's count of cells and hold with a greater one (document 02, R-7): each access, and what it shows of the
 -- cells that are accessed.
 use Prim.Native.Nat.{ℕ, _+_, _≤_, _<_}
-use mathlib.Core.Path.{_≡_, refl, sym, ap}
+use mathlib.Core.Path.{_≡_, refl, ap}
 use mathlib.Core.List.{List, [], _∷_, _++_}
 use mathlib.Core.Bool.{Bool, true, false, not, _&&_, _||_, cond}
 use native.Mathlib.Omega.{arith}
@@ -11,7 +11,7 @@ use lib.Dec.{ltb, eqb}
 use Rattle.definition.specs.Checks.{Conditions, _otherwise_}
 use Rattle.definition.specs.CheckLaws.{All, all-front, all-back, all-both}
 use Rattle.definition.specs.File.{negative}
-use Rattle.definition.specs.Cells.{string, float, vector, Typing, addressed, cellAccess, vectorAccess, access, readAccess}
+use Rattle.definition.specs.Cells.{string, vector, Typing, cellAccess, vectorAccess, access, readAccess}
 use Rattle.definition.specs.Strings.{textOf, sameText, textAccess}
 use Rattle.definition.specs.Statements.{component, moveAccess}
 use Rattle.definition.specs.StatementLaws.{lastOf, access-last}

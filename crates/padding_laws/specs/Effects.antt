@@ -1,31 +1,25 @@
 -- WHAT A STATEMENT DOES, once with the file's count of cells and once with more (document 02, R-7): where it used to complete it still does, "with the
 -- same results", for every shape of statement.
-use Prim.Native.Nat.{ℕ, zero, suc, _+_, _*_, _/_, _%_, _≤_, _<_}
+use Prim.Native.Nat.{ℕ, zero, suc, _+_, _≤_, _<_}
 use mathlib.Core.Path.{_≡_, refl, ap, ap₂}
-use mathlib.Core.List.{List, [], _∷_, _++_}
-use mathlib.Core.Bool.{Bool, true, false, not, _&&_, _||_, Bool·beq, cond}
-use mathlib.Core.Option.{Option, none, some}
+use mathlib.Core.List.{List, []}
+use mathlib.Core.Bool.{Bool, true, false, _||_, Bool·beq, cond}
 use native.Mathlib.Omega.{arith}
-use lib.ListN.{length, getD, set, replicate, length-append}
-use lib.Dec.{ltb, eqb, leb}
+use lib.ListN.{getD, set}
+use lib.Dec.{eqb}
 use lib.IntN.{ℤ, pos, _+ℤ_}
-use Rattle.definition.specs.declared.Statement.{Statement}
-use Rattle.definition.specs.declared.FunctionDef.{FunctionDef}
-use Rattle.definition.specs.Checks.{Conditions, _otherwise_, judge}
+use Rattle.definition.specs.Checks.{Conditions, judge}
 use Rattle.definition.specs.CheckLaws.{judge-passed, judge-all}
-use Rattle.definition.specs.File.{greatestPointer, negative, Contents, noFunction, isBuiltin, builtinOf}
-use Rattle.definition.specs.Floats.{flag, isZero, notV, roundingOf}
-use Rattle.definition.specs.Cells.{string, float, vector, entity, field, function, pointer, cellOf, signed, Typing, access, mustBeNatural, readAccess, fieldAccess}
+use Rattle.definition.specs.Floats.{flag, isZero}
+use Rattle.definition.specs.Cells.{float, vector, Typing, access, mustBeNatural, readAccess}
 use Rattle.definition.specs.Strings.{textOf, sameText}
-use Rattle.definition.specs.Statements.{Entities, Does, next, puts, calls, returns, refuses, handsOver, orRefused, provided, Effect, effectDoes, putDoes}
-use Rattle.definition.specs.Statements.{Shape, floats, values, vectors, vectorsToFloat, strings, negates, negatesV, negatesS, stores, storesV, loads, addresses, storesP, branches, jumps, call, return, host, shapeOf}
+use Rattle.definition.specs.Statements.{Does, next, puts, calls, returns, refuses, handsOver, orRefused, provided, Effect, effectDoes, putDoes}
 use Rattle.definition.specs.Statements.{floatsEffect, valuesEffect, component, vectorResult, vectorsEffect, vectorsToFloatEffect, operandGiven, stringsEffect, unused, negatesEffect, negatesVEffect, negatesSEffect}
-use Rattle.definition.specs.Statements.{moved, storedNatural, storesEffect, reservedCell, storesVEffect, valueMoved, loadsEffect, addressesEffect, pointsAtField, storesPEffect}
-use Rattle.definition.specs.Statements.{branchesDo, roundingEffect, builtinDoes, callOf, callDoes, statementAt, fetchConditions, Tables, tablesOf, executeAs, execute, doesAt}
+use Rattle.definition.specs.Statements.{moved, storedNatural, storesEffect, reservedCell, storesVEffect, valueMoved}
+use Rattle.definition.specs.Statements.{branchesDo}
 use Rattle.definition.specs.StatementLaws.{lastOf}
-use Rattle.definition.specs.Written.{padded}
 use Rattle.padding_laws.specs.Cells.{Agree, same-at, agree-set}
-use Rattle.padding_laws.specs.Conditions.{Still, _then_, _and_, unchanged, equal, widened, first-below, component-below, typed, moves, reads, text, texts}
+use Rattle.padding_laws.specs.Conditions.{Still, _and_, unchanged, widened, first-below, component-below, typed, moves, reads, text, texts}
 
 -- ---- what is done with more cells, where x is done with the file's; `before` are the cells before it
 

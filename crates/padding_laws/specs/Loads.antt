@@ -1,8 +1,7 @@
 -- THE LOAD OF A PADDED FILE, document 02's R-7: it is accepted, beside what 12 and 13 ask, and starts from the old file's cells with zeros behind them.
-use Prim.Native.Nat.{ℕ, _+_, _≤_}
+use Prim.Native.Nat.{ℕ, _≤_}
 use mathlib.Core.Path.{_≡_, refl, sym, _∙_, ap}
 use mathlib.Core.List.{List, _++_, append-assoc}
-use mathlib.Core.Bool.{true, _&&_}
 use native.Mathlib.Omega.{arith}
 use borrow.Author.Tests.{leb-true, le-leb}
 use lib.ListN.{length, take, drop, replicate, length-append}

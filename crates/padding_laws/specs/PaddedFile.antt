@@ -1,20 +1,25 @@
 -- THE PADDED FILE, document 02's R-7: what it says, how many cells it has, and that 15 refuses none of the first 64.
-use Prim.Native.Nat.{ℕ, _+_, _-_, _≤_, _<_}
+use Prim.Native.Nat.{ℕ, suc, _+_, _-_, _≤_, _<_}
 use mathlib.Core.Path.{_≡_, refl, sym, ap, _∙_}
-use mathlib.Core.List.{List, _++_}
-use mathlib.Core.Bool.{true}
+use mathlib.Core.List.{List, [], _∷_}
+use mathlib.Core.Bool.{Bool, true, false, true≢false, cond}
 use native.Mathlib.Omega.{arith}
 use borrow.Author.Tests.{lt-ltb}
 use lib.ListN.{length, replicate, length-append, length-replicate}
+use lib.Dec.{ltb, eqb}
 use lib.IntN.{pos}
 use Rattle.definition.specs.File.{checkNumber, leastCells, fileOf, Contents, contentsAt, contentsOf}
+use Rattle.definition.specs.Checks.{Conditions, judge}
 use Rattle.definition.specs.CheckLaws.{All}
 use Rattle.definition.specs.RecordLaws.{length-globals}
-use Rattle.definition.specs.Cells.{typingOf, typeIs, addressed, cellAccess}
+use Rattle.definition.specs.Cells.{vector, Typing, typingOf, addressed, cellAccess, vectorAccess, access}
+use Rattle.definition.specs.StatementLaws.{lastOf}
+use Rattle.definition.specs.Machine.{present, Copy, copiesPresent}
 use Rattle.definition.specs.Operations.{below}
 use Rattle.definition.specs.Written.{padded, paddedFile}
 use Rattle.writing_laws.specs.Written.{AllEight, contents-written}
 use Rattle.writing_laws.specs.Loads.{eight-at, counts-strings}
+use Rattle.padding_laws.specs.Transfers.{present-still, copies-still}
 
 -- "zero cells added up to 64": so many
 abbrev pub addedCells : List ℕ → ℕ
@@ -23,6 +28,20 @@ addedCells file = leastCells - length (contentsOf file .globals)
 -- what the padding program writes of a file
 abbrev pub paddedContents : List ℕ → Contents
 paddedContents file = padded (addedCells file) (contentsOf file)
+
+-- each condition whose number is 15 holds
+abbrev Unless15 : Conditions → Type 0
+Unless15 [] = Unit {0}
+Unless15 (c ∷ cs) = (c .number-1 ≡ 14 → c .holds ≡ true) × Unless15 cs
+
+never-15 : (cs : Conditions) → Unless15 cs → judge cs ≡ 15 → ⊥
+unfolding judge
+never-15 [] h e = omega arith
+never-15 (c ∷ cs) (own, rest) e = go (c .holds) refl e (never-15 cs rest)
+  where
+    go : (b : Bool) → c .holds ≡ b → cond b (judge cs) (suc (c .number-1)) ≡ 15 → (judge cs ≡ 15 → ⊥) → ⊥
+    go true k e none = none e
+    go false k e none = true≢false (sym (own (omega arith)) ∙ k)
 
 module _ (file : List ℕ) where
   pub padded-eight : AllEight (paddedContents file)
@@ -59,18 +78,43 @@ module _ (file : List ℕ) where
   pub padded-exactly : fileOf file .globals .count ≤ leastCells → fileOf (paddedFile file) .globals .count ≡ leastCells
   padded-exactly h = omega (arith, padded-count, length-globals file)
 
-  -- "In a padded file 15 no longer refuses an access to an added cell": not one by address, not a typed one of a cell whose type passes, nor a host's
-  pub record Reached (a : ℕ) : Type 0 where
-    pub by-address : All (addressed (typingOf (contentsOf (paddedFile file))) a)
-    pub by-type : (want : ℕ) → typeIs (typingOf (contentsOf (paddedFile file))) want a ≡ true → All (cellAccess (typingOf (contentsOf (paddedFile file))) want a)
-    pub raw : below (pos a) (fileOf (paddedFile file) .globals .count) ≡ true
+  -- ---- "In a padded file 15 no longer refuses an access to an added cell"
 
-  pub reached : (a : ℕ) → a < leastCells → Reached a
-  unfolding cellAccess
-  reached a h =
-      let inside : a < length (contentsOf (paddedFile file) .globals) = omega (arith, padded-least, length-globals (paddedFile file)) in
-      record {
-        by-address = (lt-ltb _ _ inside, tt);
-        by-type = λ want passes. (passes, (lt-ltb _ _ inside, tt));
-        raw = lt-ltb a (fileOf (paddedFile file) .globals .count) (omega (arith, padded-least));
-      }
+  abbrev cellsOf : Typing
+  cellsOf = typingOf (contentsOf (paddedFile file))
+
+  inside : (a : ℕ) → a < leastCells → ltb a (cellsOf .count) ≡ true
+  inside a h = lt-ltb a (cellsOf .count) (omega (arith, padded-least, length-globals (paddedFile file)))
+
+  -- no typed access to a value of a type whose last cell is below 64: what may refuse it is 16
+  pub typed-reached : (t a : ℕ) → lastOf t a < leastCells → judge (access (typingOf (contentsOf (paddedFile file))) t a) ≡ 15 → ⊥
+  unfolding access vectorAccess cellAccess
+  typed-reached t a h = go (eqb t vector) h
+    where
+      go : (b : Bool) → cond b (a + 2) a < leastCells → judge (cond b (vectorAccess cellsOf a) (cellAccess cellsOf t a)) ≡ 15 → ⊥
+      go true h = never-15 (vectorAccess cellsOf a) (
+        λ n. absurd (omega arith),
+        (
+          λ n. absurd (omega arith),
+          (
+            λ n. inside a (omega arith),
+            (λ n. absurd (omega arith), (λ n. inside (a + 1) (omega arith), (λ n. absurd (omega arith), (λ n. inside (a + 2) h, tt)))),
+          ),
+        ),
+      )
+      go false h = never-15 (cellAccess cellsOf t a) (λ n. absurd (omega arith), (λ n. inside a h, tt))
+
+  -- none by address alone, a Store's of a vector to the cells of the arguments
+  pub address-reached : (a : ℕ) → a < leastCells → All (addressed (typingOf (contentsOf (paddedFile file))) a)
+  address-reached a h = (inside a h, tt)
+
+  -- none of the host's: raw access
+  pub raw-reached : (a : ℕ) → a < leastCells → below (pos a) (fileOf (paddedFile file) .globals .count) ≡ true
+  raw-reached a h = lt-ltb a (fileOf (paddedFile file) .globals .count) (omega (arith, padded-least))
+
+  -- no local cells and no operand cells of a Return, where 64 cells have them, and no argument cells
+  pub range-reached : (a k : ℕ) → present a k leastCells ≡ true → present a k (fileOf (paddedFile file) .globals .count) ≡ true
+  range-reached a k h = present-still a k leastCells (fileOf (paddedFile file) .globals .count) padded-least h
+
+  pub copies-reached : (ms : List Copy) → copiesPresent leastCells ms ≡ true → copiesPresent (fileOf (paddedFile file) .globals .count) ms ≡ true
+  copies-reached ms h = copies-still ms leastCells (fileOf (paddedFile file) .globals .count) padded-least h

@@ -1,6 +1,6 @@
 -- THE LAW OF DOCUMENT 02, R-7: "Given 64 lent cells, a statement that used to complete still does, from the same old cells, saved store, entity cells and
 -- state but for what that records of the file, with the same results, and leaves the added cells alone."
-use Prim.Native.Nat.{ℕ, _+_, _≤_}
+use Prim.Native.Nat.{ℕ, _≤_}
 use mathlib.Core.Path.{_≡_, refl, sym, _∙_, ap, subst}
 use mathlib.Core.List.{List, [], _∷_}
 use mathlib.Core.Bool.{Bool, true, false, _&&_}
@@ -10,7 +10,7 @@ use lib.ListN.{length, take, drop}
 use lib.Dec.{leb}
 use Rattle.definition.specs.declared.FileRecord.{FileRecord}
 use Rattle.definition.specs.declared.Handover.{Handover}
-use Rattle.definition.specs.File.{headerLength, longestFile, leastCells, leastToPad, fileOf, lengthFits, contentsAt, contentsOf}
+use Rattle.definition.specs.File.{headerLength, longestFile, leastCells, leastToPad, fileOf, contentsOf}
 use Rattle.definition.specs.CheckLaws.{and-left, and-right}
 use Rattle.definition.specs.Statements.{doesAt}
 use Rattle.definition.specs.Machine.{Program, Config, entitiesOf, countOf, Stepped, completed, handedStep, step}

@@ -1,16 +1,16 @@
 -- EVERY STATEMENT, once with the file's count of cells and once with more (document 02, R-7): those of entities (R-3), Calls, and all shapes together.
 use Prim.Native.Nat.{ℕ, _+_, _*_, _/_, _%_, _≤_}
-use mathlib.Core.Path.{_≡_, refl, ap, ap₂}
+use mathlib.Core.Path.{refl, ap, ap₂}
 use mathlib.Core.List.{List, [], _∷_, _++_}
 use mathlib.Core.Bool.{Bool, true, false, not, _&&_, cond}
 use mathlib.Core.Option.{Option, none, some}
 use native.Mathlib.Omega.{arith}
 use lib.ListN.{length, getD, replicate, length-append}
 use lib.Dec.{ltb, eqb, leb}
-use lib.IntN.{ℤ, pos, _+ℤ_}
+use lib.IntN.{ℤ}
 use Rattle.definition.specs.declared.Statement.{Statement}
 use Rattle.definition.specs.declared.FunctionDef.{FunctionDef}
-use Rattle.definition.specs.Checks.{Conditions, _otherwise_}
+use Rattle.definition.specs.Checks.{_otherwise_}
 use Rattle.definition.specs.File.{greatestPointer, negative, Contents, noFunction, isBuiltin, builtinOf}
 use Rattle.definition.specs.Floats.{roundingOf}
 use Rattle.definition.specs.Cells.{string, float, entity, field, function, pointer, cellOf, signed, Typing, access, mustBeNatural, fieldAccess}

@@ -1,11 +1,11 @@
 -- ENTRY AND RETURN, and one step, once with the file's count of cells and once with more (document 02, R-7), of two programs with the same functions.
-use Prim.Native.Nat.{ℕ, zero, suc, _+_, _-_, _≤_, _<_}
-use mathlib.Core.Path.{_≡_, refl, sym, _∙_, ap}
+use Prim.Native.Nat.{ℕ, zero, suc, _+_, _-_, _≤_}
+use mathlib.Core.Path.{_≡_, refl, ap}
 use mathlib.Core.List.{List, [], _∷_}
 use mathlib.Core.Bool.{Bool, true, false, _&&_, _||_}
 use native.Mathlib.Omega.{arith}
 use borrow.Author.Tests.{ltb-true, lt-ltb, leb-true, le-leb}
-use lib.ListN.{length, take, drop, length-drop}
+use lib.ListN.{length, drop, length-drop}
 use lib.Seq.{paste}
 use lib.Dec.{ltb, leb, eqb}
 use lib.IntN.{ℤ, pos, _+ℤ_}
@@ -15,7 +15,7 @@ use Rattle.definition.specs.Checks.{Conditions, judge, decided, guard}
 use Rattle.definition.specs.CheckLaws.{All, judge-passed, judge-all, and-left, and-right, and-both}
 use Rattle.definition.specs.File.{savedStore}
 use Rattle.definition.specs.Statements.{Does, next, puts, calls, returns, refuses, handsOver}
-use Rattle.definition.specs.Machine.{Program, functionOf, State, Config, countOf, limits, present, Copy, copied, successive, argumentsOf, copiesPresent, withCells}
+use Rattle.definition.specs.Machine.{Program, functionOf, State, Config, countOf, limits, present, Copy, copied, successive, argumentsOf, copiesPresent}
 use Rattle.definition.specs.Machine.{entryConditions, entered, leaveConditions, left, returnConditions, returned, Stepped, completed, refusedStep, handedStep, asStep, stepAs}
 use Rattle.definition.specs.Parts.{Present, present-true, length-copied}
 use Rattle.padding_laws.specs.Cells.{Agree, same-present, agree-copied, agree-paste}
@@ -40,7 +40,7 @@ withFile r cells c = record { state = recordedAs r (c .state); cells = cells; sa
 
 -- ---- ranges and copies that are present
 
-present-still : (a k n more : ℕ) → n ≤ more → present a k n ≡ true → present a k more ≡ true
+pub present-still : (a k n more : ℕ) → n ≤ more → present a k n ≡ true → present a k more ≡ true
 unfolding present
 present-still a k n more h e = go (eqb k 0) e
   where
@@ -48,7 +48,7 @@ present-still a k n more h e = go (eqb k 0) e
     go true e = refl
     go false e = le-leb (a + k) more (omega (arith, leb-true (a + k) n e))
 
-copies-still : (ms : List Copy) (n more : ℕ) → n ≤ more → copiesPresent n ms ≡ true → copiesPresent more ms ≡ true
+pub copies-still : (ms : List Copy) (n more : ℕ) → n ≤ more → copiesPresent n ms ≡ true → copiesPresent more ms ≡ true
 unfolding copiesPresent
 copies-still [] n more h e = refl
 copies-still (m ∷ ms) n more h e =
