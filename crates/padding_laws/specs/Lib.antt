@@ -1,4 +1,5 @@
--- Laws of padded program files, document 02's R-7: what a statement does with 64 cells lent, and the load of a padded file.
+-- Laws of padded program files, document 02's R-7. They are in PaddedFile, Padding and Loads; the modules before these go through the statements, one shape
+-- after another.
 pub mod Cells
 pub mod Conditions
 pub mod Effects
