@@ -78,7 +78,7 @@ same-number n = eq-eqb n n refl
 same-lump : (l : Lump) → sameLump l l ≡ true
 same-lump l = rw (same-number (l .offset), same-number (l .count))
 
-same-file : (r : FileRecord) → sameFile r r ≡ true
+pub same-file : (r : FileRecord) → sameFile r r ≡ true
 unfolding sameFile
 same-file r =
     rw (

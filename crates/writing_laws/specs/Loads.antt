@@ -69,7 +69,7 @@ layout-fits s g d u t c e h =
     (lump-fits 4 (r .length) (r .globals) (omega arith) (omega arith) h)
 
 -- the row "header", under the check number that a load asks for
-header-loads : (k : Contents) → AllEight k → length (written checkNumber k) ≤ longestFile → All (headerConditions (written checkNumber k))
+pub header-loads : (k : Contents) → AllEight k → length (written checkNumber k) ≤ longestFile → All (headerConditions (written checkNumber k))
 unfolding headerConditions layout
 header-loads k e h =
     let file : fileOf (written checkNumber k) ≡ layoutOf k = file-written checkNumber k e in
@@ -86,7 +86,7 @@ header-loads k e h =
     )
 
 -- what a load counts of a file is as many as the contents have
-counts-strings : (file : List ℕ) → length (contentsOf file .strings) ≡ fileOf file .strings .count
+pub counts-strings : (file : List ℕ) → length (contentsOf file .strings) ≡ fileOf file .strings .count
 unfolding contentsAt
 counts-strings file = length-records (byteAt file) 1 _ _
 
