@@ -956,11 +956,11 @@ FLOAT_STATEMENTS = {
 LARGEST_SHOWN = 65_536
 
 
-def show(file):
-    """The line that the show program prints for a file, without its line end."""
+def show(file, fewest_cells=FEWEST_CELLS):
+    """The line that the show program prints for a file, without its line end; with fewer cells than 64, as it was before R-7."""
     if len(file) > LARGEST_SHOWN:
         return "refused,1"
-    machine = Machine(file, [0] * MOST_CELLS, [0] * MOST_SAVED)
+    machine = Machine(file, [0] * MOST_CELLS, [0] * MOST_SAVED, fewest_cells=fewest_cells)
     answer = machine.load()
     if answer.word == "refused":
         return f"refused,{answer.detail}"
