@@ -27,7 +27,10 @@ returns : tie.Need-returns
 returns c = refused-13 _ _ _ (sym (c .before .check-state .ensures) ∙ not-true _ (c .if1 .taken))
 
 write-program-requires : tie.Need-write-program-requires
-write-program-requires c κs = (within (c .before) .loaded .lumps, (omega (arith, within (c .before) .size-most), omega (arith, lump-fitting 4 _ _ (within (c .before) .loaded .lumps .globals) .count)))
+write-program-requires c κs =
+    let s = c .before .before .before .before .before .before .before .before .args in
+    let w = within (c .before) in
+    (w .loaded .lumps, (omega (arith, w .size-most), omega (arith, lump-fitting 4 (length (s .file .now)) (s .context .file .globals) (w .loaded .lumps .globals) .count)))
 
 returns-2 : tie.Need-returns-2
 returns-2 c = past-13 _ _ _ _ _ (sound-here (c .before .before .before .before)) (within (c .before .before .before .before) .loaded .same) (rw padded-none at (c .before .before .write-program .ensures))
