@@ -1338,6 +1338,26 @@ class Padding(unittest.TestCase):
         self.assertEqual((answer, machine.statement(), machine.cells[36]), (ACCEPTED, ACCEPTED, TWO))
         self.assertEqual((machine.read(63), machine.read(64)), (ACCEPTED, refused(15)))
 
+    def test_whole_runs(self):
+        """Function 1 of each file of fewer cells, as it ran before and after padding; 15 alone may differ."""
+        words = set()
+        for file, got in pad_cases().seen:
+            before = Machine(bytearray(file), [0] * 64, [0] * 2048, fewest_cells=36)
+            if got.startswith(b"refused") or before.load() != ACCEPTED:
+                continue
+            after = Machine(bytearray(got), [0] * 64, [0] * 2048)
+            self.assertEqual(after.load(), ACCEPTED)
+            old, new = before.enter(1), after.enter(1)
+            if old == new == ACCEPTED:
+                old, new = before.run(0, 99_999), after.run(0, 99_999)
+            if old[:2] == refused(15)[:2]:
+                continue
+            state = replace(after.state, length=before.state.length, lumps=before.state.lumps)
+            self.assertEqual((new, state), (old, before.state))
+            self.assertEqual((after.cells, after.saved_store), (before.cells, before.saved_store))
+            words.add(old.word)
+        self.assertEqual(words, {"ended", "spent", "refused", "builtin", "opcode"})
+
     def test_programs_made_by_chance(self):
         """Each statement of their runs, with fewer cells."""
         done = 0
