@@ -88,3 +88,49 @@ impl fmt::Display for Run {
         f.pad(&String::from_utf8_lossy(&self.sentence()))
     }
 }
+
+#[cfg(test)]
+mod tests {
+    use super::*;
+
+    fn line(word: u32, detail: u32) -> String {
+        let answer = Answer {
+            word,
+            detail,
+            count: 7,
+        };
+        let mut display = [0; DISPLAY];
+        let written = library::sentence(answer, -1, 2, &mut display);
+        assert_eq!(written.refusal, 0);
+        String::from_utf8(display[..written.length].to_vec()).unwrap()
+    }
+
+    /// Words that no run answers are taken for 3, and a detail that none has is told as it is.
+    #[test]
+    fn any_numbers() {
+        let words = [
+            (0, "refused"),
+            (1, "ended"),
+            (2, "spent"),
+            (3, "refused"),
+            (4, "builtin"),
+            (5, "opcode"),
+            (6, "refused"),
+            (260, "refused"),
+            (u32::MAX, "refused"),
+        ];
+        for (word, name) in words {
+            for detail in [0, 12, 256, u32::MAX] {
+                let told =
+                    format!("Run {name}, detail {detail}, statements 7, position -1, function 2.");
+                assert_eq!(line(word, detail), told);
+            }
+        }
+    }
+
+    #[test]
+    fn a_refused_buffer_has_no_length() {
+        let written = library::sentence(Answer::default(), 0, 0, &mut [0; DISPLAY - 1]);
+        assert_eq!((written.length, written.refusal), (0, 12));
+    }
+}
