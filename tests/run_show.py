@@ -22,26 +22,26 @@ def cases():
         yield "longer-%d" % length, bytes(length), "refused,1"
 
 
-def printed(content):
-    """What show prints for a file that comes in two parts. It need not read all of a longer one."""
-    show = subprocess.Popen([SHOW], stdin=subprocess.PIPE, stdout=subprocess.PIPE)
+def output(path, content):
+    """What a program writes for a file that comes in two parts. It need not read all of a longer one."""
+    program = subprocess.Popen([path], stdin=subprocess.PIPE, stdout=subprocess.PIPE)
     try:
         half = len(content) // 2
         for part in content[:half], content[half:]:
-            show.stdin.write(part)
-            show.stdin.flush()
-        show.stdin.close()
+            program.stdin.write(part)
+            program.stdin.flush()
+        program.stdin.close()
     except BrokenPipeError:
         pass
-    line = show.stdout.read().decode()
-    show.wait()
-    return line
+    written = program.stdout.read()
+    program.wait()
+    return written
 
 
 def main():
     count, differ = 0, 0
     for name, content, line in cases():
-        got = printed(content)
+        got = output(SHOW, content).decode()
         count += 1
         if got != line + "\n":
             differ += 1

@@ -1,11 +1,11 @@
 #!/usr/bin/env python3
-"""Makes what the programs show, file_cases, call_cases and trace read, and what they must write:
+"""Makes what the programs show, pad, file_cases, call_cases and trace read, and what they must write:
 
     python3 tools/cases.py            writes crates/NAME/stdin and crates/NAME/stdout
     python3 tools/cases.py --check    says which of the committed files are not these
 
 show's file and line are document 01's. Those of the others are taken from tests/model/cases, whose answers are the
-model's: file_cases reads `NAME LENGTH HEX` and writes `NAME LINE`; call_cases reads what stands before `=` in calls.txt
+model's: pad reads one file of pads.txt (tests/run_pad.py runs it on all); file_cases reads `NAME LENGTH HEX` and writes `NAME LINE`; call_cases reads what stands before `=` in calls.txt
 and writes what stands after it, and trace likewise in traces.txt. tests/model/README.md has the formats. Nothing here comes from a run of the machine.
 """
 import os
@@ -14,6 +14,8 @@ import sys
 
 ROOT = os.path.dirname(os.path.dirname(os.path.abspath(__file__)))
 
+# the file of pads.txt that pad reads: lumps in another order, gaps between them, profile numbers
+PADDED = "47-cells-gaps"
 # opcodes of document 01's example
 DONE, ADD_F, RETURN = 0, 6, 43
 
@@ -47,12 +49,26 @@ def text(rows):
     return "".join(row + "\n" for row in rows).encode()
 
 
+def bytes_of(length, text):
+    return bytes.fromhex(text.strip("-")).ljust(int(length), b"\0")
+
+
+def padded():
+    """A file of pads.txt, and what is written for it."""
+    line = next(line for line in lines("pads.txt") if line.startswith(PADDED + " "))
+    given, answer = line.split(" = ")
+    return bytes_of(*given.split(" ")[1:]), bytes_of(*answer.split(" "))
+
+
 def made():
     """Each file below crates/ with its bytes."""
     files = [line.split(" ") for line in lines("files.txt")]
     calls = [line.split(" = ") for line in lines("calls.txt")]
     traces = [line.split(" = ") for line in lines("traces.txt")]
+    unpadded, written = padded()
     return {
+        "pad/stdin": unpadded,
+        "pad/stdout": written,
         "show/stdin": example(),
         "show/stdout": b"ended,0,2,0,0,0,0,40700000,00000000,00000000\n",
         "file_cases/stdin": text(" ".join([name, length, given]) for name, length, given, _ in files),

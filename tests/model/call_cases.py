@@ -254,7 +254,7 @@ def load_calls(c):
         (HOUSE.place(STATEMENTS, 3), 66, 7),
         (HOUSE.place(GLOBAL_DEFS, 1), 8 + (29 << 16), 8),
         (HOUSE.place(GLOBAL_DEFS, 1) + 4, -1, 6),
-        (52, 35, 10),
+        (52, 63, 10),
         (56, 104, 11),
     ):
         old = struct.unpack_from("<i", c.machine.file, offset)[0]
@@ -354,7 +354,10 @@ def state_calls(c):
     c.no(13, *ANY_CALL)
     both(2 * FUNCTIONS + 1, 2)
     c.ok("get 1", "abandon 0")
-    c.new("lumps that moved in file and state: what they hold now counts", HOUSE)
+    longer = house(cell_count=70).bytes()
+    struct.pack_into("<h", longer, HOUSE.place(STATEMENTS, 3) + 2, 62)  # the Return's operand
+    struct.pack_into("<i", longer, local_place(OUTER, "local"), 63)
+    c.new("lumps that moved in file and state: what they hold now counts", longer, 70)
     c.ok("load 0")
     both(2 * STATEMENTS + 1, 1)
     c.ok("enter 1")
@@ -362,18 +365,18 @@ def state_calls(c):
     both(2 * STATEMENTS + 1, 2)
     c.ok("statement")
     both(2 * STATEMENTS + 1, 13)
-    both(2 * CELLS + 1, 41)
+    both(2 * CELLS + 1, 64)
     c.ok("field 14 3")
-    c.no(15, "statement", "get 41")
+    c.no(15, "statement", "get 64")
     c.no(15, "abandon 0")
     both(2 * GLOBAL_DEFS + 1, 0)
-    c.new("13: cells and cells per entity outside 10 and 11, though as recorded", HOUSE, 64)
+    c.new("13: cells and cells per entity outside 10 and 11, though as recorded", house(cell_count=65), 65)
     c.ok("load 0", "enter 13")
-    both(2 * CELLS + 1, 35)
+    both(2 * CELLS + 1, 63)
     c.no(13, *ANY_CALL)
-    both(2 * CELLS + 1, 36)
-    c.ok("get 1")
     both(2 * CELLS + 1, 64)
+    c.ok("get 1")
+    both(2 * CELLS + 1, 65)
     both(12, 104)
     c.no(13, *ANY_CALL)
     both(12, -1)

@@ -246,7 +246,7 @@ def load_calls(c):
     c.no(12, "load 0", "load 1", "load 2", "load 601", "load -1")
     c.ok("byte 56 104")
     c.no(11, "load 0", "load 601", "load -1")
-    c.ok("byte 52 35")
+    c.ok("byte 52 63")
     c.no(10, "load 2")
 
 

@@ -106,8 +106,8 @@ def header_files(f):
     f.add("backward", small_program(layout=(5, 4, 3, 2, 1, 0)), ENDED)
     f.add("gaps", small_program(layout=(3, 5, 1, 0, 4, 2), gap=3), ENDED)
     f.add("strings-are-the-file", with_lump(STRINGS, offset=0, count=len(whole)), ENDED)
-    cells_are_header = with_lump(CELLS, offset=0, count=36)
-    # cell 28 lies past the header, in the statements
+    cells_are_header = with_lump(CELLS, offset=0, count=64)
+    # cell 28 lies past the header, in the functions
     f.add("cells-are-the-header", cells_are_header, "ended,0,2,0,0,0,0,")
     same = with_lump(FIELD_DEFS, offset=small_program().place(GLOBAL_DEFS))
     f.add("fields-are-definitions", same, ENDED)
@@ -117,8 +117,8 @@ def header_files(f):
     same = with_lump(STATEMENTS, offset=small_program().place(FUNCTIONS), count=9)
     f.add("statements-are-functions", same, "ended,0,1,")  # function 1's first record is a Done
     f.note("cells and cells per entity")
-    for count in (35, 36, 37):
-        f.add(f"{count}-cells", small_program(cell_count=count), "refused,10" if count < 36 else ENDED)
+    for count in (63, 64, 65):
+        f.add(f"{count}-cells", small_program(cell_count=count), "refused,10" if count < 64 else ENDED)
     for count in (-1, 104, 105, 2**31 - 1):
         begins = ENDED if count >= 105 else "refused,11"
         f.add(f"{count}-entity-cells", small_program(cells_per_entity=count), begins)
@@ -185,8 +185,8 @@ def record_files(f):
     f.add("field-6-before-9", defined(fields=[(SAVE_FLAG | 8, 0, -1)]), "refused,6")
     f.add("field-9-before-8", defined(fields=[(SAVE_FLAG | 8, 0)]), "refused,9")
     f.add("field-8-in-an-earlier-record", defined(fields=[(8, 0), (SAVE_FLAG, 0)]), "refused,8")
-    f.add("fields-before-cells", program(fields=[(8, 0)], cell_count=35), "refused,8")
-    f.add("10-before-11", program(cell_count=35, cells_per_entity=104), "refused,10")
+    f.add("fields-before-cells", program(fields=[(8, 0)], cell_count=63), "refused,8")
+    f.add("10-before-11", program(cell_count=36, cells_per_entity=104), "refused,10")
     f.add("6-before-11", program(functions=[function(name=1)], cells_per_entity=104), "refused,6")
 
 

@@ -96,7 +96,7 @@ RULE_STATEMENTS = [
 RULE_CELLS = {0: 0x80000001, 28: flt(1.5), 29: flt(2.25), 30: flt(7.0), 40: 3, 41: 2, 63: 0xFFFFFFFF}
 
 
-def rule_file(profiles=(0, 0, 0, 0), **parts):
+def rule_file(profiles=(0, 0, 0, 0), cells=RULE_CELLS, **parts):
     """A file with records in every lump, and no two alike."""
     functions = [
         function(),
@@ -111,7 +111,7 @@ def rule_file(profiles=(0, 0, 0, 0), **parts):
         [(FLOAT | SAVE_FLAG, 28, 1), (VOID, 28, 6), (POINTER | SAVE_FLAG, 65535, 13), (STRING, 45)],
         [(ENTITY, 65535, 1), (VOID, 0, 6), (FLOAT, 104, 11)],
         strings=STRING_BYTES,
-        cells=RULE_CELLS,
+        cells=cells,
         cells_per_entity=117,
         **parts,
     )
@@ -174,28 +174,28 @@ def placement_images(c):
 
 
 def empty_images(c):
-    for offsets in ([0] * 5, [FAR] * 5, [1, FAR, 59, 204, 205], [60] * 5):
-        file = placed([*sum(([at, 0] for at in offsets), []), 60, 36], 204, struct.pack("<36i", *range(36)))
-        assert joined(file)[:60] == struct.pack("<15i", 6, 5927, *[60, 0] * 5, 60, 36, 105)
+    for offsets in ([0] * 5, [FAR] * 5, [1, FAR, 59, 316, 317], [60] * 5):
+        file = placed([*sum(([at, 0] for at in offsets), []), 60, 64], 316, struct.pack("<64i", *range(64)))
+        assert joined(file)[:60] == struct.pack("<15i", 6, 5927, *[60, 0] * 5, 60, 64, 105)
         c.both(f"no lump but cells, the empty ones at {', '.join(map(str, offsets))}", file)
     for lump, part in ((STATEMENTS, "statements"), (GLOBAL_DEFS, "definitions"), (FIELD_DEFS, "fields"), (FUNCTIONS, "functions")):
         parts = dict(statements=[("Done", 1, 2, 3)], definitions=[(FLOAT, 4)], fields=[(FLOAT, 5)], functions=[function(6)])
         for at in (0, FAR):
-            file = Assembly(**{**parts, part: ()}, cell_count=36)
+            file = Assembly(**{**parts, part: ()})
             file.lumps[2 * lump] = at
             c.both(f"no {part}, at {at}", file)
 
 
 def overlap_images(c):
     body = ANY_RECORDS
-    same = [60, 4, 60, 4, 60, 4, 60, 2, 60, 36, 60, 36]
-    file = placed(same, 204, body)
+    same = [60, 4, 60, 4, 60, 4, 60, 2, 60, 36, 60, 64]
+    file = placed(same, 316, body)
     assert joined(file)[60 + 96 + 12 : 60 + 96 + 20] == struct.pack("<2i", 0, 3)  # function 0's profile, then its name
     assert joined(file)[60 + 96 + 72 :][:36] == body  # the strings keep those bytes
     c.both("six lumps at one place, a profile number that is part of the others too", file)
-    c.both("lumps that overlap in part, at odd places", placed([68, 3, 60, 4, 68, 2, 60, 1, 59, 100, 63, 36], 207, body))
+    c.both("lumps that overlap in part, at odd places", placed([68, 3, 60, 4, 68, 2, 60, 1, 59, 100, 63, 64], 319, body))
     # statement AddF 0 5927 0; definitions: void of cell 0 named 1, string of cell 0 named 8; a function of profile number 1
-    inside = placed([0, 1, 8, 1, 12, 1, 8, 1, 0, 144, 0, 36], 144)
+    inside = placed([0, 1, 8, 1, 12, 1, 8, 1, 0, 256, 0, 64], 256)
     assert joined(inside)[60:68] == struct.pack("<4h", 6, 0, 5927, 0)
     assert joined(inside)[84:120] == struct.pack("<9i", 0, 1, 8, 0, 12, 1, 8, 1, 0)
     c.both("all lumps in the header, whose bytes are written as the file has them", inside)
@@ -217,7 +217,7 @@ def long_images(c):
         c.ok("load 0")
         c.not_written(34, len(written), len(written) + 1, LARGEST_FILE, 0)
         c.ok("get 0")
-    file = placed([0, 0, 0, 0, 0, 0, 0, 0, 204, LARGEST_FILE - 204, 60, 36], LARGEST_FILE, bytes(144) + b"text")
+    file = placed([0, 0, 0, 0, 0, 0, 0, 0, 316, LARGEST_FILE - 316, 60, 64], LARGEST_FILE, bytes(256) + b"text")
     c.both("1,048,576 bytes, all but header and cells strings", file)
     c.both("32,768 cells", placed([0, 0, 0, 0, 0, 0, 0, 0, 0, 1, 60, 32_768], 60 + 4 * 32_768, ANY_RECORDS), 32_768)
 

@@ -1,4 +1,4 @@
-"""Writes the case files cases/statements.txt, cases/files.txt, cases/calls.txt, cases/traces.txt and cases/images.txt.
+"""Writes the case files: cases/statements.txt, files.txt, calls.txt, traces.txt, images.txt and pads.txt.
 
 What is expected in them is what model.py answers.  README.md says how to read them.  The same
 files come out every time: the only chance numbers are those of a xorshift with fixed seeds.
@@ -9,6 +9,7 @@ import os
 from call_cases import call_cases
 from file_cases import file_cases
 from image_cases import image_cases
+from pad_cases import pad_cases
 from statement_cases import statement_vectors
 from trace_cases import trace_cases
 
@@ -16,9 +17,9 @@ FOLDER = os.path.join(os.path.dirname(os.path.abspath(__file__)), "cases")
 
 
 def make():
-    """The five case files' texts, by name, and the makers that know what they hold."""
+    """The case files' texts, by name, and the makers that know what they hold."""
     makers = {"statements.txt": statement_vectors(), "files.txt": file_cases(), "calls.txt": call_cases()}
-    makers |= {"traces.txt": trace_cases(), "images.txt": image_cases()}
+    makers |= {"traces.txt": trace_cases(), "images.txt": image_cases(), "pads.txt": pad_cases()}
     texts = {name: "\n".join(maker.lines) + "\n" for name, maker in makers.items()}
     return texts, makers
 

@@ -203,7 +203,8 @@ VERSION = 6
 CHECK_NUMBER = 5927
 HEADER_SIZE = 60
 LARGEST_FILE = 1_048_576
-FEWEST_CELLS = 36
+FEWEST_CELLS = 64  # R-7: "Files of 36 to 63 cells are refused 10 from now on."
+FEWEST_PADDED = 36  # what the padding program "alone still admits"
 MOST_CELLS = 32_768
 FEWEST_PER_ENTITY = 105
 DEEPEST = 31
@@ -301,14 +302,16 @@ class Program:
         # "from the file's own cells and not from the running ones"
         return b"".join(struct.pack("<I", self.cell(i)) for i in numbers)
 
-    def written(self, cells_per_entity):
-        """R-6: the program's file, "header, then the six lumps in header order without gaps"."""
+    def written(self, cells_per_entity, added=0):
+        """R-6: the program's file, "header, then the six lumps in header order without gaps", with so many
+        zero cells added."""
         header, body = [VERSION, CHECK_NUMBER], b""
         for lump in range(6):
             # an empty lump's offset is where it would begin, as any other's
             header += [HEADER_SIZE + len(body), self.count(lump)]
             body += self.packed(lump)
-        return struct.pack("<15i", *header, cells_per_entity) + body
+        header[-1] += added  # the cells are the last lump
+        return struct.pack("<15i", *header, cells_per_entity) + body + bytes(RECORD_SIZES[CELLS] * added)
 
 
 # ---------------------------------------------------------------------------------------------
@@ -373,11 +376,16 @@ def check_same_type(definition, wanted):
 
 
 class Machine:
-    """Lent file bytes, cells, saved store and entity cells, and the state."""
+    """Lent file bytes, cells, saved store and entity cells, and the state.
 
-    def __init__(self, file, cells, saved_store, entity_cells=()):
+    `fewest_cells` is the least count of cells by which 10 refuses; another than 64 is for the padding
+    program and for the machine as it was before R-7.
+    """
+
+    def __init__(self, file, cells, saved_store, entity_cells=(), fewest_cells=FEWEST_CELLS):
         self.file, self.cells, self.saved_store = file, cells, saved_store
         self.entity_cells = entity_cells  # entity after entity, from 0
+        self.fewest_cells = fewest_cells
         self.state = State()
         self._written = []  # (buffer, index, what stood there), to undo a refusal
 
@@ -448,7 +456,7 @@ class Machine:
                 check(lump == GLOBAL_DEFS or not definition.type & SAVE_FLAG, 9)
                 check(definition.type & ~SAVE_FLAG <= POINTER, 8)
         cell_count = program.count(CELLS)
-        check(FEWEST_CELLS <= cell_count <= MOST_CELLS, 10)
+        check(self.fewest_cells <= cell_count <= MOST_CELLS, 10)
         check(cells_per_entity >= FEWEST_PER_ENTITY, 11)
         check(len(self.cells) >= cell_count and len(self.saved_store) >= MOST_SAVED, 12)
         # R-3: "More than 600 entities, or lent entity cells too few for them, are refused 13, at
@@ -491,7 +499,7 @@ class Machine:
         if lumps != state.lumps or not lumps_fit(lumps, len(file)):
             return False
         cell_count = lumps[2 * CELLS + 1]
-        if not FEWEST_CELLS <= cell_count <= MOST_CELLS:
+        if not self.fewest_cells <= cell_count <= MOST_CELLS:
             return False
         if cells_per_entity != state.cells_per_entity or cells_per_entity < FEWEST_PER_ENTITY:
             return False
@@ -948,11 +956,11 @@ FLOAT_STATEMENTS = {
 LARGEST_SHOWN = 65_536
 
 
-def show(file):
-    """The line that the show program prints for a file, without its line end."""
+def show(file, fewest_cells=FEWEST_CELLS):
+    """The line that the show program prints for a file, without its line end; with fewer cells than 64, as it was before R-7."""
     if len(file) > LARGEST_SHOWN:
         return "refused,1"
-    machine = Machine(file, [0] * MOST_CELLS, [0] * MOST_SAVED)
+    machine = Machine(file, [0] * MOST_CELLS, [0] * MOST_SAVED, fewest_cells=fewest_cells)
     answer = machine.load()
     if answer.word == "refused":
         return f"refused,{answer.detail}"
@@ -963,6 +971,29 @@ def show(file):
     numbers = (answer.detail, answer.count, state.position, state.function, state.depth, state.saved)
     cells = [f"{machine.cells[cell]:08x}" for cell in (1, 2, 3)]
     return ",".join([answer.word, *map(str, numbers), *cells])
+
+
+# ---------------------------------------------------------------------------------------------
+# The padding program (R-7)
+# ---------------------------------------------------------------------------------------------
+
+LARGEST_PADDED = 65_536
+
+
+def pad(file):
+    """All that the padding program writes for a file: "It reads and refuses as the show program does"."""
+    if len(file) > LARGEST_SHOWN:
+        return b"refused,1\n"
+    machine = Machine(file, [0] * MOST_CELLS, [0] * MOST_SAVED, fewest_cells=FEWEST_PADDED)
+    answer = machine.load()
+    if answer.word == "refused":
+        return f"refused,{answer.detail}\n".encode()
+    state = machine.state
+    # "it writes them by R-6 with zero cells added up to 64 and everything else equal"
+    missing = max(FEWEST_CELLS - state.lumps[2 * CELLS + 1], 0)
+    padded = Program(file, state.lumps).written(state.cells_per_entity, missing)
+    # "over 65,536 bytes to write is 34"
+    return padded if len(padded) <= LARGEST_PADDED else b"refused,34\n"
 
 
 # ---------------------------------------------------------------------------------------------

@@ -71,8 +71,9 @@ MUTANTS = [
     ("                check_name(definition.name)\n                check(lump", "                check(lump"),
     ("for lump in (GLOBAL_DEFS, FIELD_DEFS):", "for lump in (FIELD_DEFS, GLOBAL_DEFS):"),
     ("                check(lump == GLOBAL_DEFS or not definition.type & SAVE_FLAG, 9)\n", ""),
-    ("FEWEST_CELLS = 36", "FEWEST_CELLS = 37"),
-    ("FEWEST_CELLS = 36", "FEWEST_CELLS = 35"),
+    ("FEWEST_CELLS = 64", "FEWEST_CELLS = 65"),
+    ("FEWEST_CELLS = 64", "FEWEST_CELLS = 63"),
+    ("FEWEST_CELLS = 64", "FEWEST_CELLS = 36"),
     ("MOST_CELLS = 32_768", "MOST_CELLS = 32_769"),
     ("MOST_CELLS = 32_768", "MOST_CELLS = 32_767"),
     ("FEWEST_PER_ENTITY = 105", "FEWEST_PER_ENTITY = 106"),
@@ -87,7 +88,10 @@ MUTANTS = [
     ("if lumps != state.lumps or not lumps_fit(lumps, len(file)):", "if lumps != state.lumps:"),
     ("if lumps != state.lumps or", "if lumps[:4] + lumps[6:] != state.lumps[:4] + state.lumps[6:] or"),
     ("if lumps != state.lumps or", "if lumps[:8] + lumps[10:] != state.lumps[:8] + state.lumps[10:] or"),
-    ("        if not FEWEST_CELLS <= cell_count <= MOST_CELLS:\n            return False\n", ""),
+    ("        if not self.fewest_cells <= cell_count <= MOST_CELLS:\n            return False\n", ""),
+    ("        if not self.fewest_cells <= cell_count <= MOST_CELLS:\n", "        if not FEWEST_PADDED <= cell_count <= MOST_CELLS:\n"),
+    ("check(self.fewest_cells <= cell_count <= MOST_CELLS, 10)", "check(FEWEST_PADDED <= cell_count <= MOST_CELLS, 10)"),
+    ("check(self.fewest_cells <= cell_count <= MOST_CELLS, 10)", "check(cell_count <= MOST_CELLS, 10)\n        check(self.fewest_cells <= cell_count, 12)"),
     ("if cells_per_entity != state.cells_per_entity or cells_per_entity < FEWEST_PER_ENTITY:", "if cells_per_entity != state.cells_per_entity:"),
     ("if cells_per_entity != state.cells_per_entity or cells_per_entity < FEWEST_PER_ENTITY:", "if cells_per_entity < FEWEST_PER_ENTITY:"),
     ("if len(self.cells) < cell_count or len(self.saved_store) < MOST_SAVED:", "if len(self.cells) < cell_count:"),
@@ -350,7 +354,7 @@ MUTANTS = [
     ("check(entities >= 0 and self._entities_fit(entities, cells_per_entity), 13)", "check(entities >= 0 and entities <= MOST_ENTITIES, 13)"),
     ("check(entities >= 0 and self._entities_fit(entities, cells_per_entity), 13)", "entities = max(0, entities)\n        check(self._entities_fit(entities, cells_per_entity), 13)"),
     ("        check(len(self.cells) >= cell_count and len(self.saved_store) >= MOST_SAVED, 12)\n", "        check(entities >= 0 and self._entities_fit(entities, cells_per_entity), 13)\n        check(len(self.cells) >= cell_count and len(self.saved_store) >= MOST_SAVED, 12)\n"),
-    ("        cell_count = program.count(CELLS)\n        check(FEWEST", "        check(entities >= 0, 13)\n        cell_count = program.count(CELLS)\n        check(FEWEST"),
+    ("        cell_count = program.count(CELLS)\n        check(self.fewest", "        check(entities >= 0, 13)\n        cell_count = program.count(CELLS)\n        check(self.fewest"),
     ("state = State(len(file), lumps, cells_per_entity, entities=entities)", "state = State(len(file), lumps, cells_per_entity)"),
     ("state = State(len(file), lumps, cells_per_entity, entities=entities)", "state = State(len(file), lumps, cells_per_entity, entities=len(self.entity_cells) // cells_per_entity)"),
     ("MOST_ENTITIES = 600", "MOST_ENTITIES = 601"),
@@ -537,7 +541,7 @@ MUTANTS = [
     # profile numbers made 0 in the file first, so that lumps over the functions lose bytes
     ("        header, body = [VERSION, CHECK_NUMBER], b\"\"\n", "        header, body, self.file = [VERSION, CHECK_NUMBER], b\"\", bytearray(self.file)\n        for i in range(self.count(FUNCTIONS)):\n            place = self.lumps[2 * FUNCTIONS] + 36 * i\n            self.file[place + 12 : place + 16] = bytes(4)\n"),
     # a lump in the header gets the new header's bytes
-    ("        return struct.pack(\"<15i\", *header, cells_per_entity) + body\n", "        self.file = bytearray(self.file)\n        struct.pack_into(\"<15i\", self.file, 0, *header, cells_per_entity)\n        return struct.pack(\"<15i\", *header, cells_per_entity) + b\"\".join(map(self.packed, range(6)))\n"),
+    ("        return struct.pack(\"<15i\", *header, cells_per_entity) + body + bytes(RECORD_SIZES[CELLS] * added)\n", "        self.file = bytearray(self.file)\n        struct.pack_into(\"<15i\", self.file, 0, *header, cells_per_entity)\n        return struct.pack(\"<15i\", *header, cells_per_entity) + b\"\".join(map(self.packed, range(6)))\n"),
     # the header
     ("header += [HEADER_SIZE + len(body), self.count(lump)]", "header += [self.lumps[2 * lump], self.count(lump)]"),
     ("header += [HEADER_SIZE + len(body), self.count(lump)]", "header += [self.lumps[2 * lump] if lump == STRINGS else HEADER_SIZE + len(body), self.count(lump)]"),
@@ -549,7 +553,7 @@ MUTANTS = [
     ("header, body = [VERSION, CHECK_NUMBER], b\"\"", "header, body = list(read_header(self.file)[:2]), b\"\""),
     ("header, body = [VERSION, CHECK_NUMBER], b\"\"", "header, body = [VERSION, read_header(self.file)[1]], b\"\""),
     ("header, body = [VERSION, CHECK_NUMBER], b\"\"", "header, body = [CHECK_NUMBER, VERSION], b\"\""),
-    ("        return struct.pack(\"<15i\", *header, cells_per_entity) + body\n", "        return struct.pack(\"<15i\", *header, FEWEST_PER_ENTITY) + body\n"),
+    ("        return struct.pack(\"<15i\", *header, cells_per_entity) + body + bytes(RECORD_SIZES[CELLS] * added)\n", "        return struct.pack(\"<15i\", *header, FEWEST_PER_ENTITY) + body\n"),
     ("        header, body = [VERSION, CHECK_NUMBER], b\"\"\n        for lump in range(6):\n", "        header, body = [VERSION, CHECK_NUMBER], b\"\"\n        for lump in (0, 1, 2, 3, 5, 4):\n"),
     # lumps in the file's order, the header's numbers in their own
     ("        header, body = [VERSION, CHECK_NUMBER], b\"\"\n        for lump in range(6):\n            # an empty lump's offset is where it would begin, as any other's\n            header += [HEADER_SIZE + len(body), self.count(lump)]\n            body += self.packed(lump)\n",
@@ -582,6 +586,37 @@ MUTANTS = [
     ("        return self._operation(lambda: self._image(output))\n", "        try:\n            return self._image(output)\n        except Refused as refusal:\n            return Answer(\"refused\", refusal.number)\n"),
     # 34 before 13
     ("        return self._operation(lambda: self._image(output))\n", "        if self.state.length and len(self._program.written(105)) > len(output):\n            return Answer(\"refused\", 34)\n        return self._operation(lambda: self._image(output))\n"),
+    # the padding program
+    ("FEWEST_PADDED = 36", "FEWEST_PADDED = 37"),
+    ("FEWEST_PADDED = 36", "FEWEST_PADDED = 35"),
+    ("FEWEST_PADDED = 36", "FEWEST_PADDED = 64"),
+    ("FEWEST_PADDED = 36", "FEWEST_PADDED = 0"),
+    ("LARGEST_PADDED = 65_536", "LARGEST_PADDED = 65_535"),
+    ("LARGEST_PADDED = 65_536", "LARGEST_PADDED = 65_537"),
+    ("LARGEST_PADDED = 65_536", "LARGEST_PADDED = 1_048_576"),
+    ("        header[-1] += added  #", "        #"),
+    ("        header[-1] += added  #", "        header[-2] += added  #"),
+    ("body + bytes(RECORD_SIZES[CELLS] * added)", "body + bytes(added)"),
+    ("body + bytes(RECORD_SIZES[CELLS] * added)", "body"),
+    # the zeros before the file's cells, or the file's bytes after them
+    ("body + bytes(RECORD_SIZES[CELLS] * added)", "body[: len(body) - 4 * self.count(CELLS)] + bytes(4 * added) + body[len(body) - 4 * self.count(CELLS) :]"),
+    ("body + bytes(RECORD_SIZES[CELLS] * added)", "body + bytes(self.file[self.lumps[10] + 4 * self.count(CELLS) :][: 4 * added]).ljust(4 * added, b\"\\0\")"),
+    ("    missing = max(FEWEST_CELLS - state.lumps[2 * CELLS + 1], 0)\n", "    missing = FEWEST_CELLS - FEWEST_PADDED\n"),
+    ("    missing = max(FEWEST_CELLS - state.lumps[2 * CELLS + 1], 0)\n", "    missing = max(FEWEST_CELLS - state.lumps[2 * CELLS + 1] - 1, 0)\n"),
+    ("    missing = max(FEWEST_CELLS - state.lumps[2 * CELLS + 1], 0)\n", "    missing = -state.lumps[2 * CELLS + 1] % FEWEST_CELLS\n"),
+    ("    if len(file) > LARGEST_SHOWN:\n        return b\"refused,1\\n\"\n", ""),
+    ("    if len(file) > LARGEST_SHOWN:\n        return b\"refused,1\\n\"\n", "    if len(file) > LARGEST_SHOWN:\n        return b\"refused,34\\n\"\n"),
+    ("return f\"refused,{answer.detail}\\n\".encode()", "return f\"refused,{answer.detail}\".encode()"),
+    ("return f\"refused,{answer.detail}\\n\".encode()", "return b\"refused,10\\n\""),
+    ("    padded = Program(file, state.lumps).written(state.cells_per_entity, missing)\n", "    padded = Program(file, state.lumps).written(FEWEST_PER_ENTITY, missing)\n"),
+    # what needs no cells is passed through as it is
+    ("    padded = Program(file, state.lumps).written(state.cells_per_entity, missing)\n", "    padded = Program(file, state.lumps).written(state.cells_per_entity, missing) if missing else bytes(file)\n"),
+    # the file's own form is kept, and the cells moved to its end
+    ("    padded = Program(file, state.lumps).written(state.cells_per_entity, missing)\n", "    padded = bytes(file[:48]) + struct.pack(\"<2i\", len(file), FEWEST_CELLS) + bytes(file[56:]) + Program(file, state.lumps).packed(CELLS) + bytes(4 * missing)\n"),
+    ("return padded if len(padded) <= LARGEST_PADDED else", "return padded if len(padded) - 4 * missing <= LARGEST_PADDED else"),
+    ("return padded if len(padded) <= LARGEST_PADDED else", "return padded + b\"\\n\" if len(padded) <= LARGEST_PADDED else"),
+    # 34 before the other refusals
+    ("    answer = machine.load()\n    if answer.word == \"refused\":\n        return f\"refused,{answer.detail}\\n\".encode()\n", "    if len(file) >= 60 and lumps_fit(read_header(file)[2], len(file)) and len(Program(file, read_header(file)[2]).written(105)) > LARGEST_PADDED:\n        return b\"refused,34\\n\"\n    answer = machine.load()\n    if answer.word == \"refused\":\n        return f\"refused,{answer.detail}\\n\".encode()\n"),
 ]
 
 

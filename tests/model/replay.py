@@ -84,6 +84,14 @@ def replay_files(model):
         yield line, expected, model.show(bytes_of(length, text))
 
 
+def replay_pads(model):
+    for line in lines_of("pads.txt"):
+        given, answer = line.split(" = ")
+        refused = answer.startswith("refused")
+        expected = f"{answer}\n".encode() if refused else bytes(bytes_of(*answer.split(" ")))
+        yield line, expected, model.pad(bytes_of(*given.split(" ")[1:]))
+
+
 def set_number(model, machine, field, value):
     """Sets one number of the state, counted as README.md counts them."""
     state = machine.state
@@ -211,7 +219,7 @@ def replay_traces(model):
         yield line, expected, " ".join(map(str, got))
 
 
-REPLAYS = (replay_statements, replay_calls, replay_files, replay_traces, replay_images)
+REPLAYS = (replay_statements, replay_calls, replay_files, replay_traces, replay_images, replay_pads)
 
 
 def differences(model):

@@ -1,6 +1,7 @@
 """Single statements on a file just loaded: cases/statements.txt."""
 
 import struct
+from collections import namedtuple
 
 from common import (
     FLOAT_ARITHMETIC, FLOAT_COMPARISONS, GREATEST, GREATEST_SUBNORMAL, HALF, LEAST, LEAST_NORMAL,
@@ -9,7 +10,7 @@ from common import (
 )
 from entity_cases import World, entity_vectors, last_cell_vectors
 from model import (
-    CELLS, ENTITY, FIELD, FLOAT, FUNCTION, FUNCTIONS, GLOBAL_DEFS, HOST_OPCODES, INFINITY, ONE,
+    CELLS, ENTITY, FEWEST_CELLS, FIELD, FLOAT, FUNCTION, FUNCTIONS, GLOBAL_DEFS, HOST_OPCODES, INFINITY, ONE,
     OPCODES, OPCODE_NUMBER, POINTER, QUIET_NAN, SAVE_FLAG, SIGN, STATEMENTS, STRING, STRINGS, VECTOR,
     VOID, Answer, Assembly, Machine, function, pack_statement,
 )
@@ -34,7 +35,7 @@ VECTOR_FUNCTIONS = [
     function(first=70000, local=-7),  # 11: begins past the statements, empty local range below 0
     function(local=5, locals=4, sizes=(3, 3, 2)),  # 12: arguments copied over arguments
     function(local=1, locals=3),  # 13: its locals are the return cells
-    function(local=35, locals=2),  # 14: refused 15 where there are 36 cells
+    function(local=35, locals=2),  # 14: two locals, no arguments
     function(local=-1, locals=1),  # 15: refused 15
     function(local=-1, sizes=(1,)),  # 16: refused 15, argument cells
     function(first=-36, arguments=-1),
@@ -44,6 +45,14 @@ VECTOR_FUNCTIONS = [
 ]
 
 
+def last_cell_functions(count):
+    """Those functions, but that 6 has its last argument and 14 its last local cell past so many cells: refused 15."""
+    functions = list(VECTOR_FUNCTIONS)
+    functions[6] = functions[6]._replace(local=count - 2)
+    functions[14] = functions[14]._replace(local=count - 1)
+    return functions
+
+
 NO_WORLD = World(0, 0, {})
 
 
@@ -51,10 +60,36 @@ def changes(before, after):
     return [(i, new) for i, (old, new) in enumerate(zip(before, after)) if old != new]
 
 
+# a statement, and what it finds: the file, the cells that are set, the function entered, bytes changed after that, entities
+Given = namedtuple("Given", "base statement cells enter pokes world")
+
+
+def prepared(given, fewest_cells=FEWEST_CELLS):
+    """A machine just before the statement."""
+    file, world = given.base.bytes(), given.world
+    cells = [0] * given.base.lumps[2 * CELLS + 1]
+    machine = Machine(file, cells, [0] * 2048, [0] * world.lent, fewest_cells)
+    assert machine.load(world.entities) == Answer("accepted")
+    if given.enter >= 0:
+        assert machine.enter(given.enter) == Answer("accepted")
+        assert machine.state.position == 0
+    for offset, byte in given.pokes:
+        file[offset] = byte
+    at = given.base.place(STATEMENTS)
+    file[at : at + 8] = pack_statement(given.statement)
+    for cell, value in given.cells.items():
+        cells[cell] = value
+    for index, value in world.given.items():
+        machine.entity_cells[index] = value
+    return machine
+
+
 class Vectors:
     """Writes vectors: single statements on a file just loaded."""
 
-    def __init__(self):
+    def __init__(self, fewest_cells=FEWEST_CELLS):
+        self.fewest_cells = fewest_cells
+        self.given = []
         self.lines = []
         self.seen = []  # (opcode, answer), for the tests of this maker
         self.base = None
@@ -75,22 +110,9 @@ class Vectors:
         )
 
     def add(self, opcode, a=0, b=0, c=0, cells=None, enter=-1, pokes=(), refused=None, world=NO_WORLD):
-        file, base = self.base.bytes(), self.base
-        machine = Machine(file, [0] * base.lumps[2 * CELLS + 1], [0] * 2048, [0] * world.lent)
-        assert machine.load(world.entities) == Answer("accepted")
-        if enter >= 0:
-            assert machine.enter(enter) == Answer("accepted")
-            assert machine.state.position == 0
-        for offset, byte in pokes:
-            file[offset] = byte
-        number = OPCODE_NUMBER.get(opcode, opcode)
-        at = base.place(STATEMENTS)
-        file[at : at + 8] = pack_statement((number, a, b, c))
-        cells = cells or {}
-        for cell, value in cells.items():
-            machine.cells[cell] = value
-        for index, value in world.given.items():
-            machine.entity_cells[index] = value
+        number, cells = OPCODE_NUMBER.get(opcode, opcode), cells or {}
+        self.given.append(Given(self.base, (number, a, b, c), cells, enter, pokes, world))
+        machine = prepared(self.given[-1], self.fewest_cells)
         before, entities_before = list(machine.cells), list(machine.entity_cells)
         answer = machine.statement()
         assert refused is None or answer == Answer("refused", refused), (opcode, a, b, c, cells, world, answer)
@@ -608,14 +630,15 @@ def typed_rounding_vectors(v):
     v.add("Call1", 36, 0, 0, {36: PLAIN}, pokes=both)
 
 
-def small_vectors(v):
-    for place in (33, 34, 35, 36):
+def last_place_vectors(v):
+    count = v.base.lumps[2 * CELLS + 1]
+    for place in range(count - 3, count + 1):
         v.add("NotV", place, 0, 28)
         v.add("AddF", 28, 29, place)
         v.add("SubV", 28, 28, place)
         v.add("Return", place, 0, 0, enter=PLAIN)
         v.add("StoreV", 28, place, 0, triple(28, (1, 2, 3)))
-        v.add("StoreV", place, 27, 0, triple(27, range(1, 10)))
+        v.add("StoreV", place, 27, 0, {**triple(27, (1, 2, 3)), **triple(count - 3, (7, 8, 9))})
     for number in (2, 6, 9, 14):
         v.add("Call0", 28, 0, 0, {28: number, **triple(4, range(204, 212))})
     v.add("Call1", 28, 0, 0, {28: CEIL, 4: HALF})
@@ -651,8 +674,8 @@ def statement_vectors():
     definitions = [(FUNCTION, 36), (FLOAT, 4), (FLOAT, 1), *[(STRING, cell) for cell in (1, 2, 3, 4, 5, 6, 37)]]
     v.file("64 cells, cells 1 to 6 defined", definitions=definitions, fields=[(STRING, 4), (STRING, 1)])
     typed_rounding_vectors(v)
-    v.file("36 cells, the fewest; lumps in another order", cell_count=36, layout=(5, 4, 3, 2, 1, 0))
-    small_vectors(v)
+    v.file("64 cells, the fewest; lumps in another order", functions=last_cell_functions(64), layout=(5, 4, 3, 2, 1, 0))
+    last_place_vectors(v)
     v.file(
         "32,768 cells, the most; cell 32768 is defined as a string, 32769 as a float",
         cell_count=32768,

@@ -6,6 +6,7 @@ Also: the arithmetic against C, compiled with gcc where there is one; the case f
 make_cases.py makes; and which opcodes and refusals the cases reach.
 """
 
+import copy
 import os
 import shutil
 import struct
@@ -16,12 +17,14 @@ import unittest
 import make_cases
 import model
 import replay
-from common import Xorshift, flt, triple
+from common import Xorshift, flt, random_program, triple
 from model import (
     BUILTINS, CELLS, ENTITY, FIELD, FIELD_DEFS, FLOAT, FUNCTION, FUNCTIONS, GLOBAL_DEFS, HOST_OPCODES, INFINITY,
     OPCODES, POINTER, QUIET_NAN, SAVE_FLAG, SIGN, STATEMENTS, STRING, STRINGS, VECTOR, VOID, Answer, Assembly, Frame,
     Machine, State, function, replace, show,
 )
+from pad_cases import pad_cases
+from statement_cases import Vectors, last_cell_functions, last_place_vectors, prepared, statement_vectors
 
 RULES = os.path.join(os.path.dirname(os.path.dirname(os.path.abspath(__file__))), "rules")
 
@@ -492,11 +495,12 @@ class Load(unittest.TestCase):
         self.assertEqual(BUILTINS, numbers)
 
     def test_cells(self):
-        self.assembly = Assembly(cell_count=35, cells_per_entity=104)
-        self.assertEqual(self.load(), refused(10))
-        self.assembly = Assembly(cell_count=36, cells_per_entity=104)
+        for count in (0, 35, 36, 50, 63):
+            self.assembly = Assembly(cell_count=count, cells_per_entity=104)
+            self.assertEqual(self.load(), refused(10))
+        self.assembly = Assembly(cell_count=64, cells_per_entity=104)
         self.assertEqual(self.load(), refused(11))
-        self.assembly = Assembly(cell_count=36)
+        self.assembly = Assembly(cell_count=64)
         self.assertEqual(self.load(), ACCEPTED)
 
 
@@ -1136,32 +1140,32 @@ class Images(unittest.TestCase):
     DEFINITION = bytes.fromhex("0280 1c00 01000000")  # a saved float, cell 28, name 1
     FUNCTION = "f9ffffff 03000000 02000000 %s 01000000 00000000 ffffffff 01020304050607ff"
     STRING_BYTES = b"\0a"
-    CELL_BYTES = bytes.fromhex("efbeadde" + "00" * 136 + "01000000")
-    # 60: statements; 68: global definitions; 76: field definitions, none, and functions; 112: strings; 114: 36 cells; 258
+    CELL_BYTES = bytes.fromhex("efbeadde" + "00" * 248 + "01000000")
+    # 60: statements; 68: global definitions; 76: field definitions, none, and functions; 112: strings; 114: 64 cells; 370
     HEADER = """06000000 27170000 3c000000 01000000 44000000 01000000 4c000000 00000000
-                4c000000 01000000 70000000 02000000 72000000 24000000 69000000"""
+                4c000000 01000000 70000000 02000000 72000000 40000000 69000000"""
 
     def setUp(self):
-        """Strings at 60, a byte of no lump, cells at 63, the function at 207, the definition at 243, the statement at 251."""
-        header = [6, 5927, 251, 1, 243, 1, 1000, 0, 207, 1, 60, 2, 63, 36, 105]
+        """Strings at 60, a byte of no lump, cells at 63, the function at 319, the definition at 355, the statement at 363."""
+        header = [6, 5927, 363, 1, 355, 1, 1000, 0, 319, 1, 60, 2, 63, 64, 105]
         function_bytes = bytes.fromhex(self.FUNCTION % "09000000")
         body = self.STRING_BYTES + b"?" + self.CELL_BYTES + function_bytes + self.DEFINITION + self.STATEMENT
         self.machine, answer = machine_of(struct.pack("<15i", *header) + body)
         self.assertEqual(answer, ACCEPTED)
         function_bytes = bytes.fromhex(self.FUNCTION % "00000000")
         self.expected = bytes.fromhex(self.HEADER) + self.STATEMENT + self.DEFINITION + function_bytes + self.STRING_BYTES + self.CELL_BYTES
-        self.assertEqual(len(self.expected), 258)
+        self.assertEqual(len(self.expected), 370)
 
     def test_byte_for_byte(self):
-        output = bytearray([238] * 261)
-        self.assertEqual(self.machine.image(output), Answer("accepted", 258))
+        output = bytearray([238] * 373)
+        self.assertEqual(self.machine.image(output), Answer("accepted", 370))
         self.assertEqual(output.hex(), self.expected.hex() + "eeeeee")
-        output = bytearray([238] * 258)
-        self.assertEqual(self.machine.image(output), Answer("accepted", 258))
+        output = bytearray([238] * 370)
+        self.assertEqual(self.machine.image(output), Answer("accepted", 370))
         self.assertEqual(output, self.expected)
 
     def test_too_short(self):
-        for size in (0, 1, 60, 257):
+        for size in (0, 1, 60, 369):
             output = bytearray([238] * size)
             before = everything(self.machine)
             self.assertEqual(self.machine.image(output), refused(34))
@@ -1170,9 +1174,9 @@ class Images(unittest.TestCase):
 
     def test_13_first(self):
         state = self.machine.state
-        for changed in (dict(saved=1), dict(depth=32), dict(entities=1), dict(length=258), dict(cells_per_entity=106)):
+        for changed in (dict(saved=1), dict(depth=32), dict(entities=1), dict(length=370), dict(cells_per_entity=106)):
             self.machine.state = replace(state, **changed)
-            for size in (0, 257, 258):
+            for size in (0, 369, 370):
                 output = bytearray([238] * size)
                 self.assertEqual(self.machine.image(output), refused(13))
                 self.assertEqual(output, bytes([238] * size))
@@ -1242,6 +1246,136 @@ class Images(unittest.TestCase):
         self.assertEqual({image for _, image in found}, {bytes(in_order.bytes())})
 
 
+class Padding(unittest.TestCase):
+    """R-7: the padding program, and statements on padded files."""
+
+    def test_byte_for_byte(self):
+        """36 cells, of which the first and the last aren't 0, before the strings; 28 zero cells are added."""
+        statement, strings = bytes.fromhex("0600 1c00 feff 1e00"), b"\0a"
+        cells = bytes.fromhex("efbeadde" + "00" * 136 + "01000000")
+        header = struct.pack("<15i", 6, 5927, 60, 1, 9, 0, 9, 0, 9, 0, 212, 2, 68, 36, 107)
+        written = struct.pack("<15i", 6, 5927, 60, 1, 68, 0, 68, 0, 68, 0, 68, 2, 70, 64, 107)
+        self.assertEqual(model.pad(header + statement + cells + strings + b"more"), written + statement + strings + cells + bytes(112))
+
+    def test_refusals(self):
+        self.assertEqual(model.pad(bytes(59)), b"refused,1\n")
+        self.assertEqual(model.pad(bytes(65_537)), b"refused,1\n")
+        self.assertEqual(model.pad(bytes(65_536)), b"refused,2\n")
+        self.assertEqual(model.pad(Assembly(cell_count=35).bytes()), b"refused,10\n")
+        self.assertEqual(model.pad(Assembly(cell_count=36, cells_per_entity=104).bytes()), b"refused,11\n")
+        # header, strings and 64 cells: 60 + 65,220 + 256
+        for strings, refused_34 in ((65_220, False), (65_221, True)):
+            file = Assembly(cell_count=36, strings=bytes(strings)).bytes()
+            self.assertEqual(model.pad(file) == b"refused,34\n", refused_34)
+
+    def test_what_it_writes(self):
+        """What is written loads, has the same contents but for the added cells, and is padded alike; of 64 cells or more it is R-6's."""
+        count = 0
+        for file, got in pad_cases().seen:
+            if got.startswith(b"refused"):
+                continue
+            before = Machine(bytearray(file), [0] * model.MOST_CELLS, [0] * 2048, fewest_cells=36)
+            self.assertEqual(before.load(), ACCEPTED)
+            after, answer = machine_of(got)
+            self.assertEqual(answer, ACCEPTED)
+            *others, cells, per_entity = contents(before)
+            cells += [0] * (64 - len(cells))
+            self.assertEqual(contents(after), (*others, cells, per_entity))
+            self.assertEqual(written(after), got)
+            self.assertEqual(model.pad(got), got)
+            if before.state.lumps[2 * CELLS + 1] >= 64:
+                self.assertEqual(written(before), got)
+            count += 1
+        self.assertGreater(count, 100)
+
+    def both(self, machine, step):
+        """Does a step on the machine, which is as before R-7, and on one with the file padded, from the same old cells, stores
+        and state; the added cells hold anything.  Says whether it completed."""
+        count, state = machine.state.lumps[2 * CELLS + 1], machine.state
+        file = model.Program(machine.file, state.lumps).written(state.cells_per_entity, 64 - count)
+        added = [0xADD0000 + i for i in range(count, 64)]
+        after = Machine(bytearray(file), machine.cells + added, list(machine.saved_store), list(machine.entity_cells))
+        after.state = replace(state, length=len(file), lumps=model.read_header(file)[2])
+        recorded = dict(length=state.length, lumps=state.lumps)
+        old, new = step(machine), step(after)
+        if old != refused(15):  # 15 alone may be another now: "no longer refuses an access to an added cell"
+            self.assertEqual(new, old)
+            self.assertEqual(replace(after.state, **recorded), machine.state)
+            self.assertEqual(after.cells, machine.cells + added)
+            self.assertEqual((after.saved_store, after.entity_cells), (machine.saved_store, list(machine.entity_cells)))
+        return old == ACCEPTED
+
+    def test_cases_that_completed(self):
+        """The cases at the last cells, of 36 cells as they stood before and of each other count below 64."""
+        for count in range(36, 64):
+            v = Vectors(fewest_cells=36)
+            v.file("", cell_count=count, functions=last_cell_functions(count), layout=(5, 4, 3, 2, 1, 0))
+            last_place_vectors(v)
+            done = [self.both(prepared(given, 36), Machine.statement) for given in v.given]
+            self.assertEqual(done, [answer == ACCEPTED for _, answer in v.seen])
+            self.assertEqual(sum(done), 10)
+
+    def test_all_cases_with_fewer_cells(self):
+        """The cases of 64 cells, in files that have fewer."""
+        every = [given for given in statement_vectors().given if given.base.lumps[2 * CELLS + 1] == 64]
+        for count in (36, 49, 63):
+            done = 0
+            for given in every:
+                if any(cell >= count for cell in given.cells):
+                    continue
+                base = copy.copy(given.base)
+                base.lumps = [*base.lumps[:-1], count]
+                done += self.both(prepared(given._replace(base=base), 36), Machine.statement)
+            self.assertGreater(done, 1000)
+
+    def test_an_added_cell(self):
+        """Refused 15 in the file of 36 cells; the padded file has the cell."""
+        file = Assembly([("AddF", 28, 28, 36)], [function()], cells={28: ONE}, cell_count=36).bytes()
+        machine = Machine(file, [0] * 36, [0] * 2048, fewest_cells=36)
+        self.assertEqual(machine.load(), ACCEPTED)
+        self.assertEqual(machine.statement(), refused(15))
+        machine, answer = machine_of(model.pad(file))
+        self.assertEqual((answer, machine.statement(), machine.cells[36]), (ACCEPTED, ACCEPTED, TWO))
+        self.assertEqual((machine.read(63), machine.read(64)), (ACCEPTED, refused(15)))
+
+    def test_whole_runs(self):
+        """Function 1 of each file of fewer cells, as it ran before and after padding; 15 alone may differ."""
+        words = set()
+        for file, got in pad_cases().seen:
+            before = Machine(bytearray(file), [0] * 64, [0] * 2048, fewest_cells=36)
+            if got.startswith(b"refused") or before.load() != ACCEPTED:
+                continue
+            after = Machine(bytearray(got), [0] * 64, [0] * 2048)
+            self.assertEqual(after.load(), ACCEPTED)
+            old, new = before.enter(1), after.enter(1)
+            if old == new == ACCEPTED:
+                old, new = before.run(0, 99_999), after.run(0, 99_999)
+            if old[:2] == refused(15)[:2]:
+                continue
+            state = replace(after.state, length=before.state.length, lumps=before.state.lumps)
+            self.assertEqual((new, state), (old, before.state))
+            self.assertEqual((after.cells, after.saved_store), (before.cells, before.saved_store))
+            words.add(old.word)
+        self.assertEqual(words, {"ended", "spent", "refused", "builtin", "opcode"})
+
+    def test_programs_made_by_chance(self):
+        """Each statement of their runs, with fewer cells."""
+        done = 0
+        for seed in range(1, 41):
+            chance = Xorshift(seed * 2654435761 % 2**32)
+            assembly = random_program(chance, entities=True)
+            assembly.lumps[2 * CELLS + 1] = 58 + chance.below(6)
+            machine = Machine(assembly.bytes(), [0] * 63, [0] * 2048, [0] * 420, fewest_cells=36)
+            machine.cells = machine.cells[: assembly.lumps[2 * CELLS + 1]]
+            self.assertEqual(machine.load(4), ACCEPTED)
+            self.both(machine, lambda machine: machine.enter(1))
+            for _ in range(60):
+                if not self.both(machine, Machine.statement):
+                    break
+                done += 1
+        self.assertGreater(done, 100)
+
+
 class CaseFiles(unittest.TestCase):
     @classmethod
     def setUpClass(cls):
@@ -1295,6 +1429,8 @@ class CaseFiles(unittest.TestCase):
         files = {int(fields[1]) for fields in shown if fields[0] == "refused"}
         images = {answer.detail for call, answer in self.makers["images.txt"].seen if call.startswith("image ") and answer.word == "refused"}
         self.assertEqual(images, {13, 34})
+        pads = {int(got[8:]) for _, got in self.makers["pads.txt"].seen if got.startswith(b"refused,")}
+        self.assertEqual(pads, {*range(1, 12), 34})
         # 26 can't be met after 13; 8 and 9 are a field definition's in the files
         self.assertEqual(calls | files | images, set(range(1, 35)) - {26})
         # a file alone can't reach these: nothing lent is short, no state is made up, nothing changed

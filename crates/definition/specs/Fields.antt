@@ -1,5 +1,5 @@
 -- ENTITY FIELDS, document 02's R-3: worked cases, as rows of one table that is computed from the definition. Each row starts from the bytes of a file with
--- 36 cells and 105 cells per entity, and a load with two entities, and goes on by the operations that a host calls. (One group has 107 cells per entity and
+-- 64 cells and 105 cells per entity, and a load with two entities, and goes on by the operations that a host calls. (One group has 107 cells per entity and
 -- three entities.) Of each of the three forms of statement, Load, Address and StoreP, every refusal is met alone, and every two neighbours in the order of
 -- checks in one statement, which is refused with the earlier number.
 use Prim.Native.Nat.{ℕ, _+_}
@@ -30,7 +30,7 @@ abbrev with : List Cell → List ℕ → List ℕ
 with [] cells = cells
 with (a holds x ∷ given) cells = with given (set cells a x)
 
--- from statement 1 and function 1 on; 36 cells, each with its own number in it, but these
+-- from statement 1 and function 1 on; 64 cells, each with its own number in it, but these
 abbrev contents : List Definition → List Definition → List Statement → List FunctionDef → List Cell → Contents
 contents globals fields statements functions given =
     record {
@@ -39,7 +39,7 @@ contents globals fields statements functions given =
       fielddefs = fields;
       functions = fn 0 0 0 0 [] ∷ functions;
       strings = 0 ∷ [];
-      globals = with given (numbers 36 0);
+      globals = with given (numbers 64 0);
       entityfields = 105;
     }
 
@@ -55,7 +55,7 @@ lentWith given = with given (numbers 212 1000)
 
 -- with two entities, and two cells more than the file has
 abbrev from : Contents → List Cell → Scenario → Seen
-from k given = loading k (pos 2) 38 2048 (lentWith given)
+from k given = loading k (pos 2) 66 2048 (lentWith given)
 
 -- n entity cells from a on
 abbrev fields : ℕ → ℕ → Scenario
@@ -77,15 +77,15 @@ least = contents [] [] [] [] []
 
 abbrev loads : List Row
 loads =
-    row "their number given at load and kept in the state" (loading least (pos 2) 36 2048 (numbers 210 1000) (number and state)) (accepted (2 ∷ 0 ∷ 0 ∷ 0 ∷ 0 ∷ []))
-    ∷ row "no entities, and no entity cells" (loading least (pos 0) 36 2048 [] number) (accepted (0 ∷ []))
-    ∷ row "13: more than 600 entities" (loading least (pos 601) 36 2048 [] number) (refused 13)
-    ∷ row "13: a negative number of entities" (loading least (negsuc 0) 36 2048 [] number) (refused 13)
-    ∷ row "13: lent entity cells too few" (loading least (pos 2) 36 2048 (numbers 209 1000) number) (refused 13)
-    ∷ row "13: none lent" (loading least (pos 1) 36 2048 [] number) (refused 13)
-    ∷ row "13, after 12: cells" (loading least (pos 601) 35 2048 [] number) (refused 12)
-    ∷ row "13, after 12: saved store" (loading least (negsuc 0) 36 2047 [] number) (refused 12)
-    ∷ row "13, after 11" (loading (record { statements = []; globaldefs = []; fielddefs = []; functions = []; strings = []; globals = numbers 36 0; entityfields = 104 }) (pos 601) 36 2048 [] number) (refused 11)
+    row "their number given at load and kept in the state" (loading least (pos 2) 64 2048 (numbers 210 1000) (number and state)) (accepted (2 ∷ 0 ∷ 0 ∷ 0 ∷ 0 ∷ []))
+    ∷ row "no entities, and no entity cells" (loading least (pos 0) 64 2048 [] number) (accepted (0 ∷ []))
+    ∷ row "13: more than 600 entities" (loading least (pos 601) 64 2048 [] number) (refused 13)
+    ∷ row "13: a negative number of entities" (loading least (negsuc 0) 64 2048 [] number) (refused 13)
+    ∷ row "13: lent entity cells too few" (loading least (pos 2) 64 2048 (numbers 209 1000) number) (refused 13)
+    ∷ row "13: none lent" (loading least (pos 1) 64 2048 [] number) (refused 13)
+    ∷ row "13, after 12: cells" (loading least (pos 601) 63 2048 [] number) (refused 12)
+    ∷ row "13, after 12: saved store" (loading least (negsuc 0) 64 2047 [] number) (refused 12)
+    ∷ row "13, after 11" (loading (record { statements = []; globaldefs = []; fielddefs = []; functions = []; strings = []; globals = numbers 64 0; entityfields = 104 }) (pos 601) 64 2048 [] number) (refused 11)
     ∷ row "untouched, by a load too" (from least (209 holds 7 ∷ []) (fields 212 0)) (accepted (numbers 209 1000 ++ (7 ∷ 1210 ∷ 1211 ∷ [])))
     ∷ []
 
@@ -126,16 +126,16 @@ loadRows =
 abbrev loadRefusals : List Row
 loadRefusals =
     row "16: the entity's cell" (loadAfter (define float 28 ∷ []) [] (load24 26) []) (refused 16)
-    ∷ row "15: the entity's cell" (loadAfter [] [] (op 26 38 29 30) []) (refused 15)
+    ∷ row "15: the entity's cell" (loadAfter [] [] (op 26 66 29 30) []) (refused 15)
     ∷ row "15: the entity's cell, negative" (loadAfter [] [] (op 26 0xffff 29 30) []) (refused 15)
     ∷ row "17: a negative entity" (after [] [] (load24 26) (inEntity 0x80000000 10) [] state) (refused 17)
     ∷ row "16: the field's cell" (loadAfter (define entity 29 ∷ []) [] (load24 26) []) (refused 16)
-    ∷ row "15: the field's cell" (loadAfter [] [] (op 26 28 38 30) []) (refused 15)
+    ∷ row "15: the field's cell" (loadAfter [] [] (op 26 28 66 30) []) (refused 15)
     ∷ row "17: a negative field" (after [] [] (load24 26) (inEntity 1 0xffffffff) [] state) (refused 17)
     ∷ row "16: the destination" (loadAfter (define float 30 ∷ []) [] (load24 26) []) (refused 16)
-    ∷ row "15: the destination" (loadAfter [] [] (op 26 28 29 38) []) (refused 15)
+    ∷ row "15: the destination" (loadAfter [] [] (op 26 28 29 66) []) (refused 15)
     ∷ row "16: a destination's third cell" (loadAfter (define string 32 ∷ []) [] (load24 25) []) (refused 16)
-    ∷ row "15: a destination's third cell" (loadAfter [] [] (op 25 28 29 34) []) (refused 15)
+    ∷ row "15: a destination's third cell" (loadAfter [] [] (op 25 28 29 62) []) (refused 15)
     ∷ row "16: a destination of 1 to 27" (loadAfter (define float 1 ∷ []) [] (op 26 28 29 1) []) (refused 16)
     ∷ row "16: a vector's destination of 1 to 27, unlike StoreV's" (loadAfter (define string 25 ∷ []) [] (op 25 28 29 25) []) (refused 16)
     ∷ row "16: its third cell" (loadAfter (define string 27 ∷ []) [] (op 25 28 29 25) []) (refused 16)
@@ -154,17 +154,17 @@ loadRefusals =
     ∷ row "17: a negative field moved" (loadAfter [] [] (load24 28) (115 holds 0xffffffff ∷ [])) (refused 17)
     ∷ []
 
--- two at once. The lent cells 36 and 37, which the file does not have, hold -1
+-- two at once. The lent cells 64 and 65, which the file does not have, hold -1
 abbrev loadOrder : List Row
 loadOrder =
-    row "16 of the entity before its 15" (loadAfter (define string 36 ∷ []) [] (op 26 36 29 30) []) (refused 16)
-    ∷ row "15 of the entity before its 17" (loadAfter [] [] (op 26 36 29 30) []) (refused 15)
+    row "16 of the entity before its 15" (loadAfter (define string 64 ∷ []) [] (op 26 64 29 30) []) (refused 16)
+    ∷ row "15 of the entity before its 17" (loadAfter [] [] (op 26 64 29 30) []) (refused 15)
     ∷ row "17 of the entity before 16 of the field" (after (define string 29 ∷ []) [] (load24 26) (inEntity 0xffffffff 10) [] state) (refused 17)
-    ∷ row "16 of the field before its 15" (loadAfter (define string 36 ∷ []) [] (op 26 28 36 30) []) (refused 16)
-    ∷ row "15 of the field before its 17" (loadAfter [] [] (op 26 28 36 30) []) (refused 15)
+    ∷ row "16 of the field before its 15" (loadAfter (define string 64 ∷ []) [] (op 26 28 64 30) []) (refused 16)
+    ∷ row "15 of the field before its 17" (loadAfter [] [] (op 26 28 64 30) []) (refused 15)
     ∷ row "17 of the field before 16 of the destination" (after (define float 30 ∷ []) [] (load24 26) (inEntity 1 0xffffffff) [] state) (refused 17)
-    ∷ row "16 of the destination before its 15" (loadAfter (define float 36 ∷ []) [] (op 26 28 29 36) []) (refused 16)
-    ∷ row "15 of the destination before 30" (after [] [] (op 26 28 29 36) (inEntity 2 10) [] state) (refused 15)
+    ∷ row "16 of the destination before its 15" (loadAfter (define float 64 ∷ []) [] (op 26 28 29 64) []) (refused 16)
+    ∷ row "15 of the destination before 30" (after [] [] (op 26 28 29 64) (inEntity 2 10) [] state) (refused 15)
     ∷ row "30 before 16 by field definition" (after [] (define float 10 ∷ []) (load24 26) (inEntity 2 10) [] state) (refused 30)
     ∷ row "30 before 31" (after [] [] (load24 26) (inEntity 2 105) [] state) (refused 30)
     ∷ row "16 by field definition before 31" (after [] (define float 105 ∷ []) (load24 26) (inEntity 1 105) [] state) (refused 16)
@@ -198,28 +198,28 @@ addressRows =
 abbrev addressRefusals : List Row
 addressRefusals =
     row "16: the entity's cell" (loadAfter (define float 28 ∷ []) [] address []) (refused 16)
-    ∷ row "15: the entity's cell" (loadAfter [] [] (op 30 38 29 30) []) (refused 15)
+    ∷ row "15: the entity's cell" (loadAfter [] [] (op 30 66 29 30) []) (refused 15)
     ∷ row "17: a negative entity" (after [] [] address (inEntity 0x80000000 10) [] state) (refused 17)
     ∷ row "16: the field's cell" (loadAfter (define entity 29 ∷ []) [] address []) (refused 16)
-    ∷ row "15: the field's cell" (loadAfter [] [] (op 30 28 38 30) []) (refused 15)
+    ∷ row "15: the field's cell" (loadAfter [] [] (op 30 28 66 30) []) (refused 15)
     ∷ row "17: a negative field" (after [] [] address (inEntity 1 0x80000000) [] state) (refused 17)
     ∷ row "16: the pointer's cell" (loadAfter (define field 30 ∷ []) [] address []) (refused 16)
     ∷ row "16: the pointer's cell, void and then a field" (loadAfter (define void 30 ∷ define field 30 ∷ []) [] address []) (refused 16)
-    ∷ row "15: the pointer's cell" (loadAfter [] [] (op 30 28 29 38) []) (refused 15)
+    ∷ row "15: the pointer's cell" (loadAfter [] [] (op 30 28 29 66) []) (refused 15)
     ∷ row "30: an entity not below the count" (after [] [] address (inEntity 2 10) [] state) (refused 30)
     ∷ row "31: a field not below the cells per entity" (after [] [] address (inEntity 0 105) [] state) (refused 31)
     ∷ []
 
 abbrev addressOrder : List Row
 addressOrder =
-    row "16 of the entity before its 15" (loadAfter (define string 36 ∷ []) [] (op 30 36 29 30) []) (refused 16)
-    ∷ row "15 of the entity before its 17" (loadAfter [] [] (op 30 36 29 30) []) (refused 15)
+    row "16 of the entity before its 15" (loadAfter (define string 64 ∷ []) [] (op 30 64 29 30) []) (refused 16)
+    ∷ row "15 of the entity before its 17" (loadAfter [] [] (op 30 64 29 30) []) (refused 15)
     ∷ row "17 of the entity before 16 of the field" (after (define string 29 ∷ []) [] address (inEntity 0xffffffff 10) [] state) (refused 17)
-    ∷ row "16 of the field before its 15" (loadAfter (define string 36 ∷ []) [] (op 30 28 36 30) []) (refused 16)
-    ∷ row "15 of the field before its 17" (loadAfter [] [] (op 30 28 36 30) []) (refused 15)
+    ∷ row "16 of the field before its 15" (loadAfter (define string 64 ∷ []) [] (op 30 28 64 30) []) (refused 16)
+    ∷ row "15 of the field before its 17" (loadAfter [] [] (op 30 28 64 30) []) (refused 15)
     ∷ row "17 of the field before 16 of the pointer" (after (define float 30 ∷ []) [] address (inEntity 1 0xffffffff) [] state) (refused 17)
-    ∷ row "16 of the pointer before its 15" (loadAfter (define float 36 ∷ []) [] (op 30 28 29 36) []) (refused 16)
-    ∷ row "15 of the pointer before 30" (after [] [] (op 30 28 29 36) (inEntity 2 10) [] state) (refused 15)
+    ∷ row "16 of the pointer before its 15" (loadAfter (define float 64 ∷ []) [] (op 30 28 29 64) []) (refused 16)
+    ∷ row "15 of the pointer before 30" (after [] [] (op 30 28 29 64) (inEntity 2 10) [] state) (refused 15)
     ∷ row "30 before 31" (after [] [] address (inEntity 2 105) [] state) (refused 30)
     ∷ row "30 before 32" (after [] [] address (inEntity 0x20000000 10) [] state) (refused 30)
     ∷ row "31 before 32" (after [] [] address (inEntity 1 0x20000000) [] state) (refused 31)
@@ -230,8 +230,8 @@ addressOrder =
 abbrev making : ℕ → ℕ → ℕ
 making size f =
     judge
-    (addressesEffect (record { definitions = []; count = 36 }) (record { definitions = []; count = size }) (record { count = 1; cells = [] }) 28 29 30
-    (with (inEntity 0 f) (numbers 36 0)) .conditions)
+    (addressesEffect (record { definitions = []; count = 64 }) (record { definitions = []; count = size }) (record { count = 1; cells = [] }) 28 29 30
+    (with (inEntity 0 f) (numbers 64 0)) .conditions)
 
 abbrev greatest : List Row
 greatest =
@@ -281,14 +281,14 @@ abbrev storeRefusals : List Row
 storeRefusals =
     row "18: the third operand" (storeAfter [] [] (op 37 30 33 1)) (refused 18)
     ∷ row "16: the value's cell" (storeAfter (define string 30 ∷ []) [] (storeP 37)) (refused 16)
-    ∷ row "15: the value's cell" (storeAfter [] [] (op 37 38 33 0)) (refused 15)
+    ∷ row "15: the value's cell" (storeAfter [] [] (op 37 66 33 0)) (refused 15)
     ∷ row "15: the value's cell, negative" (storeAfter [] [] (op 37 0xffff 33 0)) (refused 15)
     ∷ row "16: a vector's third cell" (storeAfter (define string 32 ∷ []) [] (storeP 38)) (refused 16)
-    ∷ row "15: a vector's third cell" (storeAfter [] [] (op 38 34 33 0)) (refused 15)
+    ∷ row "15: a vector's third cell" (storeAfter [] [] (op 38 62 33 0)) (refused 15)
     ∷ row "17: a negative entity" (storing 0x80000000 [] [] (storeP 40)) (refused 17)
     ∷ row "17: a negative field" (storing 0xffffffff [] [] (storeP 41)) (refused 17)
     ∷ row "16: the pointer's cell" (storeAfter (define float 33 ∷ []) [] (storeP 37)) (refused 16)
-    ∷ row "15: the pointer's cell" (storeAfter [] [] (op 37 30 38 0)) (refused 15)
+    ∷ row "15: the pointer's cell" (storeAfter [] [] (op 37 30 66 0)) (refused 15)
     ∷ row "32: negative" (after [] [] (storeP 37) (through 0x80000000) [] state) (refused 32)
     ∷ row "32: no multiple of 4" (after [] [] (storeP 37) (through 461) [] state) (refused 32)
     ∷ row "32: past the last entity, in a lent cell" (after [] [] (storeP 37) (through 840) [] state) (refused 32)
@@ -303,15 +303,15 @@ storeRefusals =
 abbrev storeOrder : List Row
 storeOrder =
     row "18 before 16 of the value" (storeAfter (define string 30 ∷ []) [] (op 37 30 33 1)) (refused 18)
-    ∷ row "18 before 15 of the value" (storeAfter [] [] (op 37 38 33 0xffff)) (refused 18)
+    ∷ row "18 before 15 of the value" (storeAfter [] [] (op 37 66 33 0xffff)) (refused 18)
     ∷ row "18 before 32" (after [] [] (op 37 30 33 1) (through 1) [] state) (refused 18)
-    ∷ row "16 of the value before its 15" (storeAfter (define string 36 ∷ []) [] (op 40 36 33 0)) (refused 16)
-    ∷ row "15 of the value before its 17" (storeAfter [] [] (op 40 36 33 0)) (refused 15)
+    ∷ row "16 of the value before its 15" (storeAfter (define string 64 ∷ []) [] (op 40 64 33 0)) (refused 16)
+    ∷ row "15 of the value before its 17" (storeAfter [] [] (op 40 64 33 0)) (refused 15)
     ∷ row "17 of the value before 16 of the pointer" (storing 0xffffffff (define float 33 ∷ []) [] (storeP 40)) (refused 17)
-    ∷ row "15 of the value before 16 of the pointer" (storeAfter (define float 33 ∷ []) [] (op 37 36 33 0)) (refused 15)
-    ∷ row "16 of the value before 15 of the pointer" (storeAfter (define string 30 ∷ []) [] (op 37 30 36 0)) (refused 16)
-    ∷ row "16 of the pointer before its 15" (storeAfter (define float 36 ∷ []) [] (op 37 30 36 0)) (refused 16)
-    ∷ row "15 of the pointer before 32" (storeAfter [] [] (op 37 30 36 0)) (refused 15)
+    ∷ row "15 of the value before 16 of the pointer" (storeAfter (define float 33 ∷ []) [] (op 37 64 33 0)) (refused 15)
+    ∷ row "16 of the value before 15 of the pointer" (storeAfter (define string 30 ∷ []) [] (op 37 30 64 0)) (refused 16)
+    ∷ row "16 of the pointer before its 15" (storeAfter (define float 64 ∷ []) [] (op 37 30 64 0)) (refused 16)
+    ∷ row "15 of the pointer before 32" (storeAfter [] [] (op 37 30 64 0)) (refused 15)
     ∷ row "32 before 16 by field definition" (after [] (define string 0 ∷ []) (storeP 37) (through 840) [] state) (refused 32)
     ∷ row "32 before 31" (after [] [] (storeP 38) (through 1256) [] state) (refused 32)
     ∷ row "cell by cell: 16 of the second before 31 of the third" (after [] (define string 104 ∷ []) (storeP 38) (through 412) [] state) (refused 16)
@@ -367,7 +367,7 @@ larger st given =
 
 -- with so many lent entity cells
 abbrev lending : ℕ → Statement → List Cell → Scenario → Seen
-lending lent st given rest = loading (larger st given) (pos 3) 36 2048 (numbers lent 1000) rest
+lending lent st given rest = loading (larger st given) (pos 3) 64 2048 (numbers lent 1000) rest
 
 -- after statement 1
 abbrev afterLarger : Statement → List Cell → Scenario → Seen

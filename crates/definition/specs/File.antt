@@ -51,9 +51,13 @@ greatestType = 7
 abbrev pub saveFlag : ℕ
 saveFlag = 32768
 
--- "10: under 36 or over 32,768"; R-7 raises the least number
+-- "10: under 36 or over 32,768"; R-7: "Files of 36 to 63 cells are refused 10 from now on"
 abbrev pub leastCells : ℕ
-leastCells = 36
+leastCells = 64
+
+-- R-7: the "padding program, which alone still admits them"
+abbrev pub leastToPad : ℕ
+leastToPad = 36
 
 abbrev pub mostCells : ℕ
 mostCells = 32768

@@ -120,25 +120,29 @@ sameFile a b =
     && eqb (a .entityfields) (b .entityfields)
 
 -- 13: "file length, header lumps or cells per entity not as the state records, or outside 1, 4, 10 or 11; lent cells fewer than the file's"
-unfoldable pub recordedIn : List ℕ → FileRecord → ℕ → Bool
-recordedIn file r lent =
+-- with `least` for the least number of cells
+unfoldable pub recordedIn : ℕ → List ℕ → FileRecord → ℕ → Bool
+recordedIn least file r lent =
     sameFile r (fileOf file)
     && lengthFits r
     && lumpsFit r
-    && cellsFit leastCells r
+    && cellsFit least r
     && entityFits r
     && leb (r .globals .count) lent
 
--- with the lumps where a record of the file has them
-unfoldable pub programAt : FileRecord → List ℕ → Program
-programAt r file =
+-- with the lumps where a record of the file has them, and the least number of cells that 13 takes
+unfoldable pub programWith : ℕ → FileRecord → List ℕ → Program
+programWith least r file =
     let k = contentsAt r file in
     record {
       functions = k .functions;
       fetching = fetchConditions (k .statements);
       does = doesAt k;
-      recorded = recordedIn file;
+      recorded = recordedIn least file;
     }
+
+abbrev pub programAt : FileRecord → List ℕ → Program
+programAt r file = programWith leastCells r file
 
 abbrev pub programOf : List ℕ → Program
 programOf file = programAt (fileOf file) file

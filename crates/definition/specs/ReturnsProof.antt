@@ -12,10 +12,10 @@ use lib.Dec.{leb, ltb}
 use Rattle.definition.specs.declared.FunctionDef.{FunctionDef}
 use Rattle.definition.specs.declared.StackFrame.{StackFrame}
 use Rattle.definition.specs.Checks.{Condition, Conditions, Checked, accepted, guard}
-use Rattle.definition.specs.File.{savedStore, greatestDepth, negative, contentsOf, fileOf}
+use Rattle.definition.specs.File.{leastCells, savedStore, greatestDepth, negative, contentsOf, fileOf}
 use Rattle.definition.specs.Machine.{Program, functionOf, Config, countOf, limits, zeroFrame, present, copied, successive, argumentsOf, withCells, withEntities, advanced}
 use Rattle.definition.specs.Machine.{entryConditions, entered, leaveConditions, left, returnConditions, returned}
-use Rattle.definition.specs.Load.{cellConditions, entitiesGiven, loaded, load, programAt, programOf}
+use Rattle.definition.specs.Load.{cellConditions, entitiesGiven, loaded, load, programWith, programOf}
 use Rattle.definition.specs.Calls.{Call}
 use Rattle.definition.specs.Log.{Note, Log, functionIn, localCells, Kind, entry, leaving, other}
 use Rattle.definition.specs.Trace.{logAfter}
@@ -86,7 +86,7 @@ module _ (file : List ℕ) (f : ℕ) (back : ℤ) (c : Config) (l : Log) (k : St
   after-entry = entered (programOf file) f back c
 
   entered-matches : StackMatches file after-entry (note file f back c ∷ l)
-  unfolding entered programAt localsNoted
+  unfolding entered programWith localsNoted
   entered-matches =
       record {
         depths =
@@ -146,7 +146,7 @@ module _ (file : List ℕ) (c : Config) (n : Note) (l : Log) (k : StackMatches f
   frame-is = rw one-less (k .frames .1)
 
   left-restores : Restored file (c .state .function) n (left (programOf file) c)
-  unfolding left programAt
+  unfolding left programWith
   left-restores =
       record {
         same-function = k .frames .0;
@@ -158,7 +158,7 @@ module _ (file : List ℕ) (c : Config) (n : Note) (l : Log) (k : StackMatches f
       }
 
   left-matches : StackMatches file (left (programOf file) c) l
-  unfolding left programAt localsNoted
+  unfolding left programWith localsNoted
   left-matches =
       record {
         depths =
@@ -213,7 +213,7 @@ other-preserves file c l c′ k = (record { restores = tt; depths = k .depths },
 
 enter-preserves : (file : List ℕ) (c : Config) (l : Log) (f : ℕ) (back : ℤ) → StackMatches file c l → All (entryConditions (programOf file) f c)
     → Preserved file (entry f back) c l (entered (programOf file) f back c)
-unfolding entryConditions limits programAt
+unfolding entryConditions limits programWith
 enter-preserves file c l f back k h =
     let d = functionIn file f in
     let k′ =
@@ -227,7 +227,7 @@ enter-preserves file c l f back k h =
 -- from what the statement before it left of the cells: a Return copies first
 leave-preserves : (file : List ℕ) (c : Config) (cells : List ℕ) (l : Log) → length cells ≡ length (c .cells) → StackMatches file c l → All (leaveConditions (programOf file) c)
     → Preserved file leaving c l (left (programOf file) (withCells c cells))
-unfolding leaveConditions programAt
+unfolding leaveConditions programWith
 leave-preserves file c cells [] e k h = absurd (omega (arith, ltb-true 0 (c .state .depth) (h .0), k .depths .depth-is))
 leave-preserves file c cells (n ∷ l) e k h =
     let d = functionIn file (c .state .function) in
@@ -262,7 +262,7 @@ unfolding load loaded localsNoted cellConditions
 loaded-matches file n cells saved entities =
     guarded (λ (c : Config). StackMatches file c []) _ _ λ h.
     let r = fileOf file in
-    let twelve = load-rows file (entitiesGiven n) (length cells) (length saved) (length entities) h .cells .1 .1 .0 in
+    let twelve = load-rows leastCells file (entitiesGiven n) (length cells) (length saved) (length entities) h .cells .1 .1 .0 in
     record {
       depths = record { depth-is = refl; depth-most = omega arith; saved-is = refl; saved-most = omega arith };
       room = omega (arith, length-replicate greatestDepth zeroFrame);

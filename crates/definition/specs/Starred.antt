@@ -21,7 +21,7 @@ use Rattle.definition.specs.Statements.{shapeOf, floatsEffect, vectorRes
 use Rattle.definition.specs.Statements.{fetchConditions, execute, doesAt, valueMoved, loadsEffect, addressesEffect, storesPEffect}
 use Rattle.definition.specs.Machine.{Program, Config, limits, zeroFrame, entitiesFit, present, copied, successive, arguments, copiesPresent}
 use Rattle.definition.specs.Machine.{entryConditions, entered, leaveConditions, left, Stepped, completed, refusedStep, handedStep, stepAs, step, runFor}
-use Rattle.definition.specs.Load.{each, headerConditions, recordConditions, cellConditions, loaded, load, sameFile, recordedIn, programAt, programOf}
+use Rattle.definition.specs.Load.{each, headerConditions, recordConditions, cellConditions, loaded, load, sameFile, recordedIn, programWith, programOf}
 use Rattle.definition.specs.Operations.{frameFunctions, enteredFunctions, allPresent, localsOf, sound}
 use Rattle.definition.specs.Operations.{hostEnter, statement, runConditions, run, carryOnConditions, carryOn, leftTimes, leavingsConditions, abandonConditions, abandon, rawRead, rawWrite}
 use Rattle.definition.specs.Answers.{answerOf, outcome, refusalNumber, outcomeWord, outcomeDetail, letters}
@@ -387,30 +387,30 @@ opcode66 rest =
     let file : ℕ → List ℕ = λ opcode. assembled (program (op opcode 0 0 0 ∷ []) (plain ∷ []) numbered) in
     fromThen (file 60) (file 66) (enter 1 rest)
 
--- 36 cells, and nothing but statement 0 and function 0: 249 bytes
+-- 64 cells, and nothing but statement 0 and function 0: 361 bytes
 abbrev least : List ℕ
-least = assembled (program [] [] (numbers 36 0))
+least = assembled (program [] [] (numbers 64 0))
 
 -- the least file with these bytes from a place on
 abbrev leastWith : ℕ → List ℕ → Seen
-leastWith at xs = loading (overwritten at xs least) 36 2048
+leastWith at xs = loading (overwritten at xs least) 64 2048
 
--- these functions, statements, global and field definitions, in a file with 35 cells
-abbrev records35 : List FunctionDef → List Statement → List Definition → List Definition → Seen
-records35 functions statements globaldefs fielddefs = loading (assembled (holding functions statements globaldefs fielddefs 35 105)) 36 2048
+-- these functions, statements, global and field definitions, in a file with 63 cells
+abbrev records63 : List FunctionDef → List Statement → List Definition → List Definition → Seen
+records63 functions statements globaldefs fielddefs = loading (assembled (holding functions statements globaldefs fielddefs 63 105)) 64 2048
 
 -- each lump of the least file moved, so that it ends so many bytes past the end: the place of its offset in the header, its count and its size
 abbrev endingPast : ℕ → List ℕ
 endingPast n =
-    let moved : ℕ → ℕ → ℕ → ℕ = λ at count size. numberOf (leastWith at (bytes u32 ((249 + n - count * size) ∷ count ∷ []))) in
-    moved 8 1 8 ∷ moved 16 1 8 ∷ moved 24 1 8 ∷ moved 32 1 36 ∷ moved 40 1 1 ∷ moved 48 36 4 ∷ []
+    let moved : ℕ → ℕ → ℕ → ℕ = λ at count size. numberOf (leastWith at (bytes u32 ((361 + n - count * size) ∷ count ∷ []))) in
+    moved 8 1 8 ∷ moved 16 1 8 ∷ moved 24 1 8 ∷ moved 32 1 36 ∷ moved 40 1 1 ∷ moved 48 64 4 ∷ []
 
 -- for check 13. Function 1 has one local, function 2 has 2,049, function 3 has -1; statement 0 is refused 15; every number of the header but version and
 -- check number may be one less
 abbrev thirteen : List ℕ
 thirteen =
     assembled
-    (holding (noFunction ∷ fn 0 30 1 0 [] ∷ fn 0 0 2049 0 [] ∷ fn 0 0 0xffffffff 0 [] ∷ []) (storeF 99 0 0 ∷ []) (define 0 0 ∷ []) (define 0 0 ∷ []) 37 106)
+    (holding (noFunction ∷ fn 0 30 1 0 [] ∷ fn 0 0 2049 0 [] ∷ fn 0 0 0xffffffff 0 [] ∷ []) (storeF 99 0 0 ∷ []) (define 0 0 ∷ []) (define 0 0 ∷ []) 65 106)
 
 -- the number at this place of its header is one less, at the first read after the load
 abbrev oneLess : ℕ → ℕ
@@ -487,8 +487,8 @@ loads =
     (from (program [] [] numbered) (lent 62)) (accepted (62 ∷ 63 ∷ 0xffffffff ∷ 0xffffffff ∷ []))
     ∷ row "A buffer written in part keeps the rest: the saved store at a load" (from (program [] [] numbered) (store 2)) (accepted (0xeeeeeeee ∷ 0xeeeeeeee ∷ []))
     ∷ row "Frames start as zeros" (show (frame 0 and frame 30)) (accepted (0 ∷ 0 ∷ 0 ∷ 0 ∷ []))
-    ∷ row "1: length under 60, before 2" (loading (replicate 59 0) 36 2048) (refused 1)
-    ∷ row "1: length 60" (loading (replicate 60 0) 36 2048) (refused 2)
+    ∷ row "1: length under 60, before 2" (loading (replicate 59 0) 64 2048) (refused 1)
+    ∷ row "1: length 60" (loading (replicate 60 0) 64 2048) (refused 2)
     ∷ row "2: version, before 3" (leastWith 0 (bytes u32 (7 ∷ 0 ∷ []))) (refused 2)
     ∷ row "3: check number, before 4" (leastWith 4 (bytes u32 (5926 ∷ 0x80000000 ∷ []))) (refused 3)
     ∷ row "4: lump negative: its offset" (leastWith 24 (u32 0x80000000)) (refused 4)
@@ -496,24 +496,24 @@ loads =
     ∷ row "4: lump negative: its count" (leastWith 28 (u32 0xffffffff)) (refused 4)
     ∷ row "4: lump past the end; Record sizes: 8, 8, 8, 36, 1, 4 bytes" (accepted (endingPast 1)) (accepted (replicate 6 4))
     ∷ row "Lumps may overlap; one that ends with the file" (accepted (endingPast 0)) (accepted (replicate 6 0))
-    ∷ row "5: builtin, before 6" (records35 (named 0xfffffffb 1 0 ∷ []) [] [] []) (refused 5)
-    ∷ row "6: name below 0, before a later function's 5" (records35 (named 0 0xffffffff 0 ∷ named 0xfffffffb 0 0 ∷ []) [] [] []) (refused 6)
-    ∷ row "6: name not below the string length, before 7" (records35 (named 0 1 0 ∷ []) (op 66 0 0 0 ∷ []) [] []) (refused 6)
-    ∷ row "6: source file below 0" (records35 (named 0 0 0xffffffff ∷ []) [] [] []) (refused 6)
-    ∷ row "6: source file not below the string length" (records35 (named 0 0 1 ∷ []) [] [] []) (refused 6)
-    ∷ row "7: opcode, before a global definition's 6" (records35 [] (op 66 0 0 0 ∷ []) (defineNamed 0 1 ∷ []) []) (refused 7)
-    ∷ row "global definitions, 6: name, before 8" (records35 [] [] (defineNamed 8 1 ∷ []) []) (refused 6)
+    ∷ row "5: builtin, before 6" (records63 (named 0xfffffffb 1 0 ∷ []) [] [] []) (refused 5)
+    ∷ row "6: name below 0, before a later function's 5" (records63 (named 0 0xffffffff 0 ∷ named 0xfffffffb 0 0 ∷ []) [] [] []) (refused 6)
+    ∷ row "6: name not below the string length, before 7" (records63 (named 0 1 0 ∷ []) (op 66 0 0 0 ∷ []) [] []) (refused 6)
+    ∷ row "6: source file below 0" (records63 (named 0 0 0xffffffff ∷ []) [] [] []) (refused 6)
+    ∷ row "6: source file not below the string length" (records63 (named 0 0 1 ∷ []) [] [] []) (refused 6)
+    ∷ row "7: opcode, before a global definition's 6" (records63 [] (op 66 0 0 0 ∷ []) (defineNamed 0 1 ∷ []) []) (refused 7)
+    ∷ row "global definitions, 6: name, before 8" (records63 [] [] (defineNamed 8 1 ∷ []) []) (refused 6)
     ∷ row "global definitions, 8: type over 7, flag apart, before a field definition's 6"
-    (records35 [] [] (defineNamed 0x8008 0 ∷ []) (defineNamed 0 1 ∷ [])) (refused 8)
-    ∷ row "field definitions, 6: name, before 9" (records35 [] [] (defineNamed 0x8007 0 ∷ []) (defineNamed 0x8008 1 ∷ [])) (refused 6)
-    ∷ row "field definitions, 9: save flag in a field definition, before 8" (records35 [] [] [] (defineNamed 0x8008 0 ∷ [])) (refused 9)
-    ∷ row "field definitions, 8: type over 7, before 10" (records35 [] [] [] (defineNamed 8 0 ∷ [])) (refused 8)
-    ∷ row "10: under 36, before 11" (leastWith 52 (bytes u32 (35 ∷ 104 ∷ []))) (refused 10)
-    ∷ row "11: entity cells under 105, before 12" (loading (overwritten 56 (u32 104) least) 35 2048) (refused 11)
+    (records63 [] [] (defineNamed 0x8008 0 ∷ []) (defineNamed 0 1 ∷ [])) (refused 8)
+    ∷ row "field definitions, 6: name, before 9" (records63 [] [] (defineNamed 0x8007 0 ∷ []) (defineNamed 0x8008 1 ∷ [])) (refused 6)
+    ∷ row "field definitions, 9: save flag in a field definition, before 8" (records63 [] [] [] (defineNamed 0x8008 0 ∷ [])) (refused 9)
+    ∷ row "field definitions, 8: type over 7, before 10" (records63 [] [] [] (defineNamed 8 0 ∷ [])) (refused 8)
+    ∷ row "10: under 64 (R-7), before 11" (leastWith 52 (bytes u32 (63 ∷ 104 ∷ []))) (refused 10)
+    ∷ row "11: entity cells under 105, before 12" (loading (overwritten 56 (u32 104) least) 63 2048) (refused 11)
     ∷ row "11: entity cells below 0" (leastWith 56 (u32 0xffffffff)) (refused 11)
-    ∷ row "12: lent cells short" (loading least 35 2048) (refused 12)
-    ∷ row "12: saved store under 2,048" (loading least 36 2047) (refused 12)
-    ∷ row "12: as many as there must be" (loading least 36 2048) (accepted (0 ∷ 0 ∷ 0 ∷ 0 ∷ []))
+    ∷ row "12: lent cells short" (loading least 63 2048) (refused 12)
+    ∷ row "12: saved store under 2,048" (loading least 64 2047) (refused 12)
+    ∷ row "12: as many as there must be" (loading least 64 2048) (accepted (0 ∷ 0 ∷ 0 ∷ 0 ∷ []))
     ∷ []
 
 -- check 13, before what each operation's own row refuses
@@ -526,11 +526,11 @@ checks =
     ∷ row "13: version and check number are not among these" (accepted (mapped oneLess (0 ∷ 4 ∷ []))) (accepted (0 ∷ 0 ∷ []))
     ∷ row "13: or outside 1" (madeUpOver (take 59 thirteen) 0 0 0 []) all13
     ∷ row "13: or outside 4" (madeUpOver (overwritten 44 (2 ∷ []) thirteen) 0 0 0 []) all13
-    ∷ row "13: or outside 10" (madeUpOver (overwritten 52 (35 ∷ []) thirteen) 0 0 0 []) all13
+    ∷ row "13: or outside 10" (madeUpOver (overwritten 52 (63 ∷ []) thirteen) 0 0 0 []) all13
     ∷ row "13: or outside 11" (madeUpOver (overwritten 56 (104 ∷ []) thirteen) 0 0 0 []) all13
-    ∷ row "13: as many lent cells as the file's, and a saved store of 2,048" (fromThen thirteen thirteen (lending 37 2048 everyOperation)) own
-    ∷ row "13: lent cells fewer than the file's" (fromThen thirteen thirteen (lending 36 2048 everyOperation)) all13
-    ∷ row "13: or saved store under 2,048" (fromThen thirteen thirteen (lending 37 2047 everyOperation)) all13
+    ∷ row "13: as many lent cells as the file's, and a saved store of 2,048" (fromThen thirteen thirteen (lending 65 2048 everyOperation)) own
+    ∷ row "13: lent cells fewer than the file's" (fromThen thirteen thirteen (lending 64 2048 everyOperation)) all13
+    ∷ row "13: or saved store under 2,048" (fromThen thirteen thirteen (lending 65 2047 everyOperation)) all13
     ∷ row "13: depth 31" (madeUpOver thirteen 1 31 1 []) own
     ∷ row "13: depth over 31" (madeUpOver thirteen 1 32 1 []) all13
     ∷ row "13: at depth above 0 the current one absent" (madeUpOver thirteen 4 1 0 []) all13
@@ -679,7 +679,7 @@ unfolding judge guard
     shapeOf floatsEffect vectorResult vectorsEffect vectorsToFloatEffect negatesVEffect storesEffect storesVEffect branchesDo roundingOf callOf callDoes fetchConditions execute doesAt
     fieldCellAccess fieldAccess valueMoved loadsEffect addressesEffect storesPEffect
     entitiesFit limits present copied successive arguments copiesPresent entryConditions entered leaveConditions left stepAs step runFor
-    each headerConditions recordConditions cellConditions loaded load sameFile recordedIn programAt
+    each headerConditions recordConditions cellConditions loaded load sameFile recordedIn programWith
     frameFunctions enteredFunctions allPresent localsOf sound hostEnter statement runConditions run carryOnConditions carryOn leftTimes leavingsConditions abandonConditions abandon rawRead rawWrite
 computing = tt
 

@@ -26,7 +26,7 @@ use Rattle.definition.specs.Statements.{floatsEffect, valuesEffect, vect
 use Rattle.definition.specs.Statements.{storedNatural, storesEffect, reservedCell, moveAccess, storesVEffect, branchesDo, roundingEffect, builtinDoes, callOf, callDoes, statementAt, fetchConditions, Tables, tablesOf, executeAs, execute, doesAt}
 use Rattle.definition.specs.Statements.{valueMoved, loadsEffect, addressesEffect, pointsAtField, storesPEffect, putDoes}
 use Rattle.definition.specs.Machine.{Program}
-use Rattle.definition.specs.Load.{programAt, programOf}
+use Rattle.definition.specs.Load.{programWith, programOf}
 use Rattle.definition.specs.Log.{functionIn, Kind, entry, leaving, other, statementKind}
 use Rattle.definition.specs.CheckLaws.{All, judge-passed, all-front, all-back, and-left, and-right}
 
@@ -399,7 +399,7 @@ beforeIn file p e cells =
 
 pub statement-has-kind : (file : List ℕ) (p : ℤ) (e : Entities) (cells : List ℕ)
     → HasKind (beforeIn file p e cells) (statementKind file p cells) (programOf file .does p e cells)
-unfolding programAt doesAt execute fetchConditions
+unfolding programWith doesAt execute fetchConditions
 statement-has-kind file p e cells =
     provided-has-kind _ _ _ _ λ h.
     let st = statementAt (contentsOf file .statements) p in

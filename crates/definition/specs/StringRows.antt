@@ -1,5 +1,5 @@
 -- TEXTS OF STRINGS, document 02's R-4: worked cases, as rows of one table that is computed from the definition. Each row starts from the bytes of a file with
--- 36 cells, enters function 1 and completes its first statement.
+-- 64 cells, enters function 1 and completes its first statement.
 use Prim.Native.Nat.{ℕ}
 use mathlib.Core.List.{List, [], _∷_, _++_}
 use lib.IntN.{pos}
@@ -40,7 +40,7 @@ over strings definitions st cells =
 
 -- x in cell 28, y in cell 29; every other cell has its own number in it
 abbrev contents : List ℕ → List Definition → Statement → ℕ → ℕ → Contents
-contents strings definitions st x y = over strings definitions st (set (set (numbers 36 0) 28 x) 29 y)
+contents strings definitions st x y = over strings definitions st (set (set (numbers 64 0) 28 x) 29 y)
 
 -- all bytes but 0, once each, and one more, which a zero byte ends: 257 bytes
 abbrev allBytes : ℕ → List ℕ
@@ -61,7 +61,7 @@ no x = after teams [] (op 46 28 0 30) x 29
 
 -- with x in cell 0 and y in cell 28
 abbrev withZero : Statement → ℕ → ℕ → Seen
-withZero st x y = from (over teams [] st (set (set (numbers 36 0) 0 x) 28 y)) (enter 1 (complete (cells 1 30)))
+withZero st x y = from (over teams [] st (set (set (numbers 64 0) 0 x) 28 y)) (enter 1 (complete (cells 1 30)))
 
 abbrev one : Seen
 one = accepted (0x3f800000 ∷ [])
@@ -147,26 +147,26 @@ refusals =
 -- each two neighbours in the order of checks
 abbrev order : List Row
 order =
-    row "15, negative first, before 15 of the second" (after teams [] (op 12 0xffff 38 30) 0 4) (refused 15)
+    row "15, negative first, before 15 of the second" (after teams [] (op 12 0xffff 66 30) 0 4) (refused 15)
     ∷ row "15, negative second, before 16 of the first" (after teams (define float 28 ∷ []) (op 12 28 0xffff 30) 0 4) (refused 15)
     ∷ row "15, negative second, before 33 of the first" (after teams [] (op 12 28 0xffff 30) 22 4) (refused 15)
     ∷ row "16 of the first before its 33" (after teams (define float 28 ∷ []) (op 12 28 29 30) 22 4) (refused 16)
-    ∷ row "16 of the first before its 15" (after teams (define float 38 ∷ []) (op 12 38 29 30) 0 4) (refused 16)
-    ∷ row "15 of the first before 16 of the second" (after teams (define float 29 ∷ []) (op 12 38 29 30) 0 4) (refused 15)
+    ∷ row "16 of the first before its 15" (after teams (define float 66 ∷ []) (op 12 66 29 30) 0 4) (refused 16)
+    ∷ row "15 of the first before 16 of the second" (after teams (define float 29 ∷ []) (op 12 66 29 30) 0 4) (refused 15)
     ∷ row "33 of the first before 16 of the second" (after teams (define float 29 ∷ []) (op 12 28 29 30) 22 4) (refused 33)
-    ∷ row "33 of the first before 15 of the second" (after teams [] (op 12 28 38 30) 22 4) (refused 33)
+    ∷ row "33 of the first before 15 of the second" (after teams [] (op 12 28 66 30) 22 4) (refused 33)
     ∷ row "16 of the second before its 33" (after teams (define entity 29 ∷ []) (op 17 28 29 30) 0 22) (refused 16)
-    ∷ row "15 of the second before 16 of the destination" (after teams (define entity 30 ∷ []) (op 17 28 38 30) 0 4) (refused 15)
+    ∷ row "15 of the second before 16 of the destination" (after teams (define entity 30 ∷ []) (op 17 28 66 30) 0 4) (refused 15)
     ∷ row "33 of the second before 16 of the destination" (after teams (define string 30 ∷ []) (op 12 28 29 30) 0 22) (refused 33)
-    ∷ row "33 of the second before 15 of the destination" (after teams [] (op 12 28 29 38) 0 22) (refused 33)
+    ∷ row "33 of the second before 15 of the destination" (after teams [] (op 12 28 29 66) 0 22) (refused 33)
     ∷ row "16 of the destination" (after teams (define string 30 ∷ []) (op 12 28 29 30) 0 4) (refused 16)
-    ∷ row "15 of the destination" (after teams [] (op 12 28 29 38) 0 4) (refused 15)
+    ∷ row "15 of the destination" (after teams [] (op 12 28 29 66) 0 4) (refused 15)
     ∷ row "18 before a negative operand: NotS" (after teams [] (op 46 0xffff 1 30) 0 4) (refused 18)
     ∷ row "15, negative, before 16 of the destination: NotS" (after teams (define string 30 ∷ []) (op 46 0xffff 0 30) 0 4) (refused 15)
     ∷ row "16 before 33: NotS" (after teams (define float 28 ∷ []) (op 46 28 0 30) 22 4) (refused 16)
-    ∷ row "15 before 16 of the destination: NotS" (after teams (define string 30 ∷ []) (op 46 38 0 30) 0 4) (refused 15)
+    ∷ row "15 before 16 of the destination: NotS" (after teams (define string 30 ∷ []) (op 46 66 0 30) 0 4) (refused 15)
     ∷ row "33 before 16 of the destination: NotS" (after teams (define string 30 ∷ []) (op 46 28 0 30) 22 4) (refused 33)
-    ∷ row "33 before 15 of the destination: NotS" (after teams [] (op 46 28 0 38) 22 4) (refused 33)
+    ∷ row "33 before 15 of the destination: NotS" (after teams [] (op 46 28 0 66) 22 4) (refused 33)
     ∷ row "16 of the destination: NotS" (after teams (define string 30 ∷ []) (op 46 28 0 30) 4 4) (refused 16)
     ∷ row "18 before 33: NotS" (after teams [] (op 46 28 1 30) 22 4) (refused 18)
     ∷ row "18 before 33 of operand 0: NotS" (withZero (op 46 0 1 30) 22 0) (refused 18)
@@ -181,7 +181,7 @@ unread =
     ∷ row "no cell" (after teams [] (op 12 100 100 30) 0 4) one
     ∷ row "15: negative" (after teams [] (op 12 0xffff 0xffff 30) 0 4) (refused 15)
     ∷ row "16 of the destination" (after teams (define string 30 ∷ []) (op 12 28 28 30) 22 4) (refused 16)
-    ∷ row "15 of the destination" (after teams [] (op 17 28 28 38) 22 4) (refused 15)
+    ∷ row "15 of the destination" (after teams [] (op 17 28 28 66) 22 4) (refused 15)
     ∷ []
 
 -- ---- a file without strings has no functions either, so its statements are taken by themselves
@@ -202,8 +202,8 @@ noStrings =
     row "33: number 0, EqS" (bare (op 12 28 29 30)) (refused 33)
     ∷ row "33: number 0, NotS" (bare (op 46 28 0 30)) (refused 33)
     ∷ row "33: number 0 of operand 0, NotS" (bare (op 46 0 0 30)) (refused 33)
-    ∷ row "15 before 33, EqS" (bare (op 12 38 29 30)) (refused 15)
-    ∷ row "15 before 33, NotS" (bare (op 46 38 0 30)) (refused 15)
+    ∷ row "15 before 33, EqS" (bare (op 12 66 29 30)) (refused 15)
+    ∷ row "15 before 33, NotS" (bare (op 46 66 0 30)) (refused 15)
     ∷ row "equal operands are answered unread" (bare (op 17 28 28 30)) (accepted [])
     ∷ []
 

@@ -1,10 +1,10 @@
 -- WRITING PROGRAM FILES. Document 02, R-6: "The machine writes a loaded program: header, then the six lumps in header order without gaps, profile
 -- numbers 0." What is written is made of what a file says, `File: Contents`, and of the check number: so "placement" and "profile numbers", which no
 -- contents have, can't change it, and neither can a running cell.
-use Prim.Native.Nat.{ℕ, _+_, _*_, _/_, _%_}
+use Prim.Native.Nat.{ℕ, _+_, _-_, _*_, _/_, _%_}
 use mathlib.Core.List.{List, [], _∷_, _++_}
 use mathlib.Core.Bool.{_&&_}
-use lib.ListN.{length, drop}
+use lib.ListN.{length, drop, replicate}
 use lib.Dec.{leb}
 use Rattle.definition.specs.declared.Lump.{Lump}
 use Rattle.definition.specs.declared.FileRecord.{FileRecord}
@@ -14,7 +14,7 @@ use Rattle.definition.specs.declared.FunctionDef.{FunctionDef}
 use Rattle.definition.specs.declared.WriteAnswer.{WriteAnswer}
 use Rattle.definition.specs.declared.WriteAnswer.the-variants as write
 use Rattle.definition.specs.Checks.{Conditions, _otherwise_, Checked, refused, accepted, guard}
-use Rattle.definition.specs.File.{version, checkNumber, statementSize, definitionSize, functionSize, cellSize, headerLength, longestFile, Contents, contentsOf}
+use Rattle.definition.specs.File.{version, checkNumber, statementSize, definitionSize, functionSize, cellSize, headerLength, longestFile, leastCells, Contents, contentsOf}
 use Rattle.definition.specs.Machine.{Config}
 use Rattle.definition.specs.Load.{programOf}
 use Rattle.definition.specs.Operations.{sound}
@@ -123,6 +123,27 @@ written check k =
     ++ bytesOf functionBytes (k .functions)
     ++ k .strings
     ++ bytesOf u32Bytes (k .globals)
+
+-- ---- padded files (R-7)
+
+-- "with zero cells added .. and everything else equal"
+abbrev pub padded : ℕ → Contents → Contents
+padded n k =
+    record {
+      statements = k .statements;
+      globaldefs = k .globaldefs;
+      fielddefs = k .fielddefs;
+      functions = k .functions;
+      strings = k .strings;
+      globals = k .globals ++ replicate n 0;
+      entityfields = k .entityfields;
+    }
+
+-- "it writes them by R-6 with zero cells added up to 64"; of 64 cells or more with none added
+abbrev pub paddedFile : List ℕ → List ℕ
+paddedFile file =
+    let k = contentsOf file in
+    written checkNumber (padded (leastCells - length (k .globals)) k)
 
 -- ---- into a lent output buffer
 

@@ -31,8 +31,11 @@ pub const GREATEST_TYPE: u16 = 7;
 // "Bit 15 of the type is the save flag"
 pub const SAVE_FLAG: u16 = 32_768;
 
-// "10: under 36 or over 32,768"
-pub const LEAST_CELLS: usize = 36;
+// "10: under 36 or over 32,768"; document 02, R-7: "Files of 36 to 63 cells are refused 10 from now on"
+pub const LEAST_CELLS: usize = 64;
+
+// R-7: the least number of cells of a file that the padding program admits.
+pub const LEAST_TO_PAD: usize = 36;
 
 pub const MOST_CELLS: usize = 32_768;
 

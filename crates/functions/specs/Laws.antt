@@ -16,7 +16,7 @@ use Rattle.definition.specs.Checks.{Conditions, _otherwise_, judge}
 use Rattle.definition.specs.File.{recordsIn, readFunction, noFunction, negative, Contents, contentsAt}
 use Rattle.definition.specs.File.{fileOf, lengthFits, lumpFits, lumpsFit, leastCells, cellsFit, entityFits}
 use Rattle.definition.specs.RecordLaws.{length-records}
-use Rattle.definition.specs.Load.{sameLump, sameFile, recordedIn, programAt, programOf}
+use Rattle.definition.specs.Load.{sameLump, sameFile, recordedIn, programWith, programOf}
 use Rattle.definition.specs.Machine.{functionOf, entitiesFit}
 use Rattle.definition.specs.Statements.{Does, Entities, refuses, orRefused, placeOf, statementAt, fetchConditions, execute, doesAt}
 use Rattle.functions.specs.declared.FunctionId.the-variants as function
@@ -157,12 +157,12 @@ pub record Recorded (file : List ℕ) (r : FileRecord) (lent : ℕ) : Type 0 whe
   pub same : r ≡ fileOf file
   pub longest : length file ≤ 1048576
   pub lumps : AllFit (length file) r
-  pub least : 36 ≤ r .globals .count
+  pub least : 64 ≤ r .globals .count
   pub most : r .globals .count ≤ 32768
   pub lends : r .globals .count ≤ lent
   pub size : EntitySize r
 
-pub recorded : (file : List ℕ) (r : FileRecord) (lent : ℕ) → recordedIn file r lent ≡ true → Recorded file r lent
+pub recorded : (file : List ℕ) (r : FileRecord) (lent : ℕ) → recordedIn leastCells file r lent ≡ true → Recorded file r lent
 unfolding recordedIn fileOf
 recorded file r lent e =
     let e5 = both _ _ e in
@@ -185,7 +185,7 @@ recorded file r lent e =
     }
 
 -- a file that is too short for a header is as no state records
-pub short-file : (file : List ℕ) (r : FileRecord) (lent : ℕ) → length file < 60 → false ≡ recordedIn file r lent
+pub short-file : (file : List ℕ) (r : FileRecord) (lent : ℕ) → length file < 60 → false ≡ recordedIn leastCells file r lent
 unfolding recordedIn fileOf
 short-file file r lent h = by (sameFile r (fileOf file)) refl
   where
@@ -205,11 +205,11 @@ count-statements r file = length-records _ _ _ _
 
 module _ (file : List ℕ) where
   pub function-of : (f : ℕ) → getD (recordsIn (readFunction file) 36 (fileOf file .functions)) f noFunction ≡ functionOf (programOf file) f
-  unfolding programAt contentsAt
+  unfolding programWith contentsAt
   function-of f = refl
 
   pub count-functions : length (programOf file .functions) ≡ fileOf file .functions .count
-  unfolding programAt contentsAt
+  unfolding programWith contentsAt
   count-functions = length-records _ _ _ _
 
 -- ---- numbers of functions and strings

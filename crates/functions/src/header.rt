@@ -2,7 +2,7 @@
 ghost use mathlib.Core.Path.{_≡_};
 ghost use Prim.Native.Nat.{_+_, _≤_, _<_};
 ghost use lib.ListN.{length};
-ghost use Rattle.definition.specs.File.{lumpAt, fileOf, lengthFits, lumpFits, lumpsFit, cellsFit, entityFits};
+ghost use Rattle.definition.specs.File.{leastCells, lumpAt, fileOf, lengthFits, lumpFits, lumpsFit, cellsFit, entityFits};
 ghost use Rattle.definition.specs.Load.{sameLump, sameFile, recordedIn};
 ghost use Rattle.definition.specs.Machine.{entitiesFit};
 use crate::reads;
@@ -130,7 +130,7 @@ pub fn same_file(a: FileRecord, b: FileRecord) -> bool
 
 // The first of 13's conditions. A state can record no file that is too short for a header.
 pub fn recorded_in(file: &[u8], r: FileRecord, lent: usize) -> bool
-    ensures { λ b. ⌜ b ≡ recordedIn (now (file .entry)) r lent ⌝ }
+    ensures { λ b. ⌜ b ≡ recordedIn leastCells (now (file .entry)) r lent ⌝ }
 {
     if file.len() < HEADER_LENGTH {
         return false;

@@ -21,5 +21,5 @@ pub fn write_file(
     if !context.check_state(file, cells, store, entities) {
         return WriteAnswer::Refused(13);
     }
-    writer::write_program(output, CHECK_NUMBER, file, context.file)
+    writer::write_program(output, CHECK_NUMBER, file, context.file, 0)
 }

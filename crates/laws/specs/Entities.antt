@@ -25,7 +25,7 @@ use Rattle.definition.specs.Cells.{vector, field, pointer, cellOf, mustBeNatura
 use Rattle.definition.specs.Statements.{Entities, Does, next, puts, calls, returns, refuses, handsOver, orRefused, provided, unused, valueMoved, pointsAtField, storesPEffect, Effect, effectDoes, branchesDo, builtinDoes, callOf, callDoes, statementAt, fetchConditions, Tables, tablesOf, executeAs, execute, doesAt}
 use Rattle.definition.specs.Statements.{Shape, floats, values, vectors, vectorsToFloat, strings, negates, negatesV, negatesS, stores, storesV, loads, addresses, storesP, branches, jumps, call, return, host, opcodes, shapeOf}
 use Rattle.definition.specs.Machine.{Program, Config, entitiesOf, withEntities, advanced, entryConditions, entered, enter, left, returnConditions, returned, Stepped, completed, refusedStep, handedStep, asStep, stepAs, step, Ran, goOn, runAs, runFor}
-use Rattle.definition.specs.Load.{loaded, load, programAt, programOf}
+use Rattle.definition.specs.Load.{loaded, load, programWith, programOf}
 use Rattle.definition.specs.Operations.{sound, natural, hostEnter, stepIf, statement, runConditions, runAfter, run, isHandedOver, carryOnConditions, carryOn, leftTimes, abandon, rawWrite}
 use Rattle.definition.specs.Answers.{kept, statementOutcome, loadOutcome}
 use Rattle.definition.specs.Calls.{Call, enters, steps, runs, carries, abandons, reads, writes, lends, after, smallSteps}
@@ -524,7 +524,7 @@ at file p = statementAt (contentsOf file .statements) p
 
 does-claims : (file : List ℕ) (p : ℤ) (e : Entities) (cells : List ℕ)
     → Claims (Put (tablesOf (contentsOf file)) p (at file p) e cells) (GoesToHost (tablesOf (contentsOf file)) (at file p) cells) (programOf file .does p e cells)
-unfolding programAt doesAt execute fetchConditions
+unfolding programWith doesAt execute fetchConditions
 does-claims file p e cells =
     provided-claims (Put (tablesOf (contentsOf file)) p (at file p) e cells) (GoesToHost (tablesOf (contentsOf file)) (at file p) cells) _ _ λ h.
     executed-claims (tablesOf (contentsOf file)) p (at file p) e cells (shapeOf (at file p .opcode)) (as-opcode (at file p .opcode) (ltb-true _ _ (h .1 .0)))
@@ -544,7 +544,7 @@ handed-over file p e cells h is =
 -- opcode 60 always is
 pub sixty-handed-over : (file : List ℕ) (p : ℤ) (e : Entities) (cells : List ℕ) → All (programOf file .fetching p) → at file p .opcode ≡ 60
     → programOf file .does p e cells ≡ handsOver (Opcode 60)
-unfolding programAt doesAt execute shapeOf opcodes
+unfolding programWith doesAt execute shapeOf opcodes
 sixty-handed-over file p e cells h is = rw (judge-all (fetchConditions (contentsOf file .statements) p) h, is) (ap (λ (n : ℕ). handsOver (Opcode n)) is)
 
 false-not-true : false ≡ true → ⊥

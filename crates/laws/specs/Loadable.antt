@@ -44,7 +44,7 @@ pub record Loadable (file : List ℕ) (n lent store entities : ℕ) : Type 0 whe
   pub statements : Every StatementIs (contentsOf file .statements)
   pub globaldefs : Every (GlobaldefIs (fileOf file .strings .count)) (contentsOf file .globaldefs)
   pub fielddefs : Every (FielddefIs (fileOf file .strings .count)) (contentsOf file .fielddefs)
-  pub least : 36 ≤ fileOf file .globals .count
+  pub least : 64 ≤ fileOf file .globals .count
   pub most : fileOf file .globals .count ≤ 32768
   pub per-entity : 105 ≤ fileOf file .entityfields
   pub signed : not (negative (fileOf file .entityfields)) ≡ true
@@ -85,7 +85,7 @@ module _ (file : List ℕ) (n : ℕ) (cells saved entities : List ℕ) (h : Load
   lent-fit : All (cellConditions leastCells (fileOf file) (length cells) (length saved))
   unfolding cellConditions
   lent-fit = (
-    and-both _ _ (le-leb 36 _ (h .least)) (le-leb _ 32768 (h .most)),
+    and-both _ _ (le-leb 64 _ (h .least)) (le-leb _ 32768 (h .most)),
     (
       and-both _ _ (le-leb 105 _ (h .per-entity)) (h .signed),
       (and-both _ _ (le-leb _ _ (h .enough)) (le-leb 2048 _ (h .store-enough)), tt),

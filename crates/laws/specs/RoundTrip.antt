@@ -20,7 +20,7 @@ use Rattle.definition.specs.Cells.{string, vector, entity, field, pointer, cell
 use Rattle.definition.specs.Statements.{Entities, Does, orRefused, provided, unused, valueMoved, storedNatural, pointsAtField, storesPEffect, loadsEffect, addressesEffect, Effect, effectDoes, putDoes, fetchConditions, Tables, tablesOf, executeAs, execute, doesAt}
 use Rattle.definition.specs.Statements.{Shape, loads, addresses, storesP, opcodes, shapeOf}
 use Rattle.definition.specs.Machine.{Program, Config, entitiesOf, advanced, completed, stepAs, step}
-use Rattle.definition.specs.Load.{programAt, programOf}
+use Rattle.definition.specs.Load.{programWith, programOf}
 use Rattle.definition.specs.CheckLaws.{All, judge-passed, judge-all, and-both, all-front, all-back, all-both}
 use Rattle.definition.specs.StatementLaws.{fields-below, access-last, entity-cell}
 use Rattle.laws.specs.Entities.{widthOf, Written, moved-written, width-inside, at}
@@ -331,7 +331,7 @@ module _ (file : List ℕ) (c c′ : Config) (st : Statement) (is : at file (c .
   -- the statement is executed by its shape
   executed-step : (shape : Shape) → shapeOf (st .opcode) ≡ shape
       → stepAs (programOf file) (executeAs shape k (c .state .pc) st (cellOf (st .arg1)) (cellOf (st .arg2)) (cellOf (st .arg3)) (entitiesOf c) (c .cells)) c ≡ completed c′
-  unfolding step programAt doesAt execute
+  unfolding step programWith doesAt execute
   executed-step shape e =
       let by : Shape → Statement → Does = λ s x. executeAs s k (c .state .pc) x (cellOf (x .arg1)) (cellOf (x .arg2)) (cellOf (x .arg3)) (entitiesOf c) (c .cells) in
       let fetched = provided-steps (programOf file) (fetchConditions (contentsOf file .statements) (c .state .pc)) _ c c′ completes .1 in
@@ -383,7 +383,7 @@ module _ (file : List ℕ) (c : Config) (thirty : at file (c .state .pc) .opcode
 
   -- it completes where they are so
   pub address-completes : All (programOf file .fetching (c .state .pc)) → AddressPasses → step (programOf file) c ≡ completed afterAddress
-  unfolding step stepAs programAt doesAt execute addressesEffect
+  unfolding step stepAs programWith doesAt execute addressesEffect
   address-completes fetched passes =
       rw (judge-all (fetchConditions (contentsOf file .statements) (c .state .pc)) fetched, is-address, judge-all (made .conditions) (addressable-all _ _ _ _ _ _ _ passes))
 

@@ -18,7 +18,7 @@ use Rattle.definition.specs.Checks.{Condition, Conditions, Checked, refused, ac
 use Rattle.definition.specs.File.{leastCells, savedStore, mostEntities, greatestDepth, negative, fileOf, contentsOf, lengthFits, lumpsFit, cellsFit, entityFits, contentsAt}
 use Rattle.definition.specs.Machine.{Program, functionOf, State, Config, countOf, limits, zeroFrame, startState, entitiesFit, present, copied, successive, argumentsOf, withCells, advanced}
 use Rattle.definition.specs.Machine.{entryConditions, entered, leaveConditions, left, returnConditions, returned}
-use Rattle.definition.specs.Load.{headerConditions, recordConditions, cellConditions, loadConditions, loaded, entitiesGiven, load, sameLump, sameFile, recordedIn, programAt, programOf}
+use Rattle.definition.specs.Load.{headerConditions, recordConditions, cellConditions, loadConditions, loaded, entitiesGiven, load, sameLump, sameFile, recordedIn, programWith, programOf}
 use Rattle.definition.specs.Operations.{frameFunctions, enteredAt, enteredFunctions, allPresent, localsOf, sound}
 use Rattle.definition.specs.Calls.{Call}
 use Rattle.definition.specs.Log.{Log, Kind, entry, leaving, other}
@@ -78,7 +78,7 @@ same-number n = eq-eqb n n refl
 same-lump : (l : Lump) → sameLump l l ≡ true
 same-lump l = rw (same-number (l .offset), same-number (l .count))
 
-same-file : (r : FileRecord) → sameFile r r ≡ true
+pub same-file : (r : FileRecord) → sameFile r r ≡ true
 unfolding sameFile
 same-file r =
     rw (
@@ -92,7 +92,7 @@ same-file r =
       same-number (r .entityfields),
     )
 
-consistent-recorded : (file : List ℕ) (c : Config) → Consistent file c → recordedIn file (c .state .file) (length (c .cells)) ≡ true
+consistent-recorded : (file : List ℕ) (c : Config) → Consistent file c → recordedIn leastCells file (c .state .file) (length (c .cells)) ≡ true
 unfolding recordedIn
 consistent-recorded file c k =
     let r = fileOf file in
@@ -106,7 +106,7 @@ consistent-entities file c k lent =
     rw (k .recorded, le-leb (c .state .entityCount) mostEntities (k .few)) (le-leb _ _ lent)
 
 pub consistent-sound : (file : List ℕ) (c : Config) → Consistent file c → Suffice file c → sound (programOf file) c ≡ true
-unfolding sound limits programAt
+unfolding sound limits programWith
 consistent-sound file c k lent =
     rw (
       consistent-recorded file c k,
@@ -252,7 +252,7 @@ loaded-consistent file n cells saved entities =
     guarded (Consistent file) _ _ λ h.
     let r = fileOf file in
     let k = contentsOf file in
-    let rows = load-rows file (entitiesGiven n) (length cells) (length saved) (length entities) h in
+    let rows = load-rows leastCells file (entitiesGiven n) (length cells) (length saved) (length entities) h in
     record {
       stack = record { room = omega (arith, length-replicate greatestDepth zeroFrame); depth-most = omega arith; all = refl; sum = refl; saved-most = omega arith };
       long = leb-true savedStore (length saved) (and-right (leb (r .globals .count) (length cells)) (leb savedStore (length saved)) (rows .cells .1 .1 .0));
@@ -283,7 +283,7 @@ loaded-suffices : (file : List ℕ) (n : ℤ) (cells saved entities : List ℕ) 
 unfolding load loaded entitiesFit contentsAt
 loaded-suffices file n cells saved entities =
     guarded (Suffice file) _ _ λ h.
-    let rows = load-rows file (entitiesGiven n) (length cells) (length saved) (length entities) h in
+    let rows = load-rows leastCells file (entitiesGiven n) (length cells) (length saved) (length entities) h in
     leb-true _ _ (and-right (leb (entitiesGiven n) mostEntities) (leb (entitiesGiven n * fileOf file .entityfields) (length entities)) (rows .fields .0))
 
 -- the lent entity cells of an accepted load suffice

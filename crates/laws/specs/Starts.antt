@@ -43,7 +43,7 @@ unfolding load loaded entitiesFit
 when-accepted-starts file n cells saved entities =
     guarded (Started file n cells saved entities) _ _ λ h.
     let count = fileOf file .globals .count in
-    let rows = load-rows file (entitiesGiven n) (length cells) (length saved) (length entities) h in
+    let rows = load-rows leastCells file (entitiesGiven n) (length cells) (length saved) (length entities) h in
     record {
       recorded = refl;
       position = refl;
@@ -77,9 +77,9 @@ pub length-fits : (file : List ℕ) → 60 ≤ length file → length file ≤ 1
 unfolding fileOf
 length-fits file low high = rw (le-leb 60 (length file) low, le-leb (length file) 1048576 high)
 
--- "10: under 36 or over 32,768"
-pub cells-fit : (file : List ℕ) → 36 ≤ fileOf file .globals .count → fileOf file .globals .count ≤ 32768 → cellsFit leastCells (fileOf file) ≡ true
-cells-fit file low high = rw (le-leb 36 (fileOf file .globals .count) low, le-leb (fileOf file .globals .count) 32768 high)
+-- "10: under 36 or over 32,768", and R-7: "Files of 36 to 63 cells are refused 10 from now on"
+pub cells-fit : (file : List ℕ) → 64 ≤ fileOf file .globals .count → fileOf file .globals .count ≤ 32768 → cellsFit leastCells (fileOf file) ≡ true
+cells-fit file low high = rw (le-leb 64 (fileOf file .globals .count) low, le-leb (fileOf file .globals .count) 32768 high)
 
 -- R-3: "More than 600 entities .. are refused 13", however many entity cells are lent
 pub too-many-entities : (n size lent : ℕ) → 600 < n → entitiesFit n size lent ≡ false
@@ -90,7 +90,7 @@ too-many-entities n size lent h = rw (lt-leb n 600 h)
 pub record Sizes (file : List ℕ) (n : ℤ) (cells saved entities : List ℕ) : Type 0 where
   pub length-least : 60 ≤ length file
   pub length-most : length file ≤ 1048576
-  pub cells-least : 36 ≤ fileOf file .globals .count
+  pub cells-least : 64 ≤ fileOf file .globals .count
   pub cells-most : fileOf file .globals .count ≤ 32768
   pub entity-least : 105 ≤ fileOf file .entityfields
   pub lent : fileOf file .globals .count ≤ length cells
@@ -104,12 +104,12 @@ when-accepted-sizes file n cells saved entities =
     guarded (λ (c : Config). Sizes file n cells saved entities) _ _ λ h.
     let r = fileOf file in
     let count = r .globals .count in
-    let rows = load-rows file (entitiesGiven n) (length cells) (length saved) (length entities) h in
+    let rows = load-rows leastCells file (entitiesGiven n) (length cells) (length saved) (length entities) h in
     record {
       length-least = leb-true 60 (length file) (and-left (leb 60 (length file)) (leb (length file) 1048576) (rows .header .0));
       length-most = leb-true (length file) 1048576 (and-right (leb 60 (length file)) (leb (length file) 1048576) (rows .header .0));
-      cells-least = leb-true 36 count (and-left (leb 36 count) (leb count 32768) (rows .cells .0));
-      cells-most = leb-true count 32768 (and-right (leb 36 count) (leb count 32768) (rows .cells .0));
+      cells-least = leb-true 64 count (and-left (leb 64 count) (leb count 32768) (rows .cells .0));
+      cells-most = leb-true count 32768 (and-right (leb 64 count) (leb count 32768) (rows .cells .0));
       entity-least = leb-true 105 (r .entityfields) (and-left (leb 105 (r .entityfields)) _ (rows .cells .1 .0));
       lent = leb-true count (length cells) (and-left (leb count (length cells)) (leb 2048 (length saved)) (rows .cells .1 .1 .0));
       store = leb-true 2048 (length saved) (and-right (leb count (length cells)) (leb 2048 (length saved)) (rows .cells .1 .1 .0));

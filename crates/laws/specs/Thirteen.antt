@@ -8,7 +8,7 @@ use borrow.Author.Tests.{leb-true, eqb-true, le-leb, eq-eqb}
 use lib.ListN.{length}
 use lib.Dec.{leb, eqb}
 use Rattle.definition.specs.declared.FileRecord.{FileRecord}
-use Rattle.definition.specs.File.{negative, fileOf, lengthFits, lumpsFit, leastCells, cellsFit, entityFits}
+use Rattle.definition.specs.File.{negative, fileOf, lengthFits, lumpsFit, cellsFit, entityFits}
 use Rattle.definition.specs.Load.{sameFile, recordedIn}
 use Rattle.definition.specs.Machine.{Program, Config, limits, entitiesFit}
 use Rattle.definition.specs.Operations.{enteredFunctions, allPresent, localsOf, sound}
@@ -70,40 +70,41 @@ thirteen-only P c h =
 
 -- ---- the first clause, for the program of a file
 
--- "file length, header lumps or cells per entity not as the state records, or outside 1, 4, 10 or 11; lent cells fewer than the file's"
-pub record Recorded (file : List ℕ) (r : FileRecord) (lent : ℕ) : Type 0 where
+-- "file length, header lumps or cells per entity not as the state records, or outside 1, 4, 10 or 11; lent cells fewer than the file's"; the least
+-- number of cells is 64, and 36 for the files that R-7's padding program admits
+pub record Recorded (least : ℕ) (file : List ℕ) (r : FileRecord) (lent : ℕ) : Type 0 where
   pub same : sameFile r (fileOf file) ≡ true
   pub shortest : 60 ≤ r .length
   pub longest : r .length ≤ 1048576
   pub lumps : lumpsFit r ≡ true
-  pub least : 36 ≤ r .globals .count
+  pub fewest : least ≤ r .globals .count
   pub most : r .globals .count ≤ 32768
   pub per-entity : 105 ≤ r .entityfields
   pub signed : not (negative (r .entityfields)) ≡ true
   pub enough : r .globals .count ≤ lent
 
-pub recorded-passes : (file : List ℕ) (r : FileRecord) (lent : ℕ) → Recorded file r lent → recordedIn file r lent ≡ true
+pub recorded-passes : (least : ℕ) (file : List ℕ) (r : FileRecord) (lent : ℕ) → Recorded least file r lent → recordedIn least file r lent ≡ true
 unfolding recordedIn
-recorded-passes file r lent h =
+recorded-passes least file r lent h =
     rw (
       h .same,
       le-leb 60 (r .length) (h .shortest),
       le-leb (r .length) 1048576 (h .longest),
       h .lumps,
-      le-leb 36 (r .globals .count) (h .least),
+      le-leb least (r .globals .count) (h .fewest),
       le-leb (r .globals .count) 32768 (h .most),
       le-leb 105 (r .entityfields) (h .per-entity),
       h .signed,
       le-leb (r .globals .count) lent (h .enough),
     )
 
-pub recorded-only : (file : List ℕ) (r : FileRecord) (lent : ℕ) → recordedIn file r lent ≡ true → Recorded file r lent
+pub recorded-only : (least : ℕ) (file : List ℕ) (r : FileRecord) (lent : ℕ) → recordedIn least file r lent ≡ true → Recorded least file r lent
 unfolding recordedIn
-recorded-only file r lent h =
+recorded-only least file r lent h =
     let a : Bool = sameFile r (fileOf file) in
     let b : Bool = lengthFits r in
     let c : Bool = lumpsFit r in
-    let d : Bool = cellsFit leastCells r in
+    let d : Bool = cellsFit least r in
     let e : Bool = entityFits r in
     let f : Bool = leb (r .globals .count) lent in
     let h4 : (a && b && c && d && e) ≡ true = and-left (a && b && c && d && e) f h in
@@ -118,8 +119,8 @@ recorded-only file r lent h =
       shortest = leb-true 60 (r .length) (and-left (leb 60 (r .length)) (leb (r .length) 1048576) long);
       longest = leb-true (r .length) 1048576 (and-right (leb 60 (r .length)) (leb (r .length) 1048576) long);
       lumps = and-right (a && b) c h2;
-      least = leb-true 36 (r .globals .count) (and-left (leb 36 (r .globals .count)) (leb (r .globals .count) 32768) cells);
-      most = leb-true (r .globals .count) 32768 (and-right (leb 36 (r .globals .count)) (leb (r .globals .count) 32768) cells);
+      fewest = leb-true least (r .globals .count) (and-left (leb least (r .globals .count)) (leb (r .globals .count) 32768) cells);
+      most = leb-true (r .globals .count) 32768 (and-right (leb least (r .globals .count)) (leb (r .globals .count) 32768) cells);
       per-entity = leb-true 105 (r .entityfields) (and-left (leb 105 (r .entityfields)) (not (negative (r .entityfields))) entity);
       signed = and-right (leb 105 (r .entityfields)) (not (negative (r .entityfields))) entity;
       enough = leb-true (r .globals .count) lent (and-right (a && b && c && d && e) f h);

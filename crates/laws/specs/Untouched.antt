@@ -222,7 +222,7 @@ loaded-keeps file n cells saved entities =
     let r = fileOf file in
     let count = r .globals .count in
     let k = contentsOf file in
-    let rows = load-rows file (entitiesGiven n) (length cells) (length saved) (length entities) h in
+    let rows = load-rows leastCells file (entitiesGiven n) (length cells) (length saved) (length entities) h in
     let lent : count ≤ length cells = leb-true count (length cells) (and-left (leb count (length cells)) (leb savedStore (length saved)) (rows .cells .1 .1 .0)) in
     record {
       same-length = omega (arith, lent, length-append (k .globals) (drop count cells), length-globals file, length-drop count cells);

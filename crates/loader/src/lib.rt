@@ -4,14 +4,12 @@ ghost use mathlib.Core.List.{[], _∷_, _++_};
 ghost use Prim.Native.Nat.{_/_, _≤_, _<_};
 ghost use lib.ListN.{length, drop};
 ghost use Rattle.definition.specs.Checks.{judge, _otherwise_};
-ghost use Rattle.definition.specs.File.{leastCells};
 ghost use Rattle.definition.specs.Load.{headerConditions, cellConditions, loadConditions};
 ghost use Rattle.functions.specs.Parts.{cellsIn};
 use definition::CELL_SIZE;
 use definition::CHECK_NUMBER;
 use definition::FileRecord;
 use definition::HEADER_LENGTH;
-use definition::LEAST_CELLS;
 use definition::LONGEST_FILE;
 use definition::SAVED_STORE;
 use definition::VERSION;
@@ -48,10 +46,10 @@ fn header_refusal(file: &[u8]) -> u8
 }
 
 // The row "cells".
-fn cells_refusal(r: FileRecord, lent: usize, store: usize) -> u8
-    ensures { λ n. ⌜ n ≡ judge (cellConditions leastCells r lent store) ⌝ }
+fn cells_refusal(least: usize, r: FileRecord, lent: usize, store: usize) -> u8
+    ensures { λ n. ⌜ n ≡ judge (cellConditions least r lent store) ⌝ }
 {
-    if !header::cells_fit(LEAST_CELLS, r) {
+    if !header::cells_fit(least, r) {
         return 10;
     }
     if !header::entity_fits(r) {
@@ -61,9 +59,17 @@ fn cells_refusal(r: FileRecord, lent: usize, store: usize) -> u8
     otherwise((globals.count <= lent) & (SAVED_STORE <= store), 12)
 }
 
-// The number of the first condition that a load fails, beside so many entities and so many lent cells of each store.
-pub fn load_refusal(file: &[u8], number: usize, lent: usize, store: usize, entities: usize) -> u8
-    ensures { λ r. ⌜ r ≡ judge (loadConditions leastCells (now (file .entry)) number lent store entities) ⌝ }
+// The number of the first condition that a load fails, beside so many entities and so many lent cells of each store; `least` is the least number of cells
+// of a file.
+pub fn load_refusal(
+    file: &[u8],
+    least: usize,
+    number: usize,
+    lent: usize,
+    store: usize,
+    entities: usize,
+) -> u8
+    ensures { λ r. ⌜ r ≡ judge (loadConditions least (now (file .entry)) number lent store entities) ⌝ }
 {
     let h = header_refusal(file);
     if h != 0 {
@@ -74,7 +80,7 @@ pub fn load_refusal(file: &[u8], number: usize, lent: usize, store: usize, entit
     if n != 0 {
         return n;
     }
-    let c = cells_refusal(r, lent, store);
+    let c = cells_refusal(least, r, lent, store);
     if c != 0 {
         return c;
     }

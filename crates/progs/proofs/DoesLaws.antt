@@ -13,7 +13,7 @@ use Rattle.definition.specs.Checks.{judge}
 use Rattle.definition.specs.File.{contentsAt}
 use Rattle.definition.specs.Statements.{Entities, placeOf, fetchConditions, execute, doesAt}
 use Rattle.definition.specs.Machine.{Program, Config, entitiesOf, advanced}
-use Rattle.definition.specs.Load.{programOf, programAt}
+use Rattle.definition.specs.Load.{programOf, programWith}
 use Rattle.definition.specs.Operations.{sound, isHandedOver, carryOnConditions, carryOn}
 use Rattle.definition.specs.CheckLaws.{judge-append, judge-passed, judge-all, all-front}
 use Rattle.functions.specs.declared.fetch.Fetched.the-variants.{At, Refused}
@@ -31,11 +31,11 @@ module _ (file : List ℕ) (r : FileRecord) (h : Loaded file r) where
   statements = contentsAt r file .statements
 
   pub does-here : (p : ℤ) (e : Entities) (cells : List ℕ) → doesAt (contentsAt r file) p e cells ≡ programOf file .does p e cells
-  unfolding programAt
+  unfolding programWith
   does-here p e cells = ap (λ (q : FileRecord). doesAt (contentsAt q file) p e cells) (h .same)
 
   pub fetching-here : (p : ℤ) → fetchConditions statements p ≡ programOf file .fetching p
-  unfolding programAt
+  unfolding programWith
   fetching-here p = ap (λ (q : FileRecord). fetchConditions (contentsAt q file .statements) p) (h .same)
 
   pub fetched-here : (part : List ℕ) (p : ℤ) → part ≡ partOf 8 (r .statements) file → fetched (statementsIn part) p ≡ fetched statements p

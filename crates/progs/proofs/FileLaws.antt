@@ -6,7 +6,7 @@ use lib.ListN.{length}
 use Rattle.definition.specs.declared.FileRecord.{FileRecord}
 use Rattle.definition.specs.declared.FunctionDef.{FunctionDef}
 use Rattle.definition.specs.File.{contentsAt, readFunction}
-use Rattle.definition.specs.Load.{programAt, programOf}
+use Rattle.definition.specs.Load.{programWith, programOf}
 use Rattle.definition.specs.RecordLaws.{length-records}
 use Rattle.functions.specs.Laws.{count-functions}
 use Rattle.functions.specs.Parts.{partOf, functionsIn}
@@ -19,7 +19,7 @@ module _ (file : List ℕ) (r : FileRecord) (h : Loaded file r) where
 
   -- the part that has the functions
   pub functions-here : (part : List ℕ) → part ≡ partOf 36 (r .functions) file → functionsIn part ≡ programOf file .functions
-  unfolding programAt
+  unfolding programWith
   functions-here part e = rw e (part-functions r file (h .lumps) ∙ ap (λ (q : FileRecord). contentsAt q file .functions) (h .same))
 
   pub functions-count : (part : List ℕ) → part ≡ partOf 36 (r .functions) file → length part / 36 ≡ r .functions .count

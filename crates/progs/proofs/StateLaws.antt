@@ -14,9 +14,9 @@ use Rattle.definition.specs.declared.FileRecord.{FileRecord}
 use Rattle.definition.specs.declared.StackFrame.{StackFrame}
 use Rattle.definition.specs.declared.FunctionDef.{FunctionDef}
 use Rattle.definition.specs.Checks.{judge}
-use Rattle.definition.specs.File.{negative}
+use Rattle.definition.specs.File.{negative, leastCells}
 use Rattle.definition.specs.Machine.{Program, functionOf, State, Config, limits, entitiesFit, zeroFrame, entryConditions, entered, enter, left, returnConditions, returned}
-use Rattle.definition.specs.Load.{programAt, programOf, recordedIn}
+use Rattle.definition.specs.Load.{programWith, programOf, recordedIn}
 use Rattle.definition.specs.Operations.{frameFunctions, enteredAt, enteredFunctions, allPresent, localsOf, sound}
 use Rattle.definition.specs.CheckLaws.{judge-passed, and-left, and-right}
 use Rattle.functions.specs.Laws.{Recorded, recorded, EntitySize, entities-room}
@@ -79,8 +79,8 @@ module _ (file cells saved entities : List ℕ) (x : ExecutionContext) where
   abbrev check : Bool
   check = sound (programOf file) (config x cells saved entities)
 
-  pub unrecorded : recordedIn file (x .file) (length cells) ≡ false → false ≡ check
-  unfolding sound programAt
+  pub unrecorded : recordedIn leastCells file (x .file) (length cells) ≡ false → false ≡ check
+  unfolding sound programWith
   unrecorded h = rw h
 
   pub short-store : length saved < 2048 → false ≡ check
@@ -102,15 +102,15 @@ module _ (file cells saved entities : List ℕ) (x : ExecutionContext) where
   unfolding sound limits
   too-full h = rw (lt-leb (x .saved) 2048 h, and-false)
 
-  pub adding-up : recordedIn file (x .file) (length cells) ≡ true → 2048 ≤ length saved → roomy ≡ true → x .depth ≤ 31 → x .saved ≤ 2048
+  pub adding-up : recordedIn leastCells file (x .file) (length cells) ≡ true → 2048 ≤ length saved → roomy ≡ true → x .depth ≤ 31 → x .saved ≤ 2048
       → (allPresent (programOf file) (enteredFunctions (stateOf x)) && eqb (x .saved) (localsOf (programOf file) (enteredFunctions (stateOf x)))) ≡ check
-  unfolding sound limits programAt
+  unfolding sound limits programWith
   adding-up a b e c d = rw (a, le-leb 2048 (length saved) b, e, le-leb (x .depth) 31 c, le-leb (x .saved) 2048 d, and-true)
 
   pub passed : check ≡ true → Within file x (length cells) (length saved) (length entities)
-  unfolding sound limits programAt
+  unfolding sound limits programWith
   passed h =
-      let r = recordedIn file (x .file) (length cells) in
+      let r = recordedIn leastCells file (x .file) (length cells) in
       let s = leb 2048 (length saved) in
       let d = leb (x .depth) 31 in
       let p = allPresent (programOf file) (enteredFunctions (stateOf x)) in
@@ -135,10 +135,10 @@ module _ (file cells saved entities : List ℕ) (x : ExecutionContext) where
       }
 
 -- a file that a context records
-pub loaded-of : (file : List ℕ) (r : FileRecord) (cells : ℕ) → recordedIn file r cells ≡ true → Loaded file r
+pub loaded-of : (file : List ℕ) (r : FileRecord) (cells : ℕ) → recordedIn leastCells file r cells ≡ true → Loaded file r
 loaded-of file r cells h = let k = recorded file r cells h in record { same = k .same; lumps = k .lumps }
 
-pub size-of : (file : List ℕ) (r : FileRecord) (cells : ℕ) → recordedIn file r cells ≡ true → EntitySize r
+pub size-of : (file : List ℕ) (r : FileRecord) (cells : ℕ) → recordedIn leastCells file r cells ≡ true → EntitySize r
 size-of file r cells h = recorded file r cells h .size
 
 -- ---- what check 13 establishes is kept by every entry and leaving

@@ -69,7 +69,7 @@ pub record Loaded (file : List ℕ) (r : FileRecord) : Type 0 where
 
 pub record Within (file : List ℕ) (x : ExecutionContext) (cells saved entities : ℕ) : Type 0 where
   pub loaded : Loaded file (x .file)
-  pub least : 36 ≤ x .file .globals .count
+  pub least : 64 ≤ x .file .globals .count
   pub most : x .file .globals .count ≤ 32768
   pub lent : x .file .globals .count ≤ cells
   pub store : 2048 ≤ saved

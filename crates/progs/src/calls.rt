@@ -158,7 +158,7 @@ pub fn return_cells(
     cells: &mut [u32],
     store: &[u32],
 ) -> Leaving
-    requires { ⌜ (held ≤ 2048) × (2048 ≤ length (now store)) × (36 ≤ count) × (count ≤ length (now cells)) ⌝ }
+    requires { ⌜ (held ≤ 2048) × (2048 ≤ length (now store)) × (64 ≤ count) × (count ≤ length (now cells)) ⌝ }
     ensures { λ r. ⌜ ((P : Program) → functionsIn (now (functions .entry)) ≡ P .functions → leavingOf r (now (cells .exit)) ≡ returning P a (numberedIn f depth held count) (now (cells .entry)) (now (store .entry))) ⌝ }
 {
     if !copies::in_range(a, 3, count) {

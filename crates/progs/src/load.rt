@@ -10,6 +10,7 @@ use definition::Answer;
 use definition::CELL_SIZE;
 use definition::FileRecord;
 use definition::GREATEST_DEPTH;
+use definition::LEAST_CELLS;
 use definition::Lump;
 use definition::MOST_ENTITIES;
 use definition::StackFrame;
@@ -70,7 +71,14 @@ pub fn load(
     ensures { λ r. ⌜ outcomeOf r (now (cells .exit)) (now (store .entry)) (now (entities .entry)) ≡ loadOutcome (now (cells .entry)) (now (store .entry)) (now (entities .entry)) (load (now (file .entry)) number (now (cells .entry)) (now (store .entry)) (now (entities .entry))) ⌝ }
 {
     let given = fetch::place_of(MOST_ENTITIES + 1, number);
-    let refusal = loader::load_refusal(file, given, cells.len(), store.len(), entities.len());
+    let refusal = loader::load_refusal(
+        file,
+        LEAST_CELLS,
+        given,
+        cells.len(),
+        store.len(),
+        entities.len(),
+    );
     if refusal != 0 {
         return Answered {
             context: of_nothing(),

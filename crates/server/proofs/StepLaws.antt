@@ -16,7 +16,7 @@ use Rattle.definition.specs.Machine as machine
 use Rattle.definition.specs.Machine.{Program, Config, advanced, enter, returnConditions, returned, asStep, stepAs, step, completed, refusedStep, handedStep, oneMore, goOn, runAs, runFor}
 use Rattle.definition.specs.Operations as operations
 use Rattle.definition.specs.Operations.{sound}
-use Rattle.definition.specs.Load.{programAt, programOf}
+use Rattle.definition.specs.Load.{programWith, programOf}
 use Rattle.definition.specs.Answers.{StatementOutcome, statementOutcome}
 use Rattle.execution.specs.declared.Executed.{Executed}
 use Rattle.execution.specs.declared.Executed.the-variants as does
@@ -74,7 +74,7 @@ stands P c d done cells entities e = by d (ap (λ (x : Execution). x .answer) e)
 
 pub does-call-at : (file : List ℕ) (x : ExecutionContext) (e : Entities) (cells cells′ entities′ : List ℕ) (done : Executed) → Loaded file (x .file)
     → executed done cells′ entities′ ≡ execution (programOf file .does (x .pc) e cells) cells (e .cells) → CallAt done (x .pc)
-unfolding programAt doesAt executed execution
+unfolding programWith doesAt executed execution
 does-call-at file x e cells cells′ entities′ done h q = by done (programOf file .does (x .pc) e cells) refl (ap (λ (z : Execution). z .answer) q)
   where
     called : (f : ℕ) → calls f ≡ programOf file .does (x .pc) e cells → judge (programOf file .fetching (x .pc)) ≡ 0

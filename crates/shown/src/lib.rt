@@ -24,7 +24,7 @@ const LIMIT: i64 = GREATEST_LIMIT as i64;
 // "entities none"
 const NO_ENTITIES: i64 = 0;
 
-// 0 past the end. (After an accepted load there are 36 cells or more.)
+// 0 past the end. (After an accepted load there are 64 cells or more.)
 fn cell_at(cells: &[u32], i: usize) -> u32
     ensures { λ r. ⌜ r ≡ getD (now (cells .entry)) i 0 ⌝ }
 {

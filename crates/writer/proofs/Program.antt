@@ -13,7 +13,7 @@ use Rattle.definition.specs.Checks.{judge, guard}
 use Rattle.definition.specs.Written.{behind, layout}
 use Rattle.functions.specs.Laws.{AllFit, lump-fitting}
 use Rattle.text.specs.Output.{Output, output, put, put-front}
-use Rattle.writing_laws.specs.Lumps.{laidOut}
+use Rattle.writing_laws.specs.Lumps.{laidOut, moreCells}
 use Rattle.writer.specs.Header.{Small, Counted}
 use Rattle.writer.specs.Outcomes.{outcomeOf, writing}
 
@@ -48,15 +48,15 @@ within-behind size l l′ n most e w h =
     let count : l′ .count ≡ n = ap (λ (x : Lump). x .count) e in
     record { offset = omega (arith, mul-le-mul-left size (le-of-lt (w .count))); count = omega arith }
 
-pub counted : (end : ℕ) (r : FileRecord) → AllFit end r → Counted r
-counted end r fit =
+pub counted : (end n : ℕ) (r : FileRecord) → AllFit end r → r .globals .count + n < 2147483648 → Counted (moreCells n r)
+counted end n r fit more =
     record {
       statements = lump-fitting 8 end (r .statements) (fit .statements) .count;
       globaldefs = lump-fitting 8 end (r .globaldefs) (fit .globaldefs) .count;
       fielddefs = lump-fitting 8 end (r .fielddefs) (fit .fielddefs) .count;
       functions = lump-fitting 36 end (r .functions) (fit .functions) .count;
       strings = lump-fitting 1 end (r .strings) (fit .strings) .count;
-      globals = lump-fitting 4 end (r .globals) (fit .globals) .count;
+      globals = more;
     }
 
 pub small : (r : FileRecord) → laidOut r .length ≤ 1048576 → r .entityfields < 4294967296 → Small (laidOut r)

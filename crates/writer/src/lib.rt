@@ -4,14 +4,14 @@ ghost use mathlib.Core.Path.{_≡_};
 ghost use mathlib.Core.Bool.{true};
 ghost use mathlib.Core.List.{[], _∷_};
 ghost use Prim.Native.Nat.{_+_, _*_, _≤_, _<_};
-ghost use lib.ListN.{length};
+ghost use lib.ListN.{length, replicate};
 ghost use Rattle.definition.specs.File.{contentsAt, lumpFits, readFunction};
-ghost use Rattle.definition.specs.Written.{u16Bytes, u32Bytes, functionBytes, bytesOf, behind, headerNumbers, written};
+ghost use Rattle.definition.specs.Written.{u16Bytes, u32Bytes, functionBytes, bytesOf, behind, headerNumbers, written, padded};
 ghost use Rattle.functions.specs.Laws.{AllFit};
 ghost use Rattle.functions.specs.Parts.{partOf, functionsIn};
 ghost use Rattle.text.specs.Output.{output, put, Room};
 ghost use Rattle.writing_laws.specs.Copied.{Bytes};
-ghost use Rattle.writing_laws.specs.Lumps.{laidOut, lumpsOf, LumpBytes};
+ghost use Rattle.writing_laws.specs.Lumps.{laidOut, moreCells, lumpsOf, LumpBytes};
 ghost use Rattle.writer.specs.Header.{Small, Counted};
 ghost use Rattle.writer.specs.Outcomes.{outcomeOf, writing};
 use definition::CELL_SIZE;
@@ -186,13 +186,58 @@ fn laid_out(r: FileRecord) -> FileRecord
     }
 }
 
-// The program of a file, with its lumps where a record of the file has them: at the front of the output buffer, or 34 and nothing.
-pub fn write_program(out: &mut [u8], check: u32, file: &[u8], r: FileRecord) -> WriteAnswer
-    requires { ⌜ AllFit (length (now file)) r ⌝ }
-    requires { ⌜ r .entityfields < 4294967296 ⌝ }
-    ensures { λ a. ⌜ outcomeOf a (now (out .exit)) ≡ writing (written check (contentsAt r (now (file .entry)))) (now (out .entry)) ⌝ }
+// What is counted of a file with so many cells more.
+fn more_cells(r: FileRecord, zeros: usize) -> FileRecord
+    requires { ⌜ r .globals .count + zeros < 2147483648 ⌝ }
+    ensures { λ m. ⌜ m ≡ moreCells zeros r ⌝ }
 {
-    let laid = laid_out(r);
+    let globals = r.globals;
+    let statements = r.statements;
+    let globaldefs = r.globaldefs;
+    let fielddefs = r.fielddefs;
+    let functions = r.functions;
+    let strings = r.strings;
+    FileRecord {
+        length: r.length,
+        statements,
+        globaldefs,
+        fielddefs,
+        functions,
+        strings,
+        globals: Lump {
+            offset: globals.offset,
+            count: globals.count + zeros,
+        },
+        entityfields: r.entityfields,
+    }
+}
+
+fn write_zeros(out: &mut [u8], at: usize, n: usize) -> usize
+    requires { ⌜ Room (replicate n 0) (output (now out) at) ⌝ }
+    ensures { λ r. ⌜ output (now (out .exit)) r ≡ put (replicate n 0) (output (now (out .entry)) at) ⌝ }
+{
+    let mut i = 0;
+    while i < n {
+        out[at + i] = 0;
+        i += 1;
+    }
+    at + i
+}
+
+// The program of a file, with its lumps where a record of the file has them and so many zero cells more (R-7): at the front of the output buffer, or 34 and
+// nothing.
+pub fn write_program(
+    out: &mut [u8],
+    check: u32,
+    file: &[u8],
+    r: FileRecord,
+    zeros: usize,
+) -> WriteAnswer
+    requires { ⌜ AllFit (length (now file)) r ⌝ }
+    requires { ⌜ (r .entityfields < 4294967296) × (r .globals .count + zeros < 2147483648) ⌝ }
+    ensures { λ a. ⌜ outcomeOf a (now (out .exit)) ≡ writing (written check (padded zeros (contentsAt r (now (file .entry))))) (now (out .entry)) ⌝ }
+{
+    let laid = laid_out(more_cells(r, zeros));
     if out.len() < laid.length {
         return WriteAnswer::Refused(34);
     }
@@ -200,5 +245,6 @@ pub fn write_program(out: &mut [u8], check: u32, file: &[u8], r: FileRecord) -> 
         return WriteAnswer::Refused(34);
     }
     let at = write_header(out, check, laid);
-    WriteAnswer::Length(write_lumps(out, at, file, r))
+    let end = write_lumps(out, at, file, r);
+    WriteAnswer::Length(write_zeros(out, end, CELL_SIZE * zeros))
 }

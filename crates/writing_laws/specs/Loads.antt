@@ -69,7 +69,7 @@ layout-fits s g d u t c e h =
     (lump-fits 4 (r .length) (r .globals) (omega arith) (omega arith) h)
 
 -- the row "header", under the check number that a load asks for
-header-loads : (k : Contents) → AllEight k → length (written checkNumber k) ≤ longestFile → All (headerConditions (written checkNumber k))
+pub header-loads : (k : Contents) → AllEight k → length (written checkNumber k) ≤ longestFile → All (headerConditions (written checkNumber k))
 unfolding headerConditions layout
 header-loads k e h =
     let file : fileOf (written checkNumber k) ≡ layoutOf k = file-written checkNumber k e in
@@ -86,7 +86,7 @@ header-loads k e h =
     )
 
 -- what a load counts of a file is as many as the contents have
-counts-strings : (file : List ℕ) → length (contentsOf file .strings) ≡ fileOf file .strings .count
+pub counts-strings : (file : List ℕ) → length (contentsOf file .strings) ≡ fileOf file .strings .count
 unfolding contentsAt
 counts-strings file = length-records (byteAt file) 1 _ _
 
@@ -129,7 +129,7 @@ module _ (file : List ℕ) where
         → load (image file) number cells saved entities ≡ accepted (loaded (image file) (entitiesGiven number) cells saved entities)
     unfolding load cellConditions
     written-loads a short lent =
-        let rows = load-rows file (entitiesGiven (a .number)) (length (a .cells)) (length (a .saved)) (length (a .entities)) (accepted-all _ _ _ (a .loads) .0) in
+        let rows = load-rows leastCells file (entitiesGiven (a .number)) (length (a .cells)) (length (a .saved)) (length (a .entities)) (accepted-all _ _ _ (a .loads) .0) in
         let w : List ℕ = image file in
         let hs : Conditions = headerConditions w in
         let rs : Conditions = recordConditions (fileOf w .strings .count) (contentsOf w) in

@@ -2,13 +2,13 @@
 use Prim.Native.Nat.{ℕ, zero, suc, _+_, _*_, _/_, _≤_, _<_}
 use native.Mathlib.Nat.{add-assoc}
 use mathlib.Core.Path.{_≡_, refl, sym, ap, _∙_}
-use mathlib.Core.List.{List, _++_, append-assoc}
+use mathlib.Core.List.{List, [], _∷_, _++_, append-nil, append-assoc}
 use native.Mathlib.Omega.{arith}
-use lib.ListN.{length, length-append}
+use lib.ListN.{length, replicate, length-append, length-replicate, replicate-append-replicate}
 use Rattle.definition.specs.declared.FileRecord.{FileRecord}
 use Rattle.definition.specs.File.{byteAt, u32At, records, readStatement, readDefinition, readFunction, fileOf, Contents, contentsAt}
 use Rattle.definition.specs.RecordLaws.{length-records}
-use Rattle.definition.specs.Written.{u32Bytes, functionBytes, bytesOf, layout, layoutOf, headerNumbers, written, image}
+use Rattle.definition.specs.Written.{u16Bytes, u32Bytes, functionBytes, bytesOf, layout, layoutOf, headerNumbers, written, padded, image}
 use Rattle.functions.specs.Laws.{AllFit}
 use Rattle.functions.specs.Parts.{partOf, statementsIn, definitionsIn, functionsIn, cellsIn}
 use Rattle.functions.specs.PartLaws.{Same, byte-local, u32-local, statement-local, definition-local, length-part, part-statements, part-globaldefs, part-fielddefs, part-functions, part-globals}
@@ -29,6 +29,37 @@ laidOut r =
     (r .globals .count)
     (r .entityfields)
 
+-- with so many cells more
+abbrev pub moreCells : ℕ → FileRecord → FileRecord
+moreCells n r =
+    record {
+      length = r .length;
+      statements = r .statements;
+      globaldefs = r .globaldefs;
+      fielddefs = r .fielddefs;
+      functions = r .functions;
+      strings = r .strings;
+      globals = record { offset = r .globals .offset; count = r .globals .count + n };
+      entityfields = r .entityfields;
+    }
+
+-- zero cells are written as zero bytes
+zeros-written : (n : ℕ) → bytesOf u32Bytes (replicate n 0) ≡ replicate (4 * n) 0
+unfolding bytesOf u32Bytes u16Bytes
+zeros-written zero = refl
+zeros-written (suc n) =
+    let e : 4 * suc n ≡ 4 + 4 * n = omega arith in
+    rw (e, zeros-written n, ← replicate-append-replicate {A = ℕ} 4 (4 * n) 0) refl
+
+bytes-append : (xs ys : List ℕ) → bytesOf u32Bytes (xs ++ ys) ≡ bytesOf u32Bytes xs ++ bytesOf u32Bytes ys
+unfolding bytesOf
+bytes-append [] ys = refl
+bytes-append (x ∷ xs) ys = rw (bytes-append xs ys) (simp append-assoc)
+
+-- nothing is added to a file that has cells enough
+pub padded-none : (k : Contents) → padded 0 k ≡ k
+padded-none k = rw (append-nil (k .globals)) refl
+
 -- the six lumps one behind the other
 unfoldable pub lumpsOf : FileRecord → List ℕ → List ℕ
 lumpsOf r file =
@@ -44,8 +75,15 @@ pub record LumpBytes (r : FileRecord) (file : List ℕ) : Type 0 where
   pub fielddefs : Bytes (partOf 8 (r .fielddefs) file)
   pub globals : Bytes (partOf 4 (r .globals) file)
 
-module _ (check : ℕ) (r : FileRecord) (file : List ℕ) where
-  layout-counts : layoutOf (contentsAt r file) ≡ laidOut r
+-- the contents of a file with n zero cells more
+module _ (check : ℕ) (r : FileRecord) (file : List ℕ) (n : ℕ) where
+  abbrev contents : Contents
+  contents = padded n (contentsAt r file)
+
+  abbrev laid : FileRecord
+  laid = laidOut (moreCells n r)
+
+  layout-counts : layoutOf contents ≡ laid
   unfolding contentsAt
   layout-counts =
       rw (
@@ -54,18 +92,24 @@ module _ (check : ℕ) (r : FileRecord) (file : List ℕ) where
         length-records (readDefinition file) 8 (r .fielddefs .count) (r .fielddefs .offset),
         length-records (readFunction file) 36 (r .functions .count) (r .functions .offset),
         length-records (byteAt file) 1 (r .strings .count) (r .strings .offset),
+        length-append (contentsAt r file .globals) (replicate n 0),
         length-records (u32At file) 4 (r .globals .count) (r .globals .offset),
+        length-replicate {A = ℕ} n 0,
       )
       refl
 
-  pub length-laid-out : length (written check (contentsAt r file)) ≡ laidOut r .length
-  length-laid-out = length-written check (contentsAt r file) (eight-at r file) ∙ ap (λ (x : FileRecord). x .length) layout-counts
+  pub length-laid-out : length (written check contents) ≡ laid .length
+  length-laid-out = length-written check contents (eight-at r file) ∙ ap (λ (x : FileRecord). x .length) layout-counts
 
   abbrev header : List ℕ
-  header = bytesOf u32Bytes (headerNumbers check (laidOut r))
+  header = bytesOf u32Bytes (headerNumbers check laid)
+
+  -- the lumps, and behind the cells the zeros
+  abbrev pub lumps : List ℕ
+  lumps = lumpsOf r file ++ replicate (4 * n) 0
 
   -- what is written of the file
-  pub written-lumps : AllFit (length file) r → LumpBytes r file → written check (contentsAt r file) ≡ header ++ lumpsOf r file
+  pub written-lumps : AllFit (length file) r → LumpBytes r file → written check contents ≡ header ++ lumps
   unfolding written lumpsOf
   written-lumps fit b =
       rw (
@@ -75,7 +119,9 @@ module _ (check : ℕ) (r : FileRecord) (file : List ℕ) where
         fielddefs-again r file fit (b .fielddefs),
         ← part-functions r file fit,
         strings-again r file fit,
+        bytes-append (contentsAt r file .globals) (replicate n 0),
         globals-again r file fit (b .globals),
+        zeros-written n,
       )
       (simp append-assoc)
 
@@ -87,17 +133,17 @@ module _ (check : ℕ) (r : FileRecord) (file : List ℕ) where
       ∙ ap (λ (n : ℕ). 36 * n) (length-records (readFunction file) 36 (r .functions .count) (r .functions .offset)))
 
   -- and its length, whatever the bytes are
-  pub length-lumps : AllFit (length file) r → length (header ++ lumpsOf r file) ≡ laidOut r .length
+  pub length-lumps : AllFit (length file) r → length (header ++ lumps) ≡ laid .length
   unfolding lumpsOf layout
   length-lumps fit =
-      let h = length-header check (laidOut r) in
+      let h = length-header check laid in
       let s = length-part readStatement 8 statement-local (omega arith) file (r .statements) (fit .statements) in
       let g = length-part readDefinition 8 definition-local (omega arith) file (r .globaldefs) (fit .globaldefs) in
       let d = length-part readDefinition 8 definition-local (omega arith) file (r .fielddefs) (fit .fielddefs) in
       let u = length-functions fit in
       let t = length-part byteAt 1 byte-local (omega arith) file (r .strings) (fit .strings) in
       let c = length-part u32At 4 u32-local (omega arith) file (r .globals) (fit .globals) in
-      simp length-append (omega arith)
+      simp (length-append, length-replicate) (omega arith)
 
 -- ---- files whose lumps have the same bytes, wherever these stand, are written alike
 

@@ -7,8 +7,10 @@ use borrow.Author.Tests.{not-true, not-false}
 use lib.ListN.{length}
 use Rattle.definition.specs.Load.{programOf}
 use Rattle.definition.specs.Operations.{sound}
+use Rattle.functions.specs.Laws.{lump-fitting}
 use Rattle.progs.specs.Contexts.{config, Within}
 use Rattle.progs.proofs.StateLaws.{passed}
+use Rattle.writing_laws.specs.Lumps.{padded-none}
 use Rattle.image.proofs.Thirteen.{refused-13, past-13}
 use Rattle.image.proofs.write_file.Statement.{statement}
 use Rattle.image.proofs.write_file.Tie as tie
@@ -25,10 +27,13 @@ returns : tie.Need-returns
 returns c = refused-13 _ _ _ (sym (c .before .check-state .ensures) ∙ not-true _ (c .if1 .taken))
 
 write-program-requires : tie.Need-write-program-requires
-write-program-requires c κs = (within (c .before) .loaded .lumps, omega (arith, within (c .before) .size-most))
+write-program-requires c κs =
+    let s = c .before .before .before .before .before .before .before .before .args in
+    let w = within (c .before) in
+    (w .loaded .lumps, (omega (arith, w .size-most), omega (arith, lump-fitting 4 (length (s .file .now)) (s .context .file .globals) (w .loaded .lumps .globals) .count)))
 
 returns-2 : tie.Need-returns-2
-returns-2 c = past-13 _ _ _ _ _ (sound-here (c .before .before .before .before)) (within (c .before .before .before .before) .loaded .same) (c .before .before .write-program .ensures)
+returns-2 c = past-13 _ _ _ _ _ (sound-here (c .before .before .before .before)) (within (c .before .before .before .before) .loaded .same) (rw padded-none at (c .before .before .write-program .ensures))
 
 pub write-file-spec : {M : Type 1} → statement M
 write-file-spec =

@@ -2,6 +2,7 @@ use mathlib.Core.Path.{_≡_, sym, _∙_}
 use mathlib.Core.Bool.{true}
 use borrow.Author.Tests.{not-true, not-false}
 use lib.ListN.{length}
+use Rattle.definition.specs.File.{leastCells}
 use Rattle.definition.specs.Load.{recordedIn}
 use Rattle.progs.proofs.StateLaws.{unrecorded, short-store, too-deep, too-full, no-room, adding-up, loaded-of, size-of}
 use borrow.Author.Needs.{needs}
@@ -9,7 +10,7 @@ use Rattle.progs.proofs.ExecutionContext.check_state.Statement.{stateme
 use Rattle.progs.proofs.ExecutionContext.check_state.Tie as tie
 
 -- the file is as the context records
-as-recorded : (c : tie.Else1) → let s = c .before .before .before .before .before .before .before in recordedIn (s .args .file .now) (s .args .self .file) (length (s .args .cells .now)) ≡ true
+as-recorded : (c : tie.Else1) → let s = c .before .before .before .before .before .before .before in recordedIn leastCells (s .args .file .now) (s .args .self .file) (length (s .args .cells .now)) ≡ true
 as-recorded c = sym (c .before .recorded-in .ensures) ∙ not-false _ (c .if1 .left)
 
 returns : tie.Need-returns

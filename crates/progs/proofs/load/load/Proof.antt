@@ -7,7 +7,8 @@ use lib.ListN.{length}
 use Rattle.definition.specs.Checks.{judge}
 use Rattle.definition.specs.File.{leastCells}
 use Rattle.definition.specs.Load.{loadConditions, entitiesGiven}
-use Rattle.progs.proofs.LoadLaws.{load-refused, load-accepted, starting-count, filled, Loads, loads}
+use Rattle.loader.proofs.Loads.{Loads, loads}
+use Rattle.progs.proofs.LoadLaws.{load-refused, load-accepted, starting-count, filled}
 use borrow.Author.Needs.{needs}
 use Rattle.progs.proofs.load.load.Statement.{statement}
 use Rattle.progs.proofs.load.load.Tie as tie
@@ -34,10 +35,10 @@ returns : tie.Need-returns
 returns c = load-refused _ _ _ _ _ _ _ (number (c .before .before)) (c .before .if1 .taken) (c .of-nothing .ensures)
 
 file-of-requires : tie.Need-file-of-requires
-file-of-requires c κs = loads _ _ _ _ _ _ (clear c) refl .header
+file-of-requires c κs = loads _ _ _ _ _ _ _ (clear c) refl .header
 
 here : (c : tie.After-file-of) → let s = c .before .before .before .before .before .before .before .before in Loads (s .args .file .now) (length (s .args .cells .now)) (c .file-of .result)
-here c = loads _ _ _ _ _ _ (clear (c .before)) (c .file-of .ensures)
+here c = loads _ _ _ _ _ _ _ (clear (c .before)) (c .file-of .ensures)
 
 part-requires : tie.Need-part-requires
 part-requires c κs = (here c .lumps .globals, omega arith)
