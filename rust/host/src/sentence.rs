@@ -133,4 +133,50 @@ mod tests {
         let written = library::sentence(Answer::default(), 0, 0, &mut [0; DISPLAY - 1]);
         assert_eq!((written.length, written.refusal), (0, 12));
     }
+
+    /// An outcome's five as the model writes them, in the library's numbers.
+    fn given(words: &[&str]) -> (Answer, i64, usize) {
+        let names = ["ended", "spent", "refused", "builtin", "opcode"];
+        let word = names.iter().position(|name| *name == words[0]).unwrap() as u32 + 1;
+        let [detail, count] = [1, 2].map(|i| words[i].parse().unwrap());
+        let answer = Answer {
+            word,
+            detail,
+            count,
+        };
+        (answer, words[3].parse().unwrap(), words[4].parse().unwrap())
+    }
+
+    /// The model's lines, and what it leaves in display buffers.
+    #[test]
+    fn the_models_sentences() {
+        let cases = include_str!("../../../tests/model/cases/sentences.txt");
+        let lines = cases.lines().filter(|line| !line.starts_with('#'));
+        for line in lines.clone() {
+            let (five, expected) = line.split_once(" = ").unwrap();
+            let words: Vec<&str> = five.split(' ').collect();
+            let Some(("display", [length, words @ ..])) = words.split_first().map(|(w, r)| (*w, r))
+            else {
+                let (answer, position, function) = given(&words);
+                let mut display = [0; DISPLAY];
+                let written = library::sentence(answer, position, function, &mut display);
+                assert_eq!(display[..written.length], *expected.as_bytes(), "{line}");
+                continue;
+            };
+            let (answer, position, function) = given(words);
+            let mut display = vec![238; length.parse().unwrap()];
+            let written = library::sentence(answer, position, function, &mut display);
+            let hash = display
+                .iter()
+                .fold(0xcbf2_9ce4_8422_2325_u64, |hash, byte| {
+                    (hash ^ u64::from(*byte)).wrapping_mul(0x0100_0000_01b3)
+                });
+            let said = match written.refusal {
+                0 => format!("accepted {} {hash:016x}", written.length),
+                number => format!("refused {number} {hash:016x}"),
+            };
+            assert_eq!(said, expected, "{line}");
+        }
+        assert_eq!(lines.count(), 373);
+    }
 }
