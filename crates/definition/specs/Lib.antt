@@ -12,9 +12,7 @@ pub mod Written
 pub mod Answers
 pub mod Starred
 pub mod Rounding
-pub mod Fields
-pub mod StringRows
-pub mod Voids
+pub mod Requests
 pub mod Calls
 pub mod Log
 pub mod Trace
