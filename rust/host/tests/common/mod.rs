@@ -67,7 +67,7 @@ const PLACES: [u32; 8] = [0, 1, 50, 101, 102, 103, 104, 105];
 pub fn random_assembly(chance: &mut Chance) -> Assembly {
     let count = chance.between(3, 40);
     let mut assembly = Assembly {
-        cell_count: chance.pick(&[64, 64, 64, 65, 70, 96]),
+        cell_count: chance.pick(&[64, 64, 64, 64, 65, 70]),
         ..Assembly::default()
     };
     for cell in 28..36 {
