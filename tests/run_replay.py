@@ -1,8 +1,8 @@
 #!/usr/bin/env python3
 """Runs the host's replay program on lists of calls and compares what it prints with what the model of tests/model answers.
 
-    python3 tests/run_replay.py REPLAY      the lists of calls.txt and images.txt of tests/model/cases, the list of rust/host/tests/replay, the rule files of
-                                            tests/rules written, and lists made by chance
+    python3 tests/run_replay.py REPLAY      the lists of calls.txt, images.txt and outcomes.txt of tests/model/cases, the list of rust/host/tests/replay, the
+                                            rule files of tests/rules written, and lists made by chance
     python3 tests/run_replay.py --write     writes the list of rust/host/tests/replay, with what the model prints for it
     python3 tests/run_replay.py --check     says whether the committed one is that
 
@@ -31,7 +31,9 @@ RANDOM_LISTS = 300
 EDGES = [-2**64, -2**63, -2**31 - 1, -1, 0, 30, 31, 63, 64, 2048, 100000, 2**31 - 1, 2**31, 2**32, 2**32 + 1, 2**63 - 1, 2**64]
 # what calls.txt calls otherwise
 NAMES = {"get": "read", "put": "write", "byte": "poke"}
-# what each byte of an output buffer that is lent holds
+# the case files that have lists of calls
+LISTS = "calls.txt", "images.txt", "outcomes.txt"
+# what each byte of an output or display buffer that is lent holds
 UNWRITTEN = 238
 # what only calls.txt has; its `lend` is of entity cells alone
 LEFT_OUT = ("field", "lend", "eput")
@@ -63,6 +65,7 @@ class Lent:
     def __init__(self, program):
         self.program, self.length = bytearray(program), len(program)
         self.loaded, self.state = False, None
+        self.outcome = model.Outcome()  # the last run's
         self.digests = Digests()
         self.lend(64, 2048, 0)
 
@@ -88,20 +91,32 @@ class Lent:
         if name in ("lend", "poke", "file"):
             getattr(self, name)(*given)
             return None
-        if name != "load" and not self.loaded:
+        if name not in ("load", "sentence") and not self.loaded:
             return line + " => no state"
         machine = model.Machine(bytearray(self.program[:self.length]), self.cells, self.saved, self.entity_cells)
-        if name == "load":
+        if name == "sentence":
+            answer = self.sentence(*given)
+        elif name == "load":
             answer = self.load(machine, *given)
         elif name == "image":
             answer = self.image(machine, *given)
         else:
-            machine.state = self.state
-            if name == "write":
-                given[1] %= 2**32
-            answer = words_of(name, self.operation(machine, name)(*given))
-            self.state = machine.state
+            answer = self.operate(machine, name, given)
         return "%s => %s | %s" % (line, answer, self.shown())
+
+    def operate(self, machine, name, given):
+        machine.state = self.state
+        if name == "write":
+            given[1] %= 2**32
+        answer = self.operation(machine, name)(*given)
+        self.state = machine.state
+        if name == "run":
+            self.outcome = model.outcome_of(answer, machine.state)
+        return words_of(name, answer)
+
+    def sentence(self, size):
+        display = bytearray([UNWRITTEN] * size)
+        return "%s %s" % (words_of("sentence", model.compose(self.outcome, display)), digest(display))
 
     def load(self, machine, entities):
         answer = machine.load(entities)
@@ -174,6 +189,9 @@ def fixed_list():
         statement
         read 0
         image 0
+        run 0 1
+        sentence 119
+        sentence 120
         lend 10 2048 2
         load 0
         carry
@@ -196,21 +214,29 @@ def fixed_list():
         write 50 4294967295
         write 64 1
         enter 1
+        sentence 120
         run 0 1
+        sentence 120
         image %(length)d
         run 0 100
+        sentence 120
         image %(length)d
         statement
         carry
         statement
+        sentence 121
         run 0 100
+        sentence 128
         carry
         statement
         run 0 1000
+        sentence 1000
+        sentence 0
         carry
         statement
         statement
         run 0 0
+        sentence 120
         run 0 100000
         run 1 5
         run 0 5
@@ -220,6 +246,7 @@ def fixed_list():
         abandon 0
         enter 5
         run 0 77
+        sentence 120
         abandon -1
         abandon 2
         abandon 1
@@ -244,6 +271,9 @@ def fixed_list():
         image %(length)d
         lend 64 2047 1
         read 1
+        run 0 5
+        sentence 120
+        sentence 107
         image %(length)d
         lend 64 2048 1
         read 1
@@ -370,7 +400,9 @@ def random_call(chance, length):
         return "write %d %d" % (28 + chance.below(40), chance.draw())
     if kind < 94:
         return "poke %d %d" % (60 + chance.below(max(1, length - 60)), chance.below(256))
-    if kind < 96:
+    if kind < 95:
+        return "sentence %d" % chance.pick([120, 120, 121, 119, chance.below(200)])
+    if kind < 97:
         return "image %d" % chance.pick([length, length, length + 1, max(0, length - 1), chance.below(2 * length + 1)])
     return chance.pick(["load 0", "load 2", "load -1", "lend 64 2048 2", "lend 64 2048 315", "lend 66 2050 210", "lend 66 2050 0", "lend 63 2048 1", "lend 64 2047 0", "file %d" % length,
                         "file %d" % max(0, length - 1), "file %d" % (length + 1), "poke 4 0", "poke 4 39",
@@ -439,7 +471,7 @@ def run(replay, program, calls):
 
 def compare(replay):
     counted, left_out, differ = 0, 0, 0
-    every = [fixed_list()] + list(lists("calls.txt")) + list(lists("images.txt")) + list(rule_lists()) + list(random_lists())
+    every = [fixed_list()] + [each for name in LISTS for each in lists(name)] + list(rule_lists()) + list(random_lists())
     for program, calls in every:
         if not calls:
             left_out += 1

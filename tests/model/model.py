@@ -997,6 +997,45 @@ def pad(file):
 
 
 # ---------------------------------------------------------------------------------------------
+# Outcome sentences (R-8)
+# ---------------------------------------------------------------------------------------------
+
+SHORTEST_DISPLAY = 120
+
+# what a run answered and where it left the state; word and detail as in the show program's line
+Outcome = namedtuple("Outcome", "word detail statements position function", defaults=("ended", 0, 0, 0, 0))
+
+
+def outcome_of(answer, state):
+    """A run's outcome, by its answer and the state after it."""
+    return Outcome(answer.word, answer.detail, answer.count, state.position, state.function)
+
+
+def sentence(outcome):
+    """ "without a line end, with the show program's outcome word and decimal numbers" """
+    word, detail, statements, position, function_ = outcome
+    numbers = f"detail {detail}, statements {statements}, position {position}, function {function_}"
+    return f"Run {word}, {numbers}.".encode("ascii")
+
+
+def read_sentence(line):
+    """ "The five can be worked out from the line." """
+    fields = [field.split(" ")[1] for field in line.decode("ascii").rstrip(".").split(", ")]
+    return Outcome(fields[0], *map(int, fields[1:]))
+
+
+def compose(outcome, display):
+    """Writes the line into a display buffer; the answer has its length."""
+    # "A display buffer under 120 bytes takes the existing refusal 12 and is untouched."
+    if len(display) < SHORTEST_DISPLAY:
+        return Answer("refused", 12)
+    line = sentence(outcome)
+    for index, byte in enumerate(line):  # bytes past the length stay
+        display[index] = byte
+    return Answer("accepted", len(line))  # "its length is given"
+
+
+# ---------------------------------------------------------------------------------------------
 # An assembler of program files
 # ---------------------------------------------------------------------------------------------
 

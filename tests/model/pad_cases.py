@@ -4,10 +4,9 @@ import struct
 
 from common import Xorshift, hex_of, program, random_program
 from file_cases import ENDED, LUMP_NAMES, small_program, with_lump
-from image_cases import ANY_RECORDS, FAR, IN_ORDER, PROFILES, STRING_BYTES, displaced, joined, placed, rule_file
+from image_cases import ANY_RECORDS, FAR, IN_ORDER, PROFILES, RULE_CELLS, displaced, joined, placed, rule_file
 from model import (
-    CELLS, FIELD_DEFS, FLOAT, FUNCTIONS, GLOBAL_DEFS, LARGEST_FILE, LARGEST_SHOWN, POINTER, SAVE_FLAG, STATEMENTS, STRINGS,
-    Assembly, function, pad, show,
+    CELLS, FLOAT, LARGEST_FILE, LARGEST_SHOWN, POINTER, SAVE_FLAG, STRINGS, Assembly, function, pad, show,
 )
 
 BACKWARDS = tuple(reversed(IN_ORDER))
@@ -93,11 +92,13 @@ def placement_pads(p):
         p.add(f"{count}-cells-over-the-strings", fewer(with_strings(b"\0cells in strings", 4 * count), count))
         for at in (0, 60, FAR):
             p.add(f"{count}-cells-alone-{at}", placed([at, 0] * 5 + [60, count], size, struct.pack(f"<{count}i", *range(1, count + 1))))
-    p.note("cells per entity, definitions of the added cells, operands that name them")
+    p.note("cells per entity; programs that end otherwise; definitions of the added cells, operands that name them")
     for per_entity in (105, 106, 2**31 - 1):
         p.add(f"{per_entity}-entity-cells", small_program(cell_count=36, cells_per_entity=per_entity))
     definitions = [(FLOAT | SAVE_FLAG, cell) for cell in (35, 36, 63, 64)] + [(POINTER, 65535)]
     functions = [function(1, 36, 28), function(1, 60, 4, (3, 3))]
+    p.add("endless", program(("Goto", 0), cell_count=40))
+    p.add("calls-a-builtin", rule_file(PROFILES, {cell: value for cell, value in RULE_CELLS.items() if cell < 50}, cell_count=50))
     p.add("added-cells-named", program(("AddF", 36, 63, 50), ("Return", 61), definitions=definitions, functions=functions, cell_count=36))
 
 

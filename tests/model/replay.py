@@ -141,6 +141,23 @@ def replay_images(model):
     yield from replay_lists(model, "images.txt")
 
 
+def replay_outcomes(model):
+    yield from replay_lists(model, "outcomes.txt")
+
+
+def replay_sentences(model):
+    for line in lines_of("sentences.txt"):
+        given, expected = line.split(" = ")
+        *display, word, detail, statements, position, function = given.split(" ")
+        outcome = model.Outcome(word, *map(int, (detail, statements, position, function)))
+        if display:
+            buffer = bytearray([238] * int(display[1]))
+            answer = model.compose(outcome, buffer)
+            yield line, expected, f"{answer.word} {answer.detail} {fnv(bytes(buffer))}"
+            continue
+        yield line, (expected.encode(), outcome), (model.sentence(outcome), model.read_sentence(expected.encode()))
+
+
 def replay_lists(model, name):
     for line in lines_of(name):
         kind, *words = line.split(" ")
@@ -149,9 +166,16 @@ def replay_lists(model, name):
             saved = [0xBEEF0000 + i for i in range(int(words[1]))]
             entity_cells = [0xCAFE0000 + i for i in range(int(words[2]))]
             machine = model.Machine(bytes_of(words[3], words[4]), cells, saved, entity_cells)
+            outcome = model.Outcome()  # the last run's
             continue
         at = words.index("=")
-        answer, output = call(model, machine, kind, [int(word) for word in words[:at]])
+        if kind == "sentence":
+            display = bytearray([238] * int(words[0]))
+            answer, output = model.compose(outcome, display), [fnv(bytes(display))]
+        else:
+            answer, output = call(model, machine, kind, [int(word) for word in words[:at]])
+        if kind == "run":
+            outcome = model.outcome_of(answer, machine.state)
         state = machine.state
         got = [answer.detail, answer.count, state.position, state.function, state.depth, state.saved]
         yield line, words[at + 1 :], [answer.word, *map(str, got), digest(machine), *output]
@@ -220,6 +244,7 @@ def replay_traces(model):
 
 
 REPLAYS = (replay_statements, replay_calls, replay_files, replay_traces, replay_images, replay_pads)
+REPLAYS += (replay_sentences, replay_outcomes)
 
 
 def differences(model):

@@ -24,6 +24,7 @@ from model import (
     Machine, State, function, replace, show,
 )
 from pad_cases import pad_cases
+from sentence_cases import sentence_cases
 from statement_cases import Vectors, last_cell_functions, last_place_vectors, prepared, statement_vectors
 
 RULES = os.path.join(os.path.dirname(os.path.dirname(os.path.abspath(__file__))), "rules")
@@ -1338,6 +1339,26 @@ class Padding(unittest.TestCase):
         self.assertEqual((answer, machine.statement(), machine.cells[36]), (ACCEPTED, ACCEPTED, TWO))
         self.assertEqual((machine.read(63), machine.read(64)), (ACCEPTED, refused(15)))
 
+    def test_whole_runs(self):
+        """Function 1 of each file of fewer cells, as it ran before and after padding; 15 alone may differ."""
+        words = set()
+        for file, got in pad_cases().seen:
+            before = Machine(bytearray(file), [0] * 64, [0] * 2048, fewest_cells=36)
+            if got.startswith(b"refused") or before.load() != ACCEPTED:
+                continue
+            after = Machine(bytearray(got), [0] * 64, [0] * 2048)
+            self.assertEqual(after.load(), ACCEPTED)
+            old, new = before.enter(1), after.enter(1)
+            if old == new == ACCEPTED:
+                old, new = before.run(0, 99_999), after.run(0, 99_999)
+            if old[:2] == refused(15)[:2]:
+                continue
+            state = replace(after.state, length=before.state.length, lumps=before.state.lumps)
+            self.assertEqual((new, state), (old, before.state))
+            self.assertEqual((after.cells, after.saved_store), (before.cells, before.saved_store))
+            words.add(old.word)
+        self.assertEqual(words, {"ended", "spent", "refused", "builtin", "opcode"})
+
     def test_programs_made_by_chance(self):
         """Each statement of their runs, with fewer cells."""
         done = 0
@@ -1356,6 +1377,60 @@ class Padding(unittest.TestCase):
         self.assertGreater(done, 100)
 
 
+class OutcomeSentences(unittest.TestCase):
+    """R-8: a run's outcome in words."""
+
+    LONGEST = ("builtin", 4294967295, 4294967295, -9223372036854775808, 4294967295)
+
+    def test_worked_out_by_hand(self):
+        for outcome, line in (
+            (("ended", 0, 2, 0, 0), b"Run ended, detail 0, statements 2, position 0, function 0."),
+            (("spent", 0, 99999, 4, 1), b"Run spent, detail 0, statements 99999, position 4, function 1."),
+            (("refused", 14, 2, -98, 1), b"Run refused, detail 14, statements 2, position -98, function 1."),
+            (("builtin", 78, 1, 2, 1), b"Run builtin, detail 78, statements 1, position 2, function 1."),
+            (("opcode", 60, 10, 20, 30), b"Run opcode, detail 60, statements 10, position 20, function 30."),
+            (self.LONGEST, b"Run builtin, detail 4294967295, statements 4294967295, position -9223372036854775808, function 4294967295."),
+        ):
+            self.assertEqual(model.sentence(model.Outcome(*outcome)), line)
+            self.assertEqual(model.read_sentence(line), outcome)
+
+    def test_the_longest(self):
+        """No outcome has a longer line: each word has at most 7 letters, each number at most so many digits."""
+        longest = len(model.sentence(model.Outcome(*self.LONGEST)))
+        self.assertEqual(longest, len("Run , detail , statements , position , function .") + 7 + 10 + 10 + 20 + 10)
+        for outcome, _ in sentence_cases().seen:
+            self.assertLessEqual(len(model.sentence(outcome)), longest)
+        self.assertLessEqual(longest, 120)
+
+    def test_display(self):
+        for room in (0, 106, 119):
+            display = bytearray([238] * room)
+            self.assertEqual(model.compose(model.Outcome(*self.LONGEST), display), refused(12))
+            self.assertEqual(display, bytes([238] * room))
+        display = bytearray([238] * 122)
+        self.assertEqual(model.compose(model.Outcome("spent", 0, 5, -1, 9), display), Answer("accepted", 59))
+        self.assertEqual(display, b"Run spent, detail 0, statements 5, position -1, function 9." + bytes([238] * 63))
+
+    def test_no_two_alike(self):
+        """Different outcomes have different lines."""
+        outcomes = {outcome for outcome, _ in sentence_cases().seen}
+        self.assertEqual(len({model.sentence(outcome) for outcome in outcomes}), len(outcomes))
+
+    def test_of_runs(self):
+        """Word, detail, statements, position and function are those of the show program's line."""
+        words = set()
+        for line in replay.lines_of("files.txt"):
+            _, length, text, shown = line.split(" ")
+            fields = shown.split(",")
+            machine, _ = machine_of(replay.bytes_of(length, text))
+            if len(fields) == 2 or int(fields[2]) > 1000 or machine.enter(1) != ACCEPTED:
+                continue
+            outcome = model.outcome_of(machine.run(0, 99999), machine.state)
+            self.assertEqual([*map(str, outcome)], fields[:5])
+            words.add(outcome.word)
+        self.assertEqual(words, {"ended", "refused", "builtin", "opcode"})
+
+
 class CaseFiles(unittest.TestCase):
     @classmethod
     def setUpClass(cls):
@@ -1369,10 +1444,11 @@ class CaseFiles(unittest.TestCase):
     def test_readable(self):
         self.assertEqual(list(replay.differences(model)), [])
 
-    def test_images_can_be_replayed(self):
-        """tests/run_replay.py plays every list of images.txt: nothing in it changes what replay can't."""
-        calls = {call.split(" ")[0] for call, _ in self.makers["images.txt"].seen}
-        self.assertFalse(calls & {"field", "lend", "eput"})
+    def test_lists_can_be_replayed(self):
+        """tests/run_replay.py plays every list of these: nothing in them changes what replay can't."""
+        for name in ("images.txt", "outcomes.txt"):
+            calls = {call.split(" ")[0] for call, _ in self.makers[name].seen}
+            self.assertFalse(calls & {"field", "lend", "eput"})
 
     def test_every_opcode(self):
         seen = self.makers["statements.txt"].seen

@@ -6,7 +6,8 @@
 //! [`Machine::read`], [`Machine::write`] and [`Machine::image`]. What is refused changes nothing and gives a [`Refusal`], the
 //! number of document 01 or 02 with its sentence. [`Machine::call`] does what a server does with a function: it enters, runs, has
 //! the host answer what is handed over, and leaves the machine at the depth where it was, however the call went.
-//! [`Machine::field`] and [`Machine::field_mut`] read and set the fields of entities, by name and type.
+//! [`Machine::field`] and [`Machine::field_mut`] read and set the fields of entities, by name and type. What a run answers,
+//! [`Run`], prints as a sentence for a display.
 //!
 //! What the library promises is proved. What this crate does around it is not: it is Rust, tested. A load checks what
 //! both stand on: that the library is the crate's own, and the processor's floating-point mode ([`LoadError`]).
@@ -54,6 +55,7 @@ mod library;
 mod machine;
 mod program;
 mod refusal;
+mod sentence;
 
 pub use call::{CallError, Cause};
 pub use caller::Caller;
@@ -66,6 +68,7 @@ pub use machine::{
 };
 pub use program::{Definition, Function, Program};
 pub use refusal::{LoadError, Refusal};
+pub use sentence::DISPLAY;
 
 /// The Rust of docs/EMBEDDING.md, compiled and run with the tests.
 #[cfg(doctest)]
