@@ -24,3 +24,4 @@ pub mod Invariant
 pub mod RecordLaws
 pub mod LoadLaws
 pub mod ReturnsProof
+pub mod WrittenLaws
