@@ -22,7 +22,7 @@ pub enum Verdict {
     Outside(Outside),
     /// The file has void global definitions, which R-5 keeps the runs from.
     VoidGlobals,
-    /// A difference that 01 names under "By design".
+    /// A difference that 01 names under "By design", or a file that R-7 refuses.
     ByDesign(&'static str),
     Differs(String),
 }
@@ -358,6 +358,8 @@ pub fn compare_load(view: &View, rust: Result<&Seen, &End>, ours: Result<&Left, 
             Some(rusts) if rusts == number => Verdict::Same { traces: false },
             // The header is checked first here; the Rust finds a lump past the end where it reads it.
             Some(rusts) if matches!(number, 1 | 4) => Verdict::OtherNumber(rusts, number),
+            // The Rust goes on to the cells per entity.
+            Some(11) if number == 10 && view.has_cells_for_the_rust_alone() => Verdict::OtherNumber(11, 10),
             _ => differs(format!("load refused {}, the Rust's error: {}", number, text)),
         },
         (Err(End::Error(text)), Ok(_)) => differs(format!("load accepted, the Rust's error: {}", text)),
@@ -383,6 +385,7 @@ fn taken_by_the_rust(view: &View, number: u32) -> Option<&'static str> {
         1 if view.0.len() > 1_048_576 => Some("a file of more than 1,048,576 bytes"),
         4 if LUMPS.iter().any(|&l| view.count(l) == 0 && view.offset(l) < 0) => Some("an empty lump at a negative offset"),
         10 if view.cells() > 32_768 => Some("more than 32,768 cells"),
+        10 if view.has_cells_for_the_rust_alone() => Some("36 to 63 cells, which R-7 refuses"),
         11 if view.entity_cells() < 0 => Some("negative cells per entity"),
         _ => None,
     }

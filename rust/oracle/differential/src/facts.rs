@@ -407,8 +407,13 @@ fn loads() -> Vec<Fact> {
         bytes
     };
     let file = |name, bytes, rust, here| Fact { name, bytes, calls: vec![1], rust, here, cell: None, entities: 0, entity_cell: None };
-    let mut cells = whole.clone();
-    cells.cells.resize(32_769, 0);
+    let with_cells = |number: usize| {
+        let mut program = whole.clone();
+        program.cells.resize(number, 0);
+        program
+    };
+    let mut too_few = with_cells(63);
+    too_few.entity_cells = 104;
     let mut long = whole.bytes();
     long.resize(1_048_577, 0);
     let mut type_8 = whole.clone();
@@ -427,7 +432,11 @@ fn loads() -> Vec<Fact> {
         file("an empty lump (fields) at offset -1", with(24, -1), "ends", "load refused 4"),
         file("-1 cells per entity", with(56, -1), "ends", "load refused 11"),
         file("104 cells per entity", with(56, 104), "load error Entity error: addr_count (104)", "load refused 11"),
-        file("32,769 cells", cells.bytes(), "ends", "load refused 10"),
+        file("32,769 cells", with_cells(32_769).bytes(), "ends", "load refused 10"),
+        file("63 cells", with_cells(63).bytes(), "ends", "load refused 10"),
+        file("36 cells", with_cells(36).bytes(), "ends", "load refused 10"),
+        file("35 cells", with_cells(35).bytes(), "load error Global count lower", "load refused 10"),
+        file("63 cells, 104 cells per entity", too_few.bytes(), "load error Entity error: addr_count (104)", "load refused 10"),
         file("1,048,577 bytes", long, "ends", "load refused 1"),
         file("a definition of type 8", type_8.bytes(), "load panics: load: a definition's type is over 7", "load refused 8"),
     ]

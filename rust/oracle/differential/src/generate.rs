@@ -1,7 +1,7 @@
 //! Random program files. A program's number decides everything about it.
 
 use crate::entities::{self, Lent};
-use crate::program::{Function, Program};
+use crate::program::{Function, Program, LEAST_CELLS};
 use crate::random::Random;
 
 /// How a file is made.
@@ -186,9 +186,20 @@ fn global_type(r: &mut Random) -> u16 {
     }
 }
 
+/// How many cells a program's statements use. With few of them one statement often reads what another wrote.
+const USED: [usize; 7] = [36, 40, 64, 64, 64, 100, 180];
+const USED_WITH_FIELDS: [usize; 7] = [64, 64, 64, 64, 100, 100, 180];
+
+/// A program whose statements use so many cells. It has 64 at least: fewer are refused (02, R-7).
+fn with_cells(used: usize) -> Program {
+    Program::new(used.max(LEAST_CELLS))
+}
+
 /// The types that the definitions give, and one that each cell is used as. For a cell with a field number or a pointer also the type of the
 /// field.
 struct Cells {
+    /// Operands and local cells are mostly below this.
+    used: usize,
     types: Vec<u16>,
     uses: Vec<u16>,
     of_field: Vec<u16>,
@@ -266,11 +277,11 @@ impl Fields {
 }
 
 impl Cells {
-    fn new(r: &mut Random, program: &mut Program, functions: usize, style: &Style) -> Cells {
+    fn new(r: &mut Random, program: &mut Program, used: usize, functions: usize, style: &Style) -> Cells {
         let count = program.cells.len();
         let share = r.pick(&[0, 0, 20, 60, 95]);
         let fields = Fields::new(r, program, style);
-        let mut cells = Cells { types: vec![UNTYPED; count], uses: vec![FLOAT; count], of_field: vec![UNTYPED; count], fields };
+        let mut cells = Cells { used, types: vec![UNTYPED; count], uses: vec![FLOAT; count], of_field: vec![UNTYPED; count], fields };
         let mut cell = 28;
         while cell < count {
             let type_ = match style.fields {
@@ -338,7 +349,7 @@ impl Cells {
         }
         let width = if want == VECTOR { 3 } else { 1 };
         for _ in 0..if want == FUNCTION { 60 } else { 12 } {
-            let cell = r.below(count - width + 1);
+            let cell = r.below(self.used - width + 1);
             let fits = (0..width).all(|i| self.fits(cell + i, if want == VECTOR { FLOAT } else { want }));
             if fits && (want == FLOAT || want == VECTOR || self.uses[cell] == want) {
                 return cell as i16;
@@ -350,7 +361,7 @@ impl Cells {
     /// A cell that is used as the type, for a field of that type.
     fn for_field(&self, r: &mut Random, want: u16, of: u16, style: &Style) -> i16 {
         for _ in 0..40 {
-            let cell = 28 + r.below(self.uses.len() - 28);
+            let cell = 28 + r.below(self.used - 28);
             if self.uses[cell] == want && self.of_field[cell] == of {
                 return cell as i16;
             }
@@ -504,7 +515,7 @@ impl Maker<'_> {
     }
 
     fn call(&mut self) -> [i16; 4] {
-        if self.cells.uses.contains(&FUNCTION) {
+        if self.cells.uses[..self.cells.used].contains(&FUNCTION) {
             [51 + self.r.below(9) as i16, self.operand(FUNCTION), 0, 0]
         } else {
             self.calculation()
@@ -576,11 +587,10 @@ impl Maker<'_> {
     }
 
     fn function(&mut self, program: &mut Program) {
-        let count = program.cells.len() as i64;
         let locals = self.r.pick(&[0, 0, 1, 2, 3, 5]);
         let mut function = Function {
             first: program.statements.len() as i32,
-            local: self.r.between(28, count - 6) as i32,
+            local: self.r.between(28, self.cells.used as i64 - 6) as i32,
             locals,
             name: self.r.pick(&[0, 1, 3]),
             source: 0,
@@ -610,14 +620,15 @@ fn arguments(r: &mut Random, arguments: Arguments, function: &mut Function) {
 
 fn whole(r: &mut Random, entities: usize) -> Program {
     let style = style(r, entities);
-    let mut program = Program::new(r.pick(if style.fields { &[64, 64, 64, 64, 100, 100, 180] } else { &[36, 40, 64, 64, 64, 100, 180] }));
+    let used = r.pick(if style.fields { &USED_WITH_FIELDS } else { &USED });
+    let mut program = with_cells(used);
     program.strings = TEXTS.to_vec();
     if r.percent(3) {
         let others = [&b"\0main"[..], &b"\0m\xc3\xa9in\0"[..], &b"\0m\xffin\0"[..], &b"\0main\0red\0blue\0red"[..]];
         program.strings = r.pick(&others).to_vec();
     }
     let functions = r.between(2, 6) as usize;
-    let cells = Cells::new(r, &mut program, functions, &style);
+    let cells = Cells::new(r, &mut program, used, functions, &style);
     let mut maker = Maker { r, style, cells, functions };
     for _ in 1..maker.functions {
         maker.function(&mut program);
@@ -684,14 +695,15 @@ fn fields_at_edges(r: &mut Random, asked: usize) -> Program {
         program.fielddefs.push((r.pick(&[0, 1, 2, 2, 3, 3, 4, 5, 6, 7]), cell as u16, 0));
     }
     for _ in 0..r.between(1, 3) {
-        program.statements.push(field_statement(r));
+        let statement = field_statement(r, program.cells.len());
+        program.statements.push(statement);
     }
     program.statements.push([0, 0, 0, 0]);
     program
 }
 
 /// On entity cell 28, field cell 29, pointer cell 30 and the cells from 31 on; some operands are others.
-fn field_statement(r: &mut Random) -> [i16; 4] {
+fn field_statement(r: &mut Random, count: usize) -> [i16; 4] {
     let mut statement = match r.below(13) as i16 {
         load @ 0..=5 => [24 + load, 28, 29, 31],
         6 => [30, 28, 29, 30],
@@ -699,13 +711,13 @@ fn field_statement(r: &mut Random) -> [i16; 4] {
     };
     if r.percent(15) {
         let operand = 1 + r.below(3);
-        statement[operand] = edge(r, 36);
+        statement[operand] = edge(r, count);
     }
     statement
 }
 
 fn few_cells(r: &mut Random) -> Program {
-    let mut program = Program::new(r.pick(&[36, 37, 64]));
+    let mut program = Program::new(r.pick(&[LEAST_CELLS, LEAST_CELLS, 65]));
     if r.percent(70) {
         program.strings = TEXTS.to_vec();
     }
@@ -717,8 +729,9 @@ fn few_cells(r: &mut Random) -> Program {
         }
     }
     for _ in 0..r.below(5) {
-        let cell = r.below(program.cells.len() + 3) as u16;
-        program.globaldefs.push((global_type(r), cell, 0));
+        // Half of them among the cells that `field_statement` uses.
+        let end = r.pick(&[36, program.cells.len() + 3]);
+        program.globaldefs.push((global_type(r), r.below(end) as u16, 0));
     }
     program.functions.push(Function { first: 1, local: 30, ..Function::default() });
     program
@@ -758,7 +771,7 @@ fn entry_at_edges(r: &mut Random) -> Program {
     let mut program = few_cells(r);
     let count = program.cells.len() as i64;
     let local = r.pick(&[0, 1, 4, 5, 28, 30, count - 3, count - 1, count, count + 1, -1, -4, 32_767, 65_536 + 30, 1 << 30]);
-    let locals = r.pick(&[0, 0, 1, 2, 3, 5, 30, 36, 37, 2_048, 2_049, -1, 1 << 30]);
+    let locals = r.pick(&[0, 0, 1, 2, 3, 5, 30, 36, 37, 64, 65, 2_048, 2_049, -1, 1 << 30]);
     program.functions[1].local = local as i32;
     program.functions[1].locals = locals;
     program.functions[1].argc = r.pick(&[0, 0, 0, 1, 1, 2, 3, 7, 8, 9, -1]);
@@ -820,7 +833,7 @@ fn sizes_at_edges(r: &mut Random) -> Program {
             let more = 1_048_576 - program.bytes().len() + r.pick(&[0, 1, 2]);
             program.strings.resize(1 + more - r.pick(&[0, 1]), 0);
         }
-        3..=20 => program.cells.truncate(r.pick(&[0, 28, 35, 36])),
+        3..=20 => program.cells.truncate(r.pick(&[0, 28, 35, 35, 36, 63, 64])),
         21..=30 => program.entity_cells = r.pick(&[0, 104, 105, 106, -1, i32::MIN, i32::MAX]),
         _ => program.functions.clear(),
     }
@@ -894,9 +907,10 @@ fn header_number(r: &mut Random, bytes: &mut [u8]) {
 /// A file whose statement 0 is a call-free statement or a Return, and whose function 1 begins there.
 pub fn one_statement(r: &mut Random, entities: usize) -> Program {
     let style = style(r, entities);
-    let mut program = Program::new(if style.fields { 64 } else { r.pick(&[36, 40, 64]) });
+    let used = if style.fields { 64 } else { r.pick(&[36, 40, 64]) };
+    let mut program = with_cells(used);
     program.strings = TEXTS.to_vec();
-    let cells = Cells::new(r, &mut program, 3, &style);
+    let cells = Cells::new(r, &mut program, used, 3, &style);
     for cell in 1..28 {
         program.cells[cell] = float(r, &style);
     }

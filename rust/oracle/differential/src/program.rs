@@ -121,6 +121,11 @@ pub fn without_void_globals(bytes: &[u8]) -> Vec<u8> {
     without
 }
 
+/// So many cells a file has at least: fewer are refused 10 (02, R-7).
+pub const LEAST_CELLS: usize = 64;
+/// So many are enough for the Rust.
+const LEAST_IN_THE_RUST: usize = 36;
+
 /// The header's length.
 pub const HEADER: usize = 60;
 
@@ -166,6 +171,11 @@ impl View<'_> {
     /// The count of cells, 0 for a negative one.
     pub fn cells(&self) -> usize {
         self.count(Lump::Cells).max(0) as usize
+    }
+
+    /// Whether the count of cells is one that the Rust takes and R-7 refuses.
+    pub fn has_cells_for_the_rust_alone(&self) -> bool {
+        (LEAST_IN_THE_RUST..LEAST_CELLS).contains(&self.cells())
     }
 
     pub fn statement(&self, position: i64) -> Option<[i16; 4]> {
