@@ -12,9 +12,7 @@ pub mod Written
 pub mod Answers
 pub mod Starred
 pub mod Rounding
-pub mod Fields
-pub mod StringRows
-pub mod Voids
+pub mod Requests
 pub mod Calls
 pub mod Log
 pub mod Trace
@@ -26,3 +24,4 @@ pub mod Invariant
 pub mod RecordLaws
 pub mod LoadLaws
 pub mod ReturnsProof
+pub mod WrittenLaws

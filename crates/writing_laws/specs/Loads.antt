@@ -197,11 +197,6 @@ module _ (file output : List ℕ) where
       let short : length (image file) ≤ longestFile = rw (w .size) at (w .short) in
       rw (w .front) (written-loads file number cells saved entities a short lent, written-says file)
 
-  -- "The writer works from the file's own cells and not from the running ones": any two states of the file, with any cells, write the same
-  pub written-from-file : (c c′ : Config) → sound (programOf file) c ≡ sound (programOf file) c′ → writeFile file output c ≡ writeFile file output c′
-  unfolding writeFile writeConditions
-  written-from-file c c′ e = rw e refl
-
   -- ---- accepted exactly when, refused exactly when
 
   -- 13 before 34, whatever the output buffer is

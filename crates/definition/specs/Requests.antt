@@ -1,0 +1,53 @@
+-- REQUESTS OF DOCUMENT 02: one row or two of each that changed what a statement or a load does, R-1 apart (Rounding). The whole of them is in `crates/rows`:
+-- what stands here is what a wrong definition is refused by in this crate.
+use Prim.Native.Nat.{ℕ}
+use mathlib.Core.List.{List, [], _∷_}
+use lib.IntN.{pos}
+use lib.ListN.{take, replicate}
+use lib.Dec.{T}
+use Rattle.definition.specs.Checks.{refused, accepted}
+use Rattle.definition.specs.File.{Contents}
+use Rattle.definition.specs.Cells.{void, string}
+use Rattle.definition.specs.Strings.{upToZero, sameText, textAccess}
+use Rattle.definition.specs.Statements.{stringsEffect, negatesSEffect}
+use Rattle.definition.specs.Load.{load, programOf}
+use Rattle.definition.specs.Starred.{assembled, op, return, define, plain, typedProgram, program, numbered, cellsWith, Seen, andThen, Scenario, state, cells, enter, complete, from}
+use Rattle.definition.specs.Starred.{Row, row, all, computing}
+
+-- a load with one entity, whose cells are 7, and what is seen of the first two after it
+abbrev withEntity : Contents → (Scenario → Scenario) → Seen
+withEntity k rest =
+    let file = assembled k in
+    let fields : Scenario = λ P c. accepted (take 2 (c .entities)) in
+    andThen (load file (pos 1) (replicate 64 0) (replicate 2048 0) (replicate 105 7)) (rest fields (programOf file))
+
+-- two empty texts: of string number 0, and of 1
+abbrev emptyTexts : Contents
+emptyTexts =
+    let k = program (op 46 28 0 30 ∷ []) (plain ∷ []) (cellsWith 28 (1 ∷ [])) in
+    record {
+      statements = k .statements;
+      globaldefs = k .globaldefs;
+      fielddefs = k .fielddefs;
+      functions = k .functions;
+      strings = 0 ∷ 0 ∷ [];
+      globals = k .globals;
+      entityfields = k .entityfields;
+    }
+
+abbrev pub requests : List Row
+requests =
+    row "R-3: the other lent entity cells are untouched, by a load too" (withEntity (program [] [] numbered) (λ fields. fields)) (accepted (7 ∷ 7 ∷ []))
+    ∷ row "R-3: a Return touches none" (withEntity (program (return 0 0 0 ∷ []) (plain ∷ []) numbered) (λ fields. enter 1 (complete fields))) (accepted (7 ∷ 7 ∷ []))
+    ∷ row "R-4: a string number not below the string length is refused 33"
+    (from (program (op 12 28 29 30 ∷ []) (plain ∷ []) (cellsWith 28 (0 ∷ 1 ∷ []))) (enter 1 (complete state))) (refused 33)
+    ∷ row "R-4: equal operands of EqS are still answered unread"
+    (from (program (op 12 28 28 30 ∷ []) (plain ∷ []) (cellsWith 28 (5 ∷ []))) (enter 1 (complete (cells 1 30)))) (accepted (0x3f800000 ∷ []))
+    ∷ row "R-4: NotS is 1.0 for an empty string" (from emptyTexts (enter 1 (complete (cells 1 30)))) (accepted (0x3f800000 ∷ []))
+    ∷ row "R-5: void definitions are passed over"
+    (from (typedProgram (define void 30 ∷ define string 30 ∷ []) (op 31 30 31 0 ∷ []) (plain ∷ []) numbered) (enter 1 (complete state))) (refused 16)
+    ∷ []
+
+pub requests-hold : T (all requests)
+unfolding computing stringsEffect negatesSEffect upToZero sameText textAccess
+requests-hold = tt
