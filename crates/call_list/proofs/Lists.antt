@@ -14,9 +14,9 @@ use Rattle.definition.specs.Statements.{placeOf}
 use Rattle.definition.specs.Machine.{Program, Config}
 use Rattle.definition.specs.Operations.{below}
 use Rattle.definition.specs.CheckLaws.{and-left, and-right}
+use Rattle.definition.specs.PlaceLaws.{below-place}
 use Rattle.definition.specs.Calls.{Call, after}
 use Rattle.progs.specs.Contexts.{config}
-use Rattle.progs.proofs.HostLaws.{below-place}
 use Rattle.call_list.specs.declared.Replied.{Replied}
 use Rattle.call_list.specs.Encoding.{kindIn, callNumbered, callIn, formedAt, allTrue, Reply, reply, afterAll, numbers, replies, AfterCall, repliedOf, afterCall}
 

@@ -73,11 +73,7 @@ module _ (P : Program) (c : Config) (r : Replied) (cells saved entities : List �
         unfolding reply after
         call-writes v i o =
             as-call (writes a (natural b)) (rw (ne-eqb kind 0 n0, ne-eqb kind 1 n1, ne-eqb kind 2 n2, ne-eqb kind 3 n3, ne-eqb kind 4 n4, ne-eqb kind 5 n5))
-            (from-outcome w (rawWrite P a (natural b) c) e (o ∙ ap (λ (n : ℕ). outcome c (rawWrite P a n c)) (i ∙ place b)))
-          where
-            place : (z : ℤ) → placeOf 0 z ≡ natural z
-            place (pos i) = refl
-            place (negsuc i) = refl
+            (from-outcome w (rawWrite P a (natural b) c) e (o ∙ ap (λ (n : ℕ). outcome c (rawWrite P a n c)) (i ∙ place-zero b)))
 
     pub call-steps : (s : Stepped) → r ≡ answering (s .context) (statementReply (s .answer)) → kind ≡ 1 → steppedOf s cells saved entities ≡ statementOutcome c (statement P c) → goal
     unfolding reply after
@@ -105,8 +101,5 @@ six-on kind h n3 n4 n5 = omega (arith, n3, n4, n5)
 
 -- the value of a write is a cell's
 pub value-fits : (kind : ℕ) (b : ℤ) → (ltb kind 6 || below b 4294967296) ≡ true → (kind ≡ 0 → ⊥) → (kind ≡ 1 → ⊥) → (kind ≡ 2 → ⊥) → (kind ≡ 3 → ⊥) → (kind ≡ 4 → ⊥) → (kind ≡ 5 → ⊥) → placeOf 0 b < 4294967296
-value-fits kind b h n0 n1 n2 n3 n4 n5 = fits b (rw (le-ltb kind 6 (six-on kind (three-on kind n0 n1 n2) n3 n4 n5)) at h)
-  where
-    fits : (z : ℤ) → below z 4294967296 ≡ true → placeOf 0 z < 4294967296
-    fits (pos i) t = ltb-true i 4294967296 t
-    fits (negsuc i) t = omega arith
+value-fits kind b h n0 n1 n2 n3 n4 n5 =
+    rw (place-zero b) (below-natural 4294967296 b (rw (le-ltb kind 6 (six-on kind (three-on kind n0 n1 n2) n3 n4 n5)) at h))

@@ -22,6 +22,7 @@ use Rattle.definition.specs.Calls.{Call, enters, steps, runs, carries, a
 use Rattle.definition.specs.Log.{Log, Kind, entry, leaving, other, statementKind, kindOf}
 use Rattle.definition.specs.Trace.{kindAt, logAfter, Transition, StepProperty, StateProperty, Trace, logAfterSteps, Counted, Always}
 use Rattle.definition.specs.CheckLaws.{All, judge-passed, judge-all, all-front, all-back, WhenAccepted, guarded, guard-accepts}
+use Rattle.definition.specs.PlaceLaws.{below-natural}
 use Rattle.definition.specs.StatementLaws.{Keeps, keeps-all, keeps-set, keeps-one, HasKind, beforeIn, statement-has-kind}
 
 -- ---- a run's small steps are as many as it counts
@@ -60,10 +61,6 @@ counted file (lends entities) c = tt
 
 -- ---- the cells that a host writes
 
-in-count : (count : ℕ) (a : ℤ) → below a count ≡ true → natural a < count
-in-count count (pos i) e = ltb-true i count e
-in-count count (negsuc i) e = absurd (let z : false ≡ true = e in mathlib.Core.Bool.false≢true z)
-
 -- pairs that pass change no cell but below the count
 pub pairs-keep : (count : ℕ) (cells : List ℕ) (numbers : List ℤ) (cells′ : List ℕ) → All (pairConditions count numbers) → Keeps count cells cells′
     → Keeps count cells (pairsWritten numbers cells′)
@@ -71,7 +68,7 @@ unfolding pairConditions pairsWritten
 pairs-keep count cells [] cells′ h k = k
 pairs-keep count cells (a ∷ []) cells′ h k = k
 pairs-keep count cells (a ∷ v ∷ numbers) cells′ h k =
-    pairs-keep count cells numbers (set cells′ (natural a) (natural v)) (h .1 .1) (keeps-set count cells cells′ (natural a) (natural v) (in-count count a (h .0)) k)
+    pairs-keep count cells numbers (set cells′ (natural a) (natural v)) (h .1 .1) (keeps-set count cells cells′ (natural a) (natural v) (below-natural count a (h .0)) k)
 
 -- ---- what is preserved
 
@@ -241,7 +238,7 @@ module _ (file : List ℕ) (K : StateProperty) (Step : StepProperty) (S : Induct
   call-preserves (writes a v) c l k =
       if-accepted (writes a v) c l (rawWrite P a v c) (λ c₁ e. e) k
       (guarded (Preserved other c l) _ _ λ h.
-      S .writing c l (set (c .cells) (natural a) v) k (keeps-one (countOf c) (c .cells) (natural a) v (in-count (countOf c) a (h .1 .0))))
+      S .writing c l (set (c .cells) (natural a) v) k (keeps-one (countOf c) (c .cells) (natural a) v (below-natural (countOf c) a (h .1 .0))))
   call-preserves (writesAll numbers) c l k =
       if-accepted (writesAll numbers) c l (writeAll P numbers c) (λ c₁ e. e) k
       (guarded (Preserved other c l) _ _ λ h.

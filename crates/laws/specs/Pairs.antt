@@ -4,8 +4,8 @@ use mathlib.Core.Path.{_≡_, refl, sym, _∙_, ap}
 use mathlib.Core.List.{List, [], _∷_}
 use mathlib.Core.Bool.{Bool, true, false, cond, false≢true}
 use native.Mathlib.Omega.{arith}
-use borrow.Author.Tests.{lt-ltb, lt-leb, ltb-true, eq-eqb, eqb-true}
-use lib.IntN.{ℤ, pos, negsuc}
+use borrow.Author.Tests.{lt-ltb, lt-leb, eq-eqb, eqb-true}
+use lib.IntN.{ℤ, pos}
 use lib.ListN.{length, getD, set, length-set}
 use lib.Seq.{getD-set-same, getD-set-other}
 use lib.Dec.{eqb}
@@ -15,6 +15,7 @@ use Rattle.definition.specs.Operations.{sound, natural, below, rawConditions, r
 use Rattle.definition.specs.Answers.{kept}
 use Rattle.definition.specs.Calls.{writes, writesAll, after}
 use Rattle.definition.specs.CheckLaws.{All, guard-accepts}
+use Rattle.definition.specs.PlaceLaws.{below-natural}
 
 -- "For a single pair it equals the raw host write": of every address and every value of a cell
 pub one-pair : (P : Program) (a : ℤ) (v : ℕ) (c : Config) → v < 4294967296 → writeAll P (a ∷ pos v ∷ []) c ≡ rawWrite P a v c
@@ -78,13 +79,9 @@ later-holds (a ∷ v ∷ numbers) cells count i h e =
     later-holds numbers (set cells (natural a) (natural v)) count i (h .1 .1) (rw (length-set cells (natural a) (natural v)) e)
     ∙ ap (λ (old : ℕ). lastOf i old numbers) (one a (h .0) (eqb (natural a) i) refl)
   where
-    there : (x : ℤ) → below x count ≡ true → natural x < length cells
-    there (pos n) t = omega (arith, ltb-true n count t)
-    there (negsuc n) t = absurd (false≢true t)
-
     one : (x : ℤ) → below x count ≡ true → (b : Bool) → eqb (natural x) i ≡ b
         → getD (set cells (natural x) (natural v)) i 0 ≡ cond b (natural v) (getD cells i 0)
     one x t true q =
         ap (λ (k : ℕ). getD (set cells (natural x) (natural v)) k 0) (sym (eqb-true (natural x) i q))
-        ∙ getD-set-same cells (natural x) (natural v) 0 (there x t)
+        ∙ getD-set-same cells (natural x) (natural v) 0 (omega (arith, below-natural count x t))
     one x t false q = getD-set-other cells (natural x) i (natural v) 0 (λ z. false≢true (sym q ∙ eq-eqb (natural x) i (sym z)))

@@ -17,29 +17,13 @@ use Rattle.definition.specs.Operations.{sound, natural, below, hostEnter, leftT
 use Rattle.definition.specs.Load.{programOf}
 use Rattle.definition.specs.Answers.{Outcome, outcome, readAnswer}
 use Rattle.definition.specs.CheckLaws.{judge-passed}
+use Rattle.definition.specs.PlaceLaws.{below-place, below-natural, place-zero, place-natural}
 use Rattle.progs.specs.declared.ExecutionContext.{ExecutionContext}
 use Rattle.progs.specs.declared.Answered.{Answered}
 use Rattle.progs.specs.Contexts.{config, bare, outcomeOf, after, refusing, accepting}
 use Rattle.progs.proofs.OutcomeLaws.{refused-outcome, accepted-outcome, guard-past}
 use Rattle.progs.proofs.StateLaws.{passed}
 use Rattle.progs.proofs.AbandonLaws.{leavings-alone}
-
--- a place is below the number of places exactly where the signed number is from 0 up to below it
-pub below-place : (n : ℕ) (a : ℤ) → below a n ≡ ltb (placeOf n a) n
-below-place n (pos i) = refl
-below-place n (negsuc i) = sym (le-ltb n n (omega arith))
-
-below-natural : (n : ℕ) (a : ℤ) → below a n ≡ true → natural a < n
-below-natural n (pos i) h = ltb-true i n h
-below-natural n (negsuc i) h = absurd (true≢false (sym h))
-
-pub place-zero : (a : ℤ) → placeOf 0 a ≡ natural a
-place-zero (pos i) = refl
-place-zero (negsuc i) = refl
-
-pub place-natural : (n : ℕ) (a : ℤ) → placeOf n a < n → natural a ≡ placeOf n a
-place-natural n (pos i) h = refl
-place-natural n (negsuc i) h = absurd (omega arith)
 
 module _ (P : Program) (x : ExecutionContext) (cells saved entities : List ℕ) where
   abbrev here : Config
