@@ -140,8 +140,8 @@ module _ (numbers : List ℤ) (kind : ℕ) (a b : ℤ) where
         omega (arith, place-zero a, place-zero b, first, count)
 
 -- the numbers that are cut out
-pub given-numbers : (numbers : List ℤ) (a b : ℤ) (first end : ℕ) → first ≡ placeOf 0 a → end ≡ first + placeOf 0 b
-    → take (end - first) (drop first numbers) ≡ take (natural b) (drop (natural a) numbers)
-given-numbers numbers a b first end f e =
-    let count : end - first ≡ natural b = omega (arith, place-zero b) in
-    rw (count, f, place-zero a)
+pub given-numbers : (numbers : List ℤ) (a b : ℤ) (first count : ℕ) → first ≡ placeOf 0 a → count ≡ placeOf 0 b
+    → take (first + count - first) (drop first numbers) ≡ take (natural b) (drop (natural a) numbers)
+given-numbers numbers a b first count f e =
+    let n : first + count - first ≡ natural b = omega (arith, place-zero b) in
+    rw (n, f, place-zero a)
