@@ -53,24 +53,29 @@ module _ (P : Program) (c : Config) (r : Replied) (cells saved entities : List �
 
   -- ---- a write
 
-  module _ (numbers : List ℤ) (kind : ℕ) (a b : ℤ) (w : Answered) (e : r ≡ answering (w .context) (answerReply (w .answer))) where
-    abbrev written : Type 0
-    written = repliedOf r cells saved entities ≡ afterCall P (writeNumbered numbers kind a b) c
-
-    as-write : (k : Call) → writeNumbered numbers kind a b ≡ k → repliedOf r cells saved entities ≡ afterCall P k c → written
-    as-write k f h = h ∙ ap (λ (z : Call). afterCall P z c) (sym f)
-
-    pub write-one : kind ≡ 6 → (v : ℕ) → v ≡ placeOf 0 b → contexts.outcomeOf w cells saved entities ≡ outcome c (rawWrite P a v c) → written
+  module _ (w : Answered) (e : r ≡ answering (w .context) (answerReply (w .answer))) where
+    pub after-write : (a : ℤ) (v : ℕ) → contexts.outcomeOf w cells saved entities ≡ outcome c (rawWrite P a v c) → repliedOf r cells saved entities ≡ afterCall P (writes a v) c
     unfolding reply after
-    write-one k v i o =
-        as-write (writes a (natural b)) (rw k)
-        (from-outcome w (rawWrite P a (natural b) c) e (o ∙ ap (λ (n : ℕ). outcome c (rawWrite P a n c)) (i ∙ place-zero b)))
+    after-write a v o = from-outcome w (rawWrite P a v c) e o
 
-    pub write-many : (kind ≡ 6 → ⊥) → (given : List ℤ) → given ≡ take (natural b) (drop (natural a) numbers)
-        → contexts.outcomeOf w cells saved entities ≡ outcome c (writeAll P given c) → written
+    pub after-write-all : (numbers : List ℤ) → contexts.outcomeOf w cells saved entities ≡ outcome c (writeAll P numbers c)
+        → repliedOf r cells saved entities ≡ afterCall P (writesAll numbers) c
     unfolding reply after
-    write-many k given i o =
-        as-write (writesAll given) (rw (ne-eqb kind 6 k, ← i)) (from-outcome w (writeAll P given c) e o)
+    after-write-all numbers o = from-outcome w (writeAll P numbers c) e o
+
+    module _ (numbers : List ℤ) (kind : ℕ) (a b : ℤ) where
+      abbrev written : Type 0
+      written = repliedOf r cells saved entities ≡ afterCall P (writeNumbered numbers kind a b) c
+
+      as-write : (k : Call) → writeNumbered numbers kind a b ≡ k → repliedOf r cells saved entities ≡ afterCall P k c → written
+      as-write k f h = h ∙ ap (λ (z : Call). afterCall P z c) (sym f)
+
+      pub write-one : kind ≡ 6 → (v : ℕ) → v ≡ placeOf 0 b → contexts.outcomeOf w cells saved entities ≡ outcome c (rawWrite P a v c) → written
+      write-one k v i o = as-write (writes a v) (rw (k, i, place-zero b)) (after-write a v o)
+
+      pub write-many : (kind ≡ 6 → ⊥) → (given : List ℤ) → given ≡ take (natural b) (drop (natural a) numbers)
+          → contexts.outcomeOf w cells saved entities ≡ outcome c (writeAll P given c) → written
+      write-many k given i o = as-write (writesAll given) (rw (ne-eqb kind 6 k, ← i)) (after-write-all given o)
 
   module _ (numbers : List ℤ) (kind : ℕ) (a b : ℤ) where
     abbrev goal : Type 0

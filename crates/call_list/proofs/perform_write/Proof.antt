@@ -22,7 +22,7 @@ cast-value c = omega (arith, value c, value-fits (c .before .before .before .bef
 returns : tie.Need-returns
 returns c =
     let g : SFits w64 (c .before .before .before .before .before .before .before .before .before .before .before .args .a) = search needs in
-    write-one _ _ _ _ _ _ (c .before .before .before .before .before .before .before .before .before .before .before .args .numbers .now) _ (c .before .before .before .before .before .before .before .before .before .before .before .args .a) (c .before .before .before .before .before .before .before .before .before .before .before .args .b) _ (c .reply-answer .ensures) (c .before .before .before .before .before .before .if1 .taken) _ (value (c .before .before .before .before .before)) (rw (toZ-ofZ g) at (c .before .before .before .write .ensures))
+    write-one _ _ _ _ _ _ _ (c .reply-answer .ensures) (c .before .before .before .before .before .before .before .before .before .before .before .args .numbers .now) _ (c .before .before .before .before .before .before .before .before .before .before .before .args .a) (c .before .before .before .before .before .before .before .before .before .before .before .args .b) (c .before .before .before .before .before .before .if1 .taken) _ (value (c .before .before .before .before .before)) (rw (toZ-ofZ g) at (c .before .before .before .write .ensures))
 
 -- the first of the numbers, how many there are, and that they are there
 first : (c : tie.After-place-of2) → c .place-of2 .result ≡ placeOf 0 (c .before .before .before .before .before .before .args .a)
@@ -55,7 +55,7 @@ part-write-all-end c = omega (arith, there c)
 
 returns-2 : tie.Need-returns-2
 returns-2 c =
-    write-many _ _ _ _ _ _ (c .before .before .before .before .before .before .before .before .before .before .before .before .before .args .numbers .now) _ (c .before .before .before .before .before .before .before .before .before .before .before .before .before .args .a) (c .before .before .before .before .before .before .before .before .before .before .before .before .before .args .b) _ (c .reply-answer2 .ensures) (c .before .before .before .before .before .before .before .before .if1 .left) _
+    write-many _ _ _ _ _ _ _ (c .reply-answer2 .ensures) (c .before .before .before .before .before .before .before .before .before .before .before .before .before .args .numbers .now) _ (c .before .before .before .before .before .before .before .before .before .before .before .before .before .args .a) (c .before .before .before .before .before .before .before .before .before .before .before .before .before .args .b) (c .before .before .before .before .before .before .before .before .if1 .left) _
     (given-numbers (c .before .before .before .before .before .before .before .before .before .before .before .before .before .args .numbers .now) (c .before .before .before .before .before .before .before .before .before .before .before .before .before .args .a) (c .before .before .before .before .before .before .before .before .before .before .before .before .before .args .b) _ _ (first (c .before .before .before .before .before .before .before)) (count (c .before .before .before .before .before .before))) (c .before .before .before .write-all .ensures)
 
 pub perform-write-spec : {M : Type 1} → statement M
