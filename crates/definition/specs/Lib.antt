@@ -15,7 +15,7 @@ pub mod Rounding
 pub mod Fields
 pub mod StringRows
 pub mod Voids
-pub mod Settings
+pub mod CellPairs
 pub mod Calls
 pub mod Log
 pub mod Trace

@@ -1,7 +1,5 @@
 //! Settings written together: all the pairs or none, as document 02's R-9 says.
 
-mod common;
-
 use host::assemble::{statement, Assembly, Function};
 use host::{Machine, Refusal, PAIRS, SAVED_STORE};
 
@@ -58,10 +56,7 @@ fn up_to_64_pairs() {
         for (address, value) in pairs(n) {
             cells[address as usize] = value;
         }
-        assert!(
-            everything(&machine) == (context, cells, saved),
-            "{n} pairs"
-        );
+        assert!(everything(&machine) == (context, cells, saved), "{n} pairs");
     }
 }
 
