@@ -12,33 +12,61 @@ use lib.Dec.{eqb, ltb, leb}
 use Rattle.definition.specs.File.{records}
 use Rattle.definition.specs.Statements.{placeOf}
 use Rattle.definition.specs.Machine.{Program, Config}
-use Rattle.definition.specs.Operations.{below}
+use Rattle.definition.specs.Operations.{natural, below}
 use Rattle.definition.specs.CheckLaws.{and-left, and-right}
+use Rattle.definition.specs.PlaceLaws.{below-place, place-natural}
 use Rattle.definition.specs.Calls.{Call, after}
 use Rattle.progs.specs.Contexts.{config}
-use Rattle.progs.proofs.HostLaws.{below-place}
 use Rattle.call_list.specs.declared.Replied.{Replied}
-use Rattle.call_list.specs.Encoding.{kindIn, callNumbered, callIn, formedAt, allTrue, Reply, reply, afterAll, numbers, replies, AfterCall, repliedOf, afterCall}
+use Rattle.call_list.specs.Encoding.{kindIn, callNumbered, callIn, writeFormed, formedAt, allTrue, Reply, reply, afterAll, numbers, replies, AfterCall, repliedOf, afterCall}
 
 -- ---- one call
 
-module _ (list : List ℤ) (at kind : ℕ) (k : kind ≡ placeOf 7 (getD list at (pos 0))) where
-  pub formed-plain : kind < 6 → true ≡ formedAt list at
-  unfolding formedAt
-  formed-plain h = rw (← k, lt-ltb kind 7 (omega arith), lt-ltb kind 6 h)
+module _ (numbers : List ℤ) (kind : ℕ) (a b : ℤ) where
+  pub formed-value : kind ≡ 6 → (place : ℕ) → place ≡ placeOf 4294967296 b → ltb place 4294967296 ≡ writeFormed numbers kind a b
+  formed-value k place p = rw (k, below-place 4294967296 b, ← p)
 
-  pub formed-unknown : 6 < kind → false ≡ formedAt list at
-  unfolding formedAt
-  formed-unknown h = rw (← k, le-ltb kind 7 h)
+  module _ (k : kind ≡ 6 → ⊥) (first : ℕ) (f : first ≡ placeOf (length numbers + 1) a) where
+    pub formed-none : length numbers < first → false ≡ writeFormed numbers kind a b
+    formed-none h = rw (ne-eqb kind 6 k, below-place (length numbers + 1) a, ← f, le-ltb first (length numbers + 1) (omega arith))
 
-  pub formed-write : 6 ≤ kind → kind ≤ 6 → (place : ℕ) → place ≡ placeOf 4294967296 (getD list (at + 2) (pos 0)) → ltb place 4294967296 ≡ formedAt list at
+    pub formed-numbers : first ≤ length numbers → (room place : ℕ) → room ≡ length numbers + 1 - first → place ≡ placeOf room b → ltb place room ≡ writeFormed numbers kind a b
+    formed-numbers h room place r p =
+        let there : first < length numbers + 1 = omega arith in
+        rw (
+          ne-eqb kind 6 k,
+          below-place (length numbers + 1) a,
+          ← f,
+          lt-ltb first (length numbers + 1) there,
+          place-natural (length numbers + 1) a (rw f at there),
+          ← f,
+          ← r,
+          below-place room b,
+          ← p,
+        )
+
+module _ (list numbers : List ℤ) (at kind : ℕ) (k : kind ≡ placeOf 8 (getD list at (pos 0))) where
+  abbrev formed : Bool
+  formed = writeFormed numbers kind (getD list (at + 1) (pos 0)) (getD list (at + 2) (pos 0))
+
+  pub formed-plain : kind < 6 → true ≡ formedAt list numbers at
   unfolding formedAt
-  formed-write h l place p = rw (← k, lt-ltb kind 7 (omega arith), le-ltb kind 6 h, below-place 4294967296 (getD list (at + 2) (pos 0)), ← p)
+  formed-plain h = rw (← k, lt-ltb kind 8 (omega arith), lt-ltb kind 6 h)
+
+  pub formed-unknown : 7 < kind → false ≡ formedAt list numbers at
+  unfolding formedAt
+  formed-unknown h = rw (← k, le-ltb kind 8 h)
+
+  pub formed-write : 6 ≤ kind → kind ≤ 7 → formed ≡ formedAt list numbers at
+  unfolding formedAt
+  formed-write h l = rw (← k, lt-ltb kind 8 (omega arith), le-ltb kind 6 h)
 
   -- what a well formed call's numbers are good for
-  pub formed-value : formedAt list at ≡ true → (ltb kind 6 || below (getD list (at + 2) (pos 0)) 4294967296) ≡ true
+  pub formed-good : formedAt list numbers at ≡ true → (ltb kind 6 || formed) ≡ true
   unfolding formedAt
-  formed-value h = rw k (and-right (ltb (kindIn list at) 7) (ltb (kindIn list at) 6 || below (getD list (at + 2) (pos 0)) 4294967296) h)
+  formed-good h =
+      let w = writeFormed numbers (kindIn list at) (getD list (at + 1) (pos 0)) (getD list (at + 2) (pos 0)) in
+      rw k (and-right (ltb (kindIn list at) 8) (ltb (kindIn list at) 6 || w) h)
 
 -- ---- the calls that are left
 
@@ -100,13 +128,14 @@ pub formed-start : (formed : ℕ → Bool) (n : ℕ) → allTrue (records formed
 formed-start formed n = let a : n - 0 ≡ n = omega arith in rw a
 
 -- the call that is performed is the one whose numbers are there
-pub left-replied : (P : Program) (list : List ℤ) (n : ℕ) (c₀ c : Config) (answers₀ answers : List ℕ) (i : ℕ) → Left P (callIn list) n c₀ c answers₀ answers i → i < n
-    → (kind : ℕ) → kind ≡ placeOf 7 (getD list (3 * i) (pos 0))
-    → (r : Replied) (cells saved entities : List ℕ) → repliedOf r cells saved entities ≡ afterCall P (callNumbered kind (getD list (3 * i + 1) (pos 0)) (getD list (3 * i + 2) (pos 0))) c
-    → Left P (callIn list) n c₀ (config (r .context) cells saved entities) answers₀ (set (set (set answers (3 * i) (r .word)) (3 * i + 1) (r .detail)) (3 * i + 2) (r .count)) (i + 1)
+pub left-replied : (P : Program) (list numbers : List ℤ) (n : ℕ) (c₀ c : Config) (answers₀ answers : List ℕ) (i : ℕ) → Left P (callIn list numbers) n c₀ c answers₀ answers i → i < n
+    → (kind : ℕ) → kind ≡ placeOf 8 (getD list (3 * i) (pos 0))
+    → (r : Replied) (cells saved entities : List ℕ)
+    → repliedOf r cells saved entities ≡ afterCall P (callNumbered numbers kind (getD list (3 * i + 1) (pos 0)) (getD list (3 * i + 2) (pos 0))) c
+    → Left P (callIn list numbers) n c₀ (config (r .context) cells saved entities) answers₀ (set (set (set answers (3 * i) (r .word)) (3 * i + 1) (r .detail)) (3 * i + 2) (r .count)) (i + 1)
 unfolding callIn
-left-replied P list n c₀ c answers₀ answers i l h kind k r cells saved entities e =
-    let o : repliedOf r cells saved entities ≡ afterCall P (callIn list (3 * i)) c = e ∙ ap (λ (z : ℕ). afterCall P (callNumbered z (getD list (3 * i + 1) (pos 0)) (getD list (3 * i + 2) (pos 0))) c) k in
-    left-on P (callIn list) n c₀ c answers₀ answers i l h (config (r .context) cells saved entities) (repliedOf r cells saved entities .reply)
+left-replied P list numbers n c₀ c answers₀ answers i l h kind k r cells saved entities e =
+    let o : repliedOf r cells saved entities ≡ afterCall P (callIn list numbers (3 * i)) c = e ∙ ap (λ (z : ℕ). afterCall P (callNumbered numbers z (getD list (3 * i + 1) (pos 0)) (getD list (3 * i + 2) (pos 0))) c) k in
+    left-on P (callIn list numbers) n c₀ c answers₀ answers i l h (config (r .context) cells saved entities) (repliedOf r cells saved entities .reply)
     (ap (λ (z : AfterCall). z .config) o)
     (ap (λ (z : AfterCall). z .reply) o)

@@ -1,23 +1,26 @@
 -- What a call's answer is in numbers, and what a call leaves, by its operation.
-use Prim.Native.Nat.{ℕ, zero, suc, _<_, _≤_}
+use Prim.Native.Nat.{ℕ, zero, suc, _+_, _-_, _<_, _≤_}
 use mathlib.Core.Path.{_≡_, refl, sym, _∙_, ap}
 use mathlib.Core.List.{List}
-use mathlib.Core.Bool.{Bool, true, false, _||_, cond}
+use mathlib.Core.Bool.{Bool, true, _&&_, _||_, cond}
 use native.Mathlib.Omega.{arith}
-use borrow.Author.Tests.{ne-eqb, le-ltb, ltb-true}
-use lib.IntN.{ℤ, pos, negsuc}
+use borrow.Author.Tests.{ne-eqb, le-ltb}
+use lib.IntN.{ℤ}
+use lib.ListN.{length, take, drop}
 use lib.Dec.{eqb, ltb}
 use Rattle.definition.specs.declared.ReadAnswer.{ReadAnswer}
 use Rattle.definition.specs.declared.RunAnswer.{RunAnswer}
 use Rattle.definition.specs.declared.Handover.{Handover}
 use Rattle.definition.specs.Checks.{Checked}
+use Rattle.definition.specs.CheckLaws.{and-left, and-right}
+use Rattle.definition.specs.PlaceLaws.{below-natural, place-zero}
 use Rattle.definition.specs.Statements.{placeOf}
 use Rattle.definition.specs.Machine as machine
 use Rattle.definition.specs.Machine.{Program, Config}
-use Rattle.definition.specs.Operations.{natural, below, hostEnter, statement, run, carryOn, abandon, rawRead, rawWrite}
+use Rattle.definition.specs.Operations.{natural, below, hostEnter, statement, run, carryOn, abandon, rawRead, rawWrite, writeAll}
 use Rattle.definition.specs.Answers as answers
 use Rattle.definition.specs.Answers.{answerOf, kept, outcome, readAnswer, StatementOutcome, statementOutcome}
-use Rattle.definition.specs.Calls.{Call, enters, steps, runs, carries, abandons, reads, writes, after}
+use Rattle.definition.specs.Calls.{Call, enters, steps, runs, carries, abandons, reads, writes, writesAll, after}
 use Rattle.progs.specs.declared.Answered.{Answered}
 use Rattle.progs.specs.declared.ExecutionContext.{ExecutionContext}
 use Rattle.progs.specs.Contexts as contexts
@@ -26,7 +29,7 @@ use Rattle.server.specs.declared.Stepped.{Stepped}
 use Rattle.server.specs.declared.Ran.{Ran}
 use Rattle.server.specs.Stepping.{steppedOf, ranOf}
 use Rattle.call_list.specs.declared.Replied.{Replied}
-use Rattle.call_list.specs.Encoding.{Reply, answerReply, readReply, handoverReply, statementReply, runReply, callNumbered, reply, answering, AfterCall, repliedOf, afterCall}
+use Rattle.call_list.specs.Encoding.{Reply, answerReply, readReply, handoverReply, statementReply, runReply, writeNumbered, callNumbered, writeFormed, reply, answering, AfterCall, repliedOf, afterCall}
 
 -- an answer that is known
 pub known : {A : Type 0} (f : A → Reply) (x : ExecutionContext) (a k : A) → a ≡ k → answering x (f k) ≡ answering x (f a)
@@ -48,11 +51,37 @@ module _ (P : Program) (c : Config) (r : Replied) (cells saved entities : List �
       ap (λ (s : Replied). repliedOf s cells saved entities) e
       ∙ ap (λ (z : answers.Outcome). record { reply = answerReply (z .answer); config = z .config }) o
 
-  module _ (kind : ℕ) (a b : ℤ) where
-    abbrev goal : Type 0
-    goal = repliedOf r cells saved entities ≡ afterCall P (callNumbered kind a b) c
+  -- ---- a write
 
-    as-call : (k : Call) → callNumbered kind a b ≡ k → repliedOf r cells saved entities ≡ afterCall P k c → goal
+  module _ (w : Answered) (e : r ≡ answering (w .context) (answerReply (w .answer))) where
+    pub after-write : (a : ℤ) (v : ℕ) → contexts.outcomeOf w cells saved entities ≡ outcome c (rawWrite P a v c) → repliedOf r cells saved entities ≡ afterCall P (writes a v) c
+    unfolding reply after
+    after-write a v o = from-outcome w (rawWrite P a v c) e o
+
+    pub after-write-all : (numbers : List ℤ) → contexts.outcomeOf w cells saved entities ≡ outcome c (writeAll P numbers c)
+        → repliedOf r cells saved entities ≡ afterCall P (writesAll numbers) c
+    unfolding reply after
+    after-write-all numbers o = from-outcome w (writeAll P numbers c) e o
+
+    module _ (numbers : List ℤ) (kind : ℕ) (a b : ℤ) where
+      abbrev written : Type 0
+      written = repliedOf r cells saved entities ≡ afterCall P (writeNumbered numbers kind a b) c
+
+      as-write : (k : Call) → writeNumbered numbers kind a b ≡ k → repliedOf r cells saved entities ≡ afterCall P k c → written
+      as-write k f h = h ∙ ap (λ (z : Call). afterCall P z c) (sym f)
+
+      pub write-one : kind ≡ 6 → (v : ℕ) → v ≡ placeOf 0 b → contexts.outcomeOf w cells saved entities ≡ outcome c (rawWrite P a v c) → written
+      write-one k v i o = as-write (writes a v) (rw (k, i, place-zero b)) (after-write a v o)
+
+      pub write-many : (kind ≡ 6 → ⊥) → (given : List ℤ) → given ≡ take (natural b) (drop (natural a) numbers)
+          → contexts.outcomeOf w cells saved entities ≡ outcome c (writeAll P given c) → written
+      write-many k given i o = as-write (writesAll given) (rw (ne-eqb kind 6 k, ← i)) (after-write-all given o)
+
+  module _ (numbers : List ℤ) (kind : ℕ) (a b : ℤ) where
+    abbrev goal : Type 0
+    goal = repliedOf r cells saved entities ≡ afterCall P (callNumbered numbers kind a b) c
+
+    as-call : (k : Call) → callNumbered numbers kind a b ≡ k → repliedOf r cells saved entities ≡ afterCall P k c → goal
     as-call k e h = h ∙ ap (λ (z : Call). afterCall P z c) (sym e)
 
     module _ (w : Answered) (e : r ≡ answering (w .context) (answerReply (w .answer))) where
@@ -68,16 +97,11 @@ module _ (P : Program) (c : Config) (r : Replied) (cells saved entities : List �
       unfolding reply after
       call-abandons k o = as-call (abandons a) (rw k) (from-outcome w (abandon P a c) e o)
 
-      module _ (n0 : kind ≡ 0 → ⊥) (n1 : kind ≡ 1 → ⊥) (n2 : kind ≡ 2 → ⊥) (n3 : kind ≡ 3 → ⊥) (n4 : kind ≡ 4 → ⊥) (n5 : kind ≡ 5 → ⊥) where
-        pub call-writes : (v : ℕ) → v ≡ placeOf 0 b → contexts.outcomeOf w cells saved entities ≡ outcome c (rawWrite P a v c) → goal
-        unfolding reply after
-        call-writes v i o =
-            as-call (writes a (natural b)) (rw (ne-eqb kind 0 n0, ne-eqb kind 1 n1, ne-eqb kind 2 n2, ne-eqb kind 3 n3, ne-eqb kind 4 n4, ne-eqb kind 5 n5))
-            (from-outcome w (rawWrite P a (natural b) c) e (o ∙ ap (λ (n : ℕ). outcome c (rawWrite P a n c)) (i ∙ place b)))
-          where
-            place : (z : ℤ) → placeOf 0 z ≡ natural z
-            place (pos i) = refl
-            place (negsuc i) = refl
+    pub call-writes : (kind ≡ 0 → ⊥) → (kind ≡ 1 → ⊥) → (kind ≡ 2 → ⊥) → (kind ≡ 3 → ⊥) → (kind ≡ 4 → ⊥) → (kind ≡ 5 → ⊥)
+        → repliedOf r cells saved entities ≡ afterCall P (writeNumbered numbers kind a b) c → goal
+    call-writes n0 n1 n2 n3 n4 n5 h =
+        as-call (writeNumbered numbers kind a b)
+        (rw (ne-eqb kind 0 n0, ne-eqb kind 1 n1, ne-eqb kind 2 n2, ne-eqb kind 3 n3, ne-eqb kind 4 n4, ne-eqb kind 5 n5)) h
 
     pub call-steps : (s : Stepped) → r ≡ answering (s .context) (statementReply (s .answer)) → kind ≡ 1 → steppedOf s cells saved entities ≡ statementOutcome c (statement P c) → goal
     unfolding reply after
@@ -103,10 +127,26 @@ three-on kind n0 n1 n2 = omega (arith, n0, n1, n2)
 six-on : (kind : ℕ) → 3 ≤ kind → (kind ≡ 3 → ⊥) → (kind ≡ 4 → ⊥) → (kind ≡ 5 → ⊥) → 6 ≤ kind
 six-on kind h n3 n4 n5 = omega (arith, n3, n4, n5)
 
--- the value of a write is a cell's
-pub value-fits : (kind : ℕ) (b : ℤ) → (ltb kind 6 || below b 4294967296) ≡ true → (kind ≡ 0 → ⊥) → (kind ≡ 1 → ⊥) → (kind ≡ 2 → ⊥) → (kind ≡ 3 → ⊥) → (kind ≡ 4 → ⊥) → (kind ≡ 5 → ⊥) → placeOf 0 b < 4294967296
-value-fits kind b h n0 n1 n2 n3 n4 n5 = fits b (rw (le-ltb kind 6 (six-on kind (three-on kind n0 n1 n2) n3 n4 n5)) at h)
-  where
-    fits : (z : ℤ) → below z 4294967296 ≡ true → placeOf 0 z < 4294967296
-    fits (pos i) t = ltb-true i 4294967296 t
-    fits (negsuc i) t = omega arith
+-- what is known of the numbers of a write that is well formed
+module _ (numbers : List ℤ) (kind : ℕ) (a b : ℤ) where
+  pub write-formed : (ltb kind 6 || writeFormed numbers kind a b) ≡ true → (kind ≡ 0 → ⊥) → (kind ≡ 1 → ⊥) → (kind ≡ 2 → ⊥) → (kind ≡ 3 → ⊥) → (kind ≡ 4 → ⊥) → (kind ≡ 5 → ⊥)
+      → writeFormed numbers kind a b ≡ true
+  write-formed h n0 n1 n2 n3 n4 n5 = rw (le-ltb kind 6 (six-on kind (three-on kind n0 n1 n2) n3 n4 n5)) at h
+
+  module _ (h : writeFormed numbers kind a b ≡ true) where
+    pub value-fits : kind ≡ 6 → placeOf 0 b < 4294967296
+    value-fits k = rw (place-zero b) (below-natural 4294967296 b (rw k at h))
+
+    pub numbers-there : (kind ≡ 6 → ⊥) → placeOf 0 a + placeOf 0 b ≤ length numbers
+    numbers-there k =
+        let f = rw (ne-eqb kind 6 k) at h in
+        let first = below-natural (length numbers + 1) a (and-left (below a (length numbers + 1)) (below b (length numbers + 1 - natural a)) f) in
+        let count = below-natural (length numbers + 1 - natural a) b (and-right (below a (length numbers + 1)) (below b (length numbers + 1 - natural a)) f) in
+        omega (arith, place-zero a, place-zero b, first, count)
+
+-- the numbers that are cut out
+pub given-numbers : (numbers : List ℤ) (a b : ℤ) (first count : ℕ) → first ≡ placeOf 0 a → count ≡ placeOf 0 b
+    → take (first + count - first) (drop first numbers) ≡ take (natural b) (drop (natural a) numbers)
+given-numbers numbers a b first count f e =
+    let n : first + count - first ≡ natural b = omega (arith, place-zero b) in
+    rw (n, f, place-zero a)

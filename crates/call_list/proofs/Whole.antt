@@ -13,28 +13,28 @@ use Rattle.definition.specs.Machine.{Program, Config}
 use Rattle.call_list.specs.declared.ListAnswer.the-variants.{Performed, Malformed}
 use Rattle.call_list.specs.Encoding.{callIn, formedAt, allTrue, wellFormed, afterAll, replies, Outcome, performed}
 
-module _ (P : Program) (list : List ℤ) (c : Config) (answers : List ℕ) where
+module _ (P : Program) (list numbers : List ℤ) (c : Config) (answers : List ℕ) where
   abbrev unchanged : Outcome
   unchanged = record { answer = Malformed; config = c; answers = answers }
 
-  malformed : wellFormed list (length answers) ≡ false → unchanged ≡ performed P list c answers
+  malformed : wellFormed list numbers (length answers) ≡ false → unchanged ≡ performed P list numbers c answers
   unfolding performed
   malformed e = rw e
 
-  pub part-of-a-call : (length list % 3 ≡ 0 → ⊥) → unchanged ≡ performed P list c answers
+  pub part-of-a-call : (length list % 3 ≡ 0 → ⊥) → unchanged ≡ performed P list numbers c answers
   unfolding wellFormed
   part-of-a-call h = malformed (rw (ne-eqb (length list % 3) 0 h))
 
-  pub no-room : length answers < length list → unchanged ≡ performed P list c answers
+  pub no-room : length answers < length list → unchanged ≡ performed P list numbers c answers
   unfolding wellFormed
   no-room h = malformed (rw (lt-leb (length list) (length answers) h, and-false))
 
-  pub ill-formed : allTrue (records (formedAt list) 3 (length list / 3) 0) ≡ false → unchanged ≡ performed P list c answers
+  pub ill-formed : allTrue (records (formedAt list numbers) 3 (length list / 3) 0) ≡ false → unchanged ≡ performed P list numbers c answers
   unfolding wellFormed
   ill-formed h = malformed (rw (h, and-false))
 
-  pub all-performed : length list % 3 ≡ 0 → length list ≤ length answers → allTrue (records (formedAt list) 3 (length list / 3) 0) ≡ true
-      → (c′ : Config) (answers′ : List ℕ) → c′ ≡ afterAll P (records (callIn list) 3 (length list / 3) 0) c → answers′ ≡ sets answers 0 (replies P (records (callIn list) 3 (length list / 3) 0) c)
-      → record { answer = Performed; config = c′; answers = answers′ } ≡ performed P list c answers
+  pub all-performed : length list % 3 ≡ 0 → length list ≤ length answers → allTrue (records (formedAt list numbers) 3 (length list / 3) 0) ≡ true
+      → (c′ : Config) (answers′ : List ℕ) → c′ ≡ afterAll P (records (callIn list numbers) 3 (length list / 3) 0) c → answers′ ≡ sets answers 0 (replies P (records (callIn list numbers) 3 (length list / 3) 0) c)
+      → record { answer = Performed; config = c′; answers = answers′ } ≡ performed P list numbers c answers
   unfolding performed wellFormed
   all-performed m l f c′ answers′ e g = rw (eq-eqb (length list % 3) 0 m, le-leb (length list) (length answers) l, f, e, g)

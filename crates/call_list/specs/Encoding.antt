@@ -1,10 +1,10 @@
--- A LIST OF CALLS IN NUMBERS: three to a call (what it is, and up to two arguments), and three to its answer (word, detail, count). What performing
--- a list leaves is the definition's calls, one after the other.
-use Prim.Native.Nat.{ℕ, _+_, _/_, _%_}
+-- A LIST OF CALLS IN NUMBERS: three to a call (what it is, and up to two arguments), and three to its answer (word, detail, count). Beside the list stand the
+-- numbers of its pairs that are written together. What performing a list leaves is the definition's calls, one after the other.
+use Prim.Native.Nat.{ℕ, _+_, _-_, _/_, _%_}
 use mathlib.Core.List.{List, [], _∷_, _++_}
 use mathlib.Core.Bool.{Bool, true, false, not, _&&_, _||_, cond}
 use lib.IntN.{ℤ, pos}
-use lib.ListN.{length, getD}
+use lib.ListN.{length, getD, take, drop}
 use lib.Seq.{sets}
 use lib.Dec.{eqb, leb, ltb}
 use Rattle.definition.specs.declared.Answer.{Answer}
@@ -17,10 +17,10 @@ use Rattle.definition.specs.declared.Handover.{Handover}
 use Rattle.definition.specs.File.{records}
 use Rattle.definition.specs.Statements.{placeOf}
 use Rattle.definition.specs.Machine.{Program, Config}
-use Rattle.definition.specs.Operations.{natural, below, hostEnter, statement, run, carryOn, abandon, rawRead, rawWrite}
+use Rattle.definition.specs.Operations.{natural, below, hostEnter, statement, run, carryOn, abandon, rawRead, rawWrite, writeAll}
 use Rattle.definition.specs.Answers.{answerOf, readAnswer, statementOutcome}
 use Rattle.definition.specs.Answers.{Word, ended, spent, completedWord, refusedWord, builtin, opcode, handoverWord, handoverNumber, outcomeWord, outcomeDetail, statementWord, statementDetail}
-use Rattle.definition.specs.Calls.{Call, enters, steps, runs, carries, abandons, reads, writes, lends, after}
+use Rattle.definition.specs.Calls.{Call, enters, steps, runs, carries, abandons, reads, writes, writesAll, lends, after}
 use Rattle.progs.specs.declared.ExecutionContext.{ExecutionContext}
 use Rattle.progs.specs.Contexts.{config}
 use Rattle.call_list.specs.declared.ListAnswer.{ListAnswer}
@@ -30,37 +30,46 @@ use Rattle.call_list.specs.declared.Listed.{Listed}
 
 -- ---- a call
 
--- 0 entry, 1 statement, 2 run, 3 carry on, 4 abandonment, 5 read, 6 write. (Other entity cells are lent between lists: `lends` has no numbers.)
-abbrev pub callNumbered : ℕ → ℤ → ℤ → Call
-callNumbered k a b =
+-- 6 write, 7 pairs written together: of `numbers` those from a on, as many as b says
+abbrev pub writeNumbered : List ℤ → ℕ → ℤ → ℤ → Call
+writeNumbered numbers k a b = cond (eqb k 6) (writes a (natural b)) (writesAll (take (natural b) (drop (natural a) numbers)))
+
+-- 0 entry, 1 statement, 2 run, 3 carry on, 4 abandonment, 5 read. (Other entity cells are lent between lists: `lends` has no numbers.)
+abbrev pub callNumbered : List ℤ → ℕ → ℤ → ℤ → Call
+callNumbered numbers k a b =
     cond (eqb k 0) (enters a)
     (cond (eqb k 1) steps
     (cond (eqb k 2) (runs a b)
     (cond (eqb k 3) carries
     (cond (eqb k 4) (abandons a)
-    (cond (eqb k 5) (reads a) (writes a (natural b)))))))
+    (cond (eqb k 5) (reads a) (writeNumbered numbers k a b))))))
 
 abbrev pub kindIn : List ℤ → ℕ → ℕ
-kindIn list at = placeOf 7 (getD list at (pos 0))
+kindIn list at = placeOf 8 (getD list at (pos 0))
 
 -- the call whose numbers are at a place
-unfoldable pub callIn : List ℤ → ℕ → Call
-callIn list at = callNumbered (kindIn list at) (getD list (at + 1) (pos 0)) (getD list (at + 2) (pos 0))
+unfoldable pub callIn : List ℤ → List ℤ → ℕ → Call
+callIn list numbers at = callNumbered numbers (kindIn list at) (getD list (at + 1) (pos 0)) (getD list (at + 2) (pos 0))
 
--- it is one of the seven, and a value to be written is a cell's
-unfoldable pub formedAt : List ℤ → ℕ → Bool
-formedAt list at = ltb (kindIn list at) 7 && (ltb (kindIn list at) 6 || below (getD list (at + 2) (pos 0)) 4294967296)
+-- a value to be written is a cell's; numbers of pairs are there
+abbrev pub writeFormed : List ℤ → ℕ → ℤ → ℤ → Bool
+writeFormed numbers k a b = cond (eqb k 6) (below b 4294967296) (below a (length numbers + 1) && below b (length numbers + 1 - natural a))
+
+-- it is one of the eight, and what it is to write is well formed
+unfoldable pub formedAt : List ℤ → List ℤ → ℕ → Bool
+formedAt list numbers at =
+    ltb (kindIn list at) 8 && (ltb (kindIn list at) 6 || writeFormed numbers (kindIn list at) (getD list (at + 1) (pos 0)) (getD list (at + 2) (pos 0)))
 
 unfoldable pub allTrue : List Bool → Bool
 allTrue [] = true
 allTrue (b ∷ bs) = b && allTrue bs
 
 -- beside room for so many answer numbers
-unfoldable pub wellFormed : List ℤ → ℕ → Bool
-wellFormed list room = eqb (length list % 3) 0 && leb (length list) room && allTrue (records (formedAt list) 3 (length list / 3) 0)
+unfoldable pub wellFormed : List ℤ → List ℤ → ℕ → Bool
+wellFormed list numbers room = eqb (length list % 3) 0 && leb (length list) room && allTrue (records (formedAt list numbers) 3 (length list / 3) 0)
 
-abbrev pub decoded : List ℤ → List Call
-decoded list = records (callIn list) 3 (length list / 3) 0
+abbrev pub decoded : List ℤ → List ℤ → List Call
+decoded list numbers = records (callIn list numbers) 3 (length list / 3) 0
 
 -- ---- an answer
 
@@ -106,6 +115,7 @@ reply P carries c = answerReply (answerOf (carryOn P c))
 reply P (abandons target) c = answerReply (answerOf (abandon P target c))
 reply P (reads a) c = readReply (readAnswer (rawRead P a c))
 reply P (writes a v) c = answerReply (answerOf (rawWrite P a v c))
+reply P (writesAll numbers) c = answerReply (answerOf (writeAll P numbers c))
 reply P (lends entities) c = replyOf completedWord 0 0
 
 -- ---- a list, "each later one what the call before it left"
@@ -127,10 +137,11 @@ pub record Outcome : Type 0 where
   pub answers : List ℕ
 
 -- the answers stand at the front of their buffer; what is malformed is refused as a whole
-unfoldable pub performed : Program → List ℤ → Config → List ℕ → Outcome
-performed P list c answers =
-    cond (wellFormed list (length answers))
-    (record { answer = Performed; config = afterAll P (decoded list) c; answers = sets answers 0 (replies P (decoded list) c) })
+unfoldable pub performed : Program → List ℤ → List ℤ → Config → List ℕ → Outcome
+performed P list numbers c answers =
+    let calls = decoded list numbers in
+    cond (wellFormed list numbers (length answers))
+    (record { answer = Performed; config = afterAll P calls c; answers = sets answers 0 (replies P calls c) })
     (record { answer = Malformed; config = c; answers = answers })
 
 -- ---- what the code answers

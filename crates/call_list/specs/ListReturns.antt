@@ -29,9 +29,10 @@ last file Step At c l (k ∷ ks) t = last file Step At (after (programOf file) k
 
 -- "for every list of calls after one accepted load": of the configuration that performing the list leaves
 pub list-returns : (file : List ℕ) (n : ℤ) (cells saved entities : List ℕ) (c : Config) → load file n cells saved entities ≡ accepted c
-    → (list : List ℤ) (answers : List ℕ) (o : Outcome) → wellFormed list (length answers) ≡ true → o ≡ performed (programOf file) list c answers
-    → Always file (StepCorrect file) (DepthsMatch file) c [] (decoded list) × DepthsMatch file (o .config) (logAll file (decoded list) c [])
+    → (list numbers : List ℤ) (answers : List ℕ) (o : Outcome) → wellFormed list numbers (length answers) ≡ true → o ≡ performed (programOf file) list numbers c answers
+    → Always file (StepCorrect file) (DepthsMatch file) c [] (decoded list numbers) × DepthsMatch file (o .config) (logAll file (decoded list numbers) c [])
 unfolding performed Demand3
-list-returns file n cells saved entities c e list answers o w p =
-    let always = demand3 file n cells saved entities c e (decoded list) in
-    (always, rw (p, w) (last file (StepCorrect file) (DepthsMatch file) c [] (decoded list) always))
+list-returns file n cells saved entities c e list numbers answers o w p =
+    let calls = decoded list numbers in
+    let always = demand3 file n cells saved entities c e calls in
+    (always, rw (p, w) (last file (StepCorrect file) (DepthsMatch file) c [] calls always))

@@ -1,5 +1,6 @@
 // A list of calls in numbers, performed on the operations one after the other: what a host did can be kept and done again, and demand 3's claim over a
-// list of calls is a claim about this function. (Of lists that lend no other entity cells: that is between two such lists.)
+// list of calls is a claim about this function. (Of lists that lend no other entity cells: that is between two such lists.) The numbers of pairs that a call
+// writes together stand in a list of their own.
 ghost use mathlib.Core.Path.{_≡_};
 ghost use mathlib.Core.Bool.{true, _||_};
 ghost use Prim.Native.Nat.{_+_, _*_, _<_, _≤_};
@@ -8,9 +9,8 @@ ghost use lib.Dec.{ltb};
 ghost use lib.Seq.{sets};
 ghost use Rattle.definition.specs.File.{records};
 ghost use Rattle.definition.specs.Load.{programOf};
-ghost use Rattle.definition.specs.Operations.{below};
 ghost use Rattle.progs.specs.Contexts.{config};
-ghost use Rattle.call_list.specs.Encoding.{callNumbered, formedAt, allTrue, wellFormed, callIn, answerReply, readReply, statementReply, runReply, afterAll, replies, performed, repliedOf, answering, handoverReply, afterCall, outcomeOf};
+ghost use Rattle.call_list.specs.Encoding.{writeNumbered, callNumbered, writeFormed, formedAt, allTrue, wellFormed, callIn, answerReply, readReply, statementReply, runReply, afterAll, replies, performed, repliedOf, answering, handoverReply, afterCall, outcomeOf};
 use definition::Answer;
 use definition::Handover;
 use definition::ReadAnswer;
@@ -120,19 +120,46 @@ pub fn reply_run(ran: Ran) -> Replied
     }
 }
 
-// Performs the call of a number from 0 to 6.
+// Performs call 6, a raw write, or call 7, pairs written together: of `numbers` those from a on, as many as b says.
+fn perform_write(
+    context: ExecutionContext,
+    file: &[u8],
+    kind: usize,
+    a: i64,
+    b: i64,
+    numbers: &[i64],
+    cells: &mut [u32],
+    store: &[u32],
+    entities: &[u32],
+) -> Replied
+    requires { ⌜ writeFormed (now numbers) kind a b ≡ true ⌝ }
+    ensures { λ r. ⌜ repliedOf r (now (cells .exit)) (now (store .entry)) (now (entities .entry)) ≡ afterCall (programOf (now (file .entry))) (writeNumbered (now (numbers .entry)) kind a b) (config context (now (cells .entry)) (now (store .entry)) (now (entities .entry))) ⌝ }
+{
+    if kind == 6 {
+        let value = fetch::place_of(0, b) as u32;
+        let written = context.write(file, a, value, cells, store, entities);
+        return reply_answer(written);
+    }
+    let first = fetch::place_of(0, a);
+    let end = first + fetch::place_of(0, b);
+    let written = context.write_all(file, &numbers[first..end], cells, store, entities);
+    reply_answer(written)
+}
+
+// Performs the call of a number from 0 to 7.
 fn perform_call(
     context: ExecutionContext,
     file: &[u8],
     kind: usize,
     a: i64,
     b: i64,
+    numbers: &[i64],
     cells: &mut [u32],
     store: &mut [u32],
     entities: &mut [u32],
 ) -> Replied
-    requires { ⌜ (ltb kind 6 || below b 4294967296) ≡ true ⌝ }
-    ensures { λ r. ⌜ repliedOf r (now (cells .exit)) (now (store .exit)) (now (entities .exit)) ≡ afterCall (programOf (now (file .entry))) (callNumbered kind a b) (config context (now (cells .entry)) (now (store .entry)) (now (entities .entry))) ⌝ }
+    requires { ⌜ (ltb kind 6 || writeFormed (now numbers) kind a b) ≡ true ⌝ }
+    ensures { λ r. ⌜ repliedOf r (now (cells .exit)) (now (store .exit)) (now (entities .exit)) ≡ afterCall (programOf (now (file .entry))) (callNumbered (now (numbers .entry)) kind a b) (config context (now (cells .entry)) (now (store .entry)) (now (entities .entry))) ⌝ }
 {
     if kind == 0 {
         let entered = context.enter(file, a, cells, store, entities);
@@ -158,33 +185,46 @@ fn perform_call(
         let read = context.read(file, a, cells, store, entities);
         return reply_read(context, read);
     }
-    let value = fetch::place_of(0, b) as u32;
-    let written = context.write(file, a, value, cells, store, entities);
-    reply_answer(written)
+    perform_write(context, file, kind, a, b, numbers, cells, store, entities)
+}
+
+// A value to be written is a cell's; numbers of pairs are there.
+fn write_formed(numbers: &[i64], kind: usize, a: i64, b: i64) -> bool
+    ensures { λ r. ⌜ r ≡ writeFormed (now (numbers .entry)) kind a b ⌝ }
+{
+    if kind == 6 {
+        return fetch::place_of(4294967296, b) < 4294967296;
+    }
+    let first = fetch::place_of(numbers.len() + 1, a);
+    if numbers.len() < first {
+        return false;
+    }
+    let room = numbers.len() + 1 - first;
+    fetch::place_of(room, b) < room
 }
 
 // The numbers of a call are well formed.
-fn formed_at(calls: &[i64], at: usize) -> bool
+fn formed_at(calls: &[i64], numbers: &[i64], at: usize) -> bool
     requires { ⌜ at + 2 < length (now calls) ⌝ }
-    ensures { λ r. ⌜ r ≡ formedAt (now (calls .entry)) at ⌝ }
+    ensures { λ r. ⌜ r ≡ formedAt (now (calls .entry)) (now (numbers .entry)) at ⌝ }
 {
-    let kind = fetch::place_of(7, calls[at]);
+    let kind = fetch::place_of(8, calls[at]);
     if kind < 6 {
         return true;
     }
-    if 6 < kind {
+    if 7 < kind {
         return false;
     }
-    fetch::place_of(4294967296, calls[at + 2]) < 4294967296
+    write_formed(numbers, kind, calls[at + 1], calls[at + 2])
 }
 
-fn all_formed(calls: &[i64], n: usize) -> bool
+fn all_formed(calls: &[i64], numbers: &[i64], n: usize) -> bool
     requires { ⌜ 3 * n ≤ length (now calls) ⌝ }
-    ensures { λ r. ⌜ r ≡ allTrue (records (formedAt (now (calls .entry))) 3 n 0) ⌝ }
+    ensures { λ r. ⌜ r ≡ allTrue (records (formedAt (now (calls .entry)) (now (numbers .entry))) 3 n 0) ⌝ }
 {
     let mut i = 0;
     while i < n {
-        if !formed_at(calls, 3 * i) {
+        if !formed_at(calls, numbers, 3 * i) {
             return false;
         }
         i += 1;
@@ -197,6 +237,7 @@ fn perform_all(
     context: ExecutionContext,
     file: &[u8],
     calls: &[i64],
+    numbers: &[i64],
     n: usize,
     answers: &mut [u32],
     cells: &mut [u32],
@@ -204,21 +245,22 @@ fn perform_all(
     entities: &mut [u32],
 ) -> ExecutionContext
     requires { ⌜ (3 * n ≤ length (now calls)) × (3 * n ≤ length (now answers)) ⌝ }
-    requires { ⌜ allTrue (records (formedAt (now calls)) 3 n 0) ≡ true ⌝ }
-    ensures { λ r. ⌜ config r (now (cells .exit)) (now (store .exit)) (now (entities .exit)) ≡ afterAll (programOf (now (file .entry))) (records (callIn (now (calls .entry))) 3 n 0) (config context (now (cells .entry)) (now (store .entry)) (now (entities .entry))) ⌝ }
-    ensures { λ r. ⌜ now (answers .exit) ≡ sets (now (answers .entry)) 0 (replies (programOf (now (file .entry))) (records (callIn (now (calls .entry))) 3 n 0) (config context (now (cells .entry)) (now (store .entry)) (now (entities .entry)))) ⌝ }
+    requires { ⌜ allTrue (records (formedAt (now calls) (now numbers)) 3 n 0) ≡ true ⌝ }
+    ensures { λ r. ⌜ config r (now (cells .exit)) (now (store .exit)) (now (entities .exit)) ≡ afterAll (programOf (now (file .entry))) (records (callIn (now (calls .entry)) (now (numbers .entry))) 3 n 0) (config context (now (cells .entry)) (now (store .entry)) (now (entities .entry))) ⌝ }
+    ensures { λ r. ⌜ now (answers .exit) ≡ sets (now (answers .entry)) 0 (replies (programOf (now (file .entry))) (records (callIn (now (calls .entry)) (now (numbers .entry))) 3 n 0) (config context (now (cells .entry)) (now (store .entry)) (now (entities .entry)))) ⌝ }
 {
     let mut now = context;
     let mut i = 0;
     while i < n {
         let at = 3 * i;
-        let kind = fetch::place_of(7, calls[at]);
+        let kind = fetch::place_of(8, calls[at]);
         let done = perform_call(
             now,
             file,
             kind,
             calls[at + 1],
             calls[at + 2],
+            numbers,
             cells,
             store,
             entities,
@@ -237,12 +279,13 @@ pub fn perform_calls(
     context: ExecutionContext,
     file: &[u8],
     calls: &[i64],
+    numbers: &[i64],
     answers: &mut [u32],
     cells: &mut [u32],
     store: &mut [u32],
     entities: &mut [u32],
 ) -> Listed
-    ensures { λ r. ⌜ outcomeOf r (now (answers .exit)) (now (cells .exit)) (now (store .exit)) (now (entities .exit)) ≡ performed (programOf (now (file .entry))) (now (calls .entry)) (config context (now (cells .entry)) (now (store .entry)) (now (entities .entry))) (now (answers .entry)) ⌝ }
+    ensures { λ r. ⌜ outcomeOf r (now (answers .exit)) (now (cells .exit)) (now (store .exit)) (now (entities .exit)) ≡ performed (programOf (now (file .entry))) (now (calls .entry)) (now (numbers .entry)) (config context (now (cells .entry)) (now (store .entry)) (now (entities .entry))) (now (answers .entry)) ⌝ }
 {
     let malformed = Listed {
         context,
@@ -255,11 +298,21 @@ pub fn perform_calls(
         return malformed;
     }
     let n = calls.len() / 3;
-    if !all_formed(calls, n) {
+    if !all_formed(calls, numbers, n) {
         return malformed;
     }
     Listed {
-        context: perform_all(context, file, calls, n, answers, cells, store, entities),
+        context: perform_all(
+            context,
+            file,
+            calls,
+            numbers,
+            n,
+            answers,
+            cells,
+            store,
+            entities,
+        ),
         answer: ListAnswer::Performed,
     }
 }

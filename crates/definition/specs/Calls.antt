@@ -6,7 +6,7 @@ use lib.IntN.{ℤ}
 use lib.Dec.{eqb}
 use Rattle.definition.specs.Checks.{Checked, refused, accepted, judge}
 use Rattle.definition.specs.Machine.{Program, Config, withEntities, left, Stepped, completed, refusedStep, handedStep, step}
-use Rattle.definition.specs.Operations.{natural, hostEnter, statement, runConditions, run, carryOn, leavingsTo, abandonConditions, abandon, rawWrite}
+use Rattle.definition.specs.Operations.{natural, hostEnter, statement, runConditions, run, carryOn, leavingsTo, abandonConditions, abandon, rawWrite, writeAll}
 use Rattle.definition.specs.Answers.{kept, statementOutcome}
 
 -- "entries, statements, runs, carry-ons, host reads, host writes and abandonments", with any arguments
@@ -19,6 +19,8 @@ pub data Call : Type 0 where
   abandons : ℤ → Call
   reads : ℤ → Call
   writes : ℤ → ℕ → Call
+  -- R-9: "one of the host writes"
+  writesAll : List ℤ → Call
   -- R-3: "between calls the host may change any" of the lent entity cells: others are lent, of any number
   lends : List ℕ → Call
 
@@ -31,6 +33,7 @@ after P carries c = kept c (carryOn P c)
 after P (abandons target) c = kept c (abandon P target c)
 after P (reads a) c = c
 after P (writes a v) c = kept c (rawWrite P a v c)
+after P (writesAll numbers) c = kept c (writeAll P numbers c)
 after P (lends entities) c = withEntities c entities
 
 -- ---- the configurations after each small step: each accepted entry, completed statement, leaving, carry on and write, and each lending of entity cells
@@ -79,4 +82,5 @@ smallSteps P carries c = ifAccepted (carryOn P c)
 smallSteps P (abandons target) c = leavingsAfter (judge (abandonConditions P target c)) P (leavingsTo target c) c
 smallSteps P (reads a) c = []
 smallSteps P (writes a v) c = ifAccepted (rawWrite P a v c)
+smallSteps P (writesAll numbers) c = ifAccepted (writeAll P numbers c)
 smallSteps P (lends entities) c = withEntities c entities ∷ []

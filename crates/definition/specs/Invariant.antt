@@ -16,13 +16,14 @@ use Rattle.definition.specs.Machine.{Program, Config, entitiesOf, countO
 use Rattle.definition.specs.Machine.{Stepped, completed, refusedStep, handedStep, asStep, stepAs, step, Ran, goOn, runAs, runFor}
 use Rattle.definition.specs.Load.{programOf}
 use Rattle.definition.specs.Operations.{sound, natural, below, hostEnter, stepIf, statement, runConditions, runAfter, run, carryOnConditions, carryOn}
-use Rattle.definition.specs.Operations.{leftTimes, leavingsConditions, leavingsTo, abandonConditions, abandon, rawConditions, rawWrite}
+use Rattle.definition.specs.Operations.{leftTimes, leavingsConditions, leavingsTo, abandonConditions, abandon, rawConditions, rawWrite, pairConditions, settingConditions, pairsWritten, writeAll}
 use Rattle.definition.specs.Answers.{kept, statementOutcome}
-use Rattle.definition.specs.Calls.{Call, enters, steps, runs, carries, abandons, reads, writes, lends, after, ifAccepted, ifCompleted, unlessEnded, stepsAs, runSteps, runStepsAfter, leavings, leavingsAfter, smallSteps}
+use Rattle.definition.specs.Calls.{Call, enters, steps, runs, carries, abandons, reads, writes, writesAll, lends, after, ifAccepted, ifCompleted, unlessEnded, stepsAs, runSteps, runStepsAfter, leavings, leavingsAfter, smallSteps}
 use Rattle.definition.specs.Log.{Log, Kind, entry, leaving, other, statementKind, kindOf}
 use Rattle.definition.specs.Trace.{kindAt, logAfter, Transition, StepProperty, StateProperty, Trace, logAfterSteps, Counted, Always}
 use Rattle.definition.specs.CheckLaws.{All, judge-passed, judge-all, all-front, all-back, WhenAccepted, guarded, guard-accepts}
-use Rattle.definition.specs.StatementLaws.{Keeps, keeps-all, HasKind, beforeIn, statement-has-kind}
+use Rattle.definition.specs.PlaceLaws.{below-natural}
+use Rattle.definition.specs.StatementLaws.{Keeps, keeps-all, keeps-set, keeps-one, HasKind, beforeIn, statement-has-kind}
 
 -- ---- a run's small steps are as many as it counts
 
@@ -55,7 +56,19 @@ counted file carries c = tt
 counted file (abandons target) c = tt
 counted file (reads a) c = tt
 counted file (writes a v) c = tt
+counted file (writesAll numbers) c = tt
 counted file (lends entities) c = tt
+
+-- ---- the cells that a host writes
+
+-- pairs that pass change no cell but below the count
+pub pairs-keep : (count : ℕ) (cells : List ℕ) (numbers : List ℤ) (cells′ : List ℕ) → All (pairConditions count numbers) → Keeps count cells cells′
+    → Keeps count cells (pairsWritten numbers cells′)
+unfolding pairConditions pairsWritten
+pairs-keep count cells [] cells′ h k = k
+pairs-keep count cells (a ∷ []) cells′ h k = k
+pairs-keep count cells (a ∷ v ∷ numbers) cells′ h k =
+    pairs-keep count cells numbers (set cells′ (natural a) (natural v)) (h .1 .1) (keeps-set count cells cells′ (natural a) (natural v) (below-natural count a (h .0)) k)
 
 -- ---- what is preserved
 
@@ -71,7 +84,7 @@ roomIn file c = c .state .entityCount * contentsOf file .entityfields
 pub record Inductive (file : List ℕ) (K : StateProperty) (Step : StepProperty) : Type 0 where
   pub plain : (c : Config) (l : Log) (p : ℤ) (cells entities : List ℕ) → K c l → Keeps (length (contentsOf file .globals)) (c .cells) cells
       → Keeps (roomIn file c) (c .entities) entities → Preserves file K Step other c l (advanced c p cells entities)
-  pub writing : (c : Config) (l : Log) (a v : ℕ) → K c l → a < countOf c → Preserves file K Step other c l (withCells c (set (c .cells) a v))
+  pub writing : (c : Config) (l : Log) (cells : List ℕ) → K c l → Keeps (countOf c) (c .cells) cells → Preserves file K Step other c l (withCells c cells)
   pub lending : (c : Config) (l : Log) (entities : List ℕ) → K c l → Preserves file K Step other c l (withEntities c entities)
   pub entering : (c : Config) (l : Log) (f : ℕ) (back : ℤ) → K c l → All (entryConditions (programOf file) f c)
       → Preserves file K Step (entry f back) c l (entered (programOf file) f back c)
@@ -213,7 +226,7 @@ module _ (file : List ℕ) (K : StateProperty) (Step : StepProperty) (S : Induct
       guarded (Preserved (entry 0 (c .state .pc)) c l) _ _ λ h. absurd (omega (arith, ltb-true (length (P .functions)) (length (P .functions)) (h .1 .0)))
 
   call-preserves : (x : Call) (c : Config) (l : Log) → K c l → Preserving x c l (smallSteps P x c) (after P x c)
-  unfolding smallSteps after statement run carryOn carryOnConditions rawWrite kindOf
+  unfolding smallSteps after statement run carryOn carryOnConditions rawWrite writeAll settingConditions kindOf
   call-preserves (enters f) c l k = if-accepted (enters f) c l (hostEnter P f c) (λ c₁ e. e) k (entry-preserves f c l k)
   call-preserves steps c l k = if-completed c l (sound P c) (step P c) refl k (step-preserves c l k)
   call-preserves (runs target limit) c l k = run-after-preserves target limit (judge (runConditions P target limit c)) (natural target) (natural limit) c l k
@@ -222,11 +235,14 @@ module _ (file : List ℕ) (K : StateProperty) (Step : StepProperty) (S : Induct
       (guarded (Preserved other c l) _ _ λ h. S .plain c l (c .state .pc +ℤ pos 1) (c .cells) (c .entities) k (keeps-all _ (c .cells)) (keeps-all _ (c .entities)))
   call-preserves (abandons target) c l k = abandon-preserves target c l k
   call-preserves (reads a) c l k = none (reads a) c l k
-  call-preserves (writes a v) c l k = if-accepted (writes a v) c l (rawWrite P a v c) (λ c₁ e. e) k (guarded (Preserved other c l) _ _ λ h. S .writing c l (natural a) v k (in-count a (h .1 .0)))
-    where
-      in-count : (a : ℤ) → below a (countOf c) ≡ true → natural a < countOf c
-      in-count (pos i) e = ltb-true i (countOf c) e
-      in-count (negsuc i) e = absurd (let z : false ≡ true = e in mathlib.Core.Bool.false≢true z)
+  call-preserves (writes a v) c l k =
+      if-accepted (writes a v) c l (rawWrite P a v c) (λ c₁ e. e) k
+      (guarded (Preserved other c l) _ _ λ h.
+      S .writing c l (set (c .cells) (natural a) v) k (keeps-one (countOf c) (c .cells) (natural a) v (below-natural (countOf c) a (h .1 .0))))
+  call-preserves (writesAll numbers) c l k =
+      if-accepted (writesAll numbers) c l (writeAll P numbers c) (λ c₁ e. e) k
+      (guarded (Preserved other c l) _ _ λ h.
+      S .writing c l (pairsWritten numbers (c .cells)) k (pairs-keep (countOf c) (c .cells) numbers (c .cells) (h .1 .1 .1) (keeps-all (countOf c) (c .cells))))
   call-preserves (lends entities) c l k = one (lends entities) c l (withEntities c entities) refl (S .lending c l entities k)
 
   -- what K shows, holds between the calls, and Step of every small step

@@ -18,6 +18,7 @@ pub mod Log
 pub mod Trace
 pub mod Returns
 pub mod CheckLaws
+pub mod PlaceLaws
 pub mod Parts
 pub mod StatementLaws
 pub mod Invariant

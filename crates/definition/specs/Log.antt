@@ -11,7 +11,7 @@ use Rattle.definition.specs.File.{contentsOf, noFunction, negative, betw
 use Rattle.definition.specs.Cells.{cellOf}
 use Rattle.definition.specs.Statements.{statementAt}
 use Rattle.definition.specs.Operations.{natural}
-use Rattle.definition.specs.Calls.{Call, enters, steps, runs, carries, abandons, reads, writes, lends}
+use Rattle.definition.specs.Calls.{Call, enters, steps, runs, carries, abandons, reads, writes, writesAll, lends}
 
 -- what is noted at an entry: "the function entered, the position to be recorded, and, as just before it, the current function and the cells of the
 -- entered function's local range"
@@ -56,6 +56,7 @@ kindOf file carries p cells = other
 kindOf file (abandons target) p cells = leaving
 kindOf file (reads a) p cells = other
 kindOf file (writes a v) p cells = other
+kindOf file (writesAll numbers) p cells = other
 kindOf file (lends entities) p cells = other
 
 -- an entry adds a note; a leaving "removes the newest note, and only that one"

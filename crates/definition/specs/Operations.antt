@@ -1,6 +1,6 @@
--- THE OPERATIONS that a host calls on a loaded program: entry, statement, run, carry on, abandon, raw read and write. "Later operations on a state
--- check 13 first too", and "28 and 29 come directly after 13".
-use Prim.Native.Nat.{ℕ, zero, suc, _+_, _-_}
+-- THE OPERATIONS that a host calls on a loaded program: entry, statement, run, carry on, abandon, raw read and write, and 02's writing of pairs together.
+-- "Later operations on a state check 13 first too", and "28 and 29 come directly after 13".
+use Prim.Native.Nat.{ℕ, zero, suc, _+_, _-_, _*_, _%_}
 use mathlib.Core.List.{List, [], _∷_, _++_}
 use mathlib.Core.Bool.{Bool, true, false, not, _&&_}
 use lib.IntN.{ℤ, pos, negsuc, _+ℤ_}
@@ -147,3 +147,33 @@ rawRead P a c = guard (rawConditions P a c) (getD (c .cells) (natural a) 0)
 
 unfoldable pub rawWrite : Program → ℤ → ℕ → Config → Checked Config
 rawWrite P a v c = guard (rawConditions P a c) (withCells c (set (c .cells) (natural a) v))
+
+-- ---- match settings written together, document 02's R-9: "pairs of address and value" in one list of numbers, in turn
+
+-- "Up to 64 pairs"
+abbrev pub mostPairs : ℕ
+mostPairs = 64
+
+-- "The refusal is that of the first bad pair": the raw write's of its address; its value must be one of a cell, of 32 bits
+unfoldable pub pairConditions : ℕ → List ℤ → Conditions
+pairConditions count [] = []
+pairConditions count (a ∷ []) = []
+pairConditions count (a ∷ v ∷ numbers) = (below a count otherwise 15) ∷ (below v 4294967296 otherwise 15) ∷ pairConditions count numbers
+
+-- "15 for more than 64 pairs or an unpaired number"
+unfoldable pub settingConditions : ℕ → List ℤ → Conditions
+settingConditions count numbers =
+    (eqb (length numbers % 2) 0 otherwise 15) ∷ (leb (length numbers) (2 * mostPairs) otherwise 15) ∷ pairConditions count numbers
+
+-- in their order, so that "of two pairs with one address the later holds"
+unfoldable pub pairsWritten : List ℤ → List ℕ → List ℕ
+pairsWritten [] cells = cells
+pairsWritten (a ∷ []) cells = cells
+pairsWritten (a ∷ v ∷ numbers) cells = pairsWritten numbers (set cells (natural a) (natural v))
+
+abbrev pub writeAllConditions : Program → List ℤ → Config → Conditions
+writeAllConditions P numbers c = (sound P c otherwise 13) ∷ settingConditions (countOf c) numbers
+
+-- "written in one operation, all or none"
+unfoldable pub writeAll : Program → List ℤ → Config → Checked Config
+writeAll P numbers c = guard (writeAllConditions P numbers c) (withCells c (pairsWritten numbers (c .cells)))

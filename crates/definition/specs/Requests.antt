@@ -2,7 +2,7 @@
 -- what stands here is what a wrong definition is refused by in this crate.
 use Prim.Native.Nat.{ℕ}
 use mathlib.Core.List.{List, [], _∷_}
-use lib.IntN.{pos}
+use lib.IntN.{ℤ, pos}
 use lib.ListN.{take, replicate}
 use lib.Dec.{T}
 use Rattle.definition.specs.Checks.{refused, accepted}
@@ -11,6 +11,7 @@ use Rattle.definition.specs.Cells.{void, string}
 use Rattle.definition.specs.Strings.{upToZero, sameText, textAccess}
 use Rattle.definition.specs.Statements.{stringsEffect, negatesSEffect}
 use Rattle.definition.specs.Load.{load, programOf}
+use Rattle.definition.specs.Operations.{pairConditions, settingConditions, pairsWritten, writeAll}
 use Rattle.definition.specs.Starred.{assembled, op, return, define, plain, typedProgram, program, numbered, cellsWith, Seen, andThen, Scenario, state, cells, enter, complete, from}
 use Rattle.definition.specs.Starred.{Row, row, all, computing}
 
@@ -35,6 +36,9 @@ emptyTexts =
       entityfields = k .entityfields;
     }
 
+abbrev writing : List ℤ → Scenario → Scenario
+writing numbers rest P c = andThen (writeAll P numbers c) (rest P)
+
 abbrev pub requests : List Row
 requests =
     row "R-3: the other lent entity cells are untouched, by a load too" (withEntity (program [] [] numbered) (λ fields. fields)) (accepted (7 ∷ 7 ∷ []))
@@ -46,8 +50,10 @@ requests =
     ∷ row "R-4: NotS is 1.0 for an empty string" (from emptyTexts (enter 1 (complete (cells 1 30)))) (accepted (0x3f800000 ∷ []))
     ∷ row "R-5: void definitions are passed over"
     (from (typedProgram (define void 30 ∷ define string 30 ∷ []) (op 31 30 31 0 ∷ []) (plain ∷ []) numbered) (enter 1 (complete state))) (refused 16)
+    ∷ row "R-9: of two pairs with one address the later holds"
+    (from (program [] [] numbered) (writing (pos 40 ∷ pos 7 ∷ pos 40 ∷ pos 9 ∷ []) (cells 1 40))) (accepted (9 ∷ []))
     ∷ []
 
 pub requests-hold : T (all requests)
-unfolding computing stringsEffect negatesSEffect upToZero sameText textAccess
+unfolding computing stringsEffect negatesSEffect upToZero sameText textAccess pairConditions settingConditions pairsWritten writeAll
 requests-hold = tt

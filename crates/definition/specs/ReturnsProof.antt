@@ -244,9 +244,8 @@ matches-inductive file =
     record {
       plain = λ c l p cells entities k keeps _.
           other-preserves file c l (advanced c p cells entities) (advanced-matches file c l p cells entities (keeps .same-length) k);
-      writing = λ c l a v k h.
-          other-preserves file c l (withCells c (set (c .cells) a v))
-          (advanced-matches file c l (c .state .pc) (set (c .cells) a v) (c .entities) (length-set (c .cells) a v) k);
+      writing = λ c l cells k keeps.
+          other-preserves file c l (withCells c cells) (advanced-matches file c l (c .state .pc) cells (c .entities) (keeps .same-length) k);
       lending = λ c l entities k.
           other-preserves file c l (withEntities c entities) (advanced-matches file c l (c .state .pc) (c .cells) entities refl k);
       entering = enter-preserves file;

@@ -181,7 +181,7 @@ abbrev pub andThen : {A B : Type 0} → Checked A → (A → Checked B) → Chec
 andThen (refused n) rest = refused n
 andThen (accepted a) rest = rest a
 
-abbrev also : List ℕ → Seen → Seen
+abbrev pub also : List ℕ → Seen → Seen
 also xs seen = andThen seen (λ ys. accepted (xs ++ ys))
 
 -- a negative position is seen as no number
@@ -215,7 +215,7 @@ abbrev frame : ℕ → Scenario
 frame i P c = let f = getD (c .state .frames) i zeroFrame in accepted (f .«func_id» ∷ position (f .«instr_id»))
 
 -- the lent cells from a on, those past the file's count too
-abbrev lent : ℕ → Scenario
+abbrev pub lent : ℕ → Scenario
 lent a P c = accepted (drop a (c .cells))
 
 -- the first n cells of the saved store
@@ -308,7 +308,7 @@ madeUp file function depth saved frames rest P c =
     })
 
 -- buffers of which a host lends only so many cells, and so many of the saved store
-abbrev lending : ℕ → ℕ → Scenario → Scenario
+abbrev pub lending : ℕ → ℕ → Scenario → Scenario
 lending cells saved rest P c = rest P (record { state = c .state; cells = take cells (c .cells); saved = take saved (c .saved); entities = c .entities })
 
 -- a load of these bytes, which is lent two cells more than the file has, and what is seen after it, with the bytes that then stand there

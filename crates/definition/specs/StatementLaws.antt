@@ -113,11 +113,11 @@ pub record Keeps (count : ℕ) (cells cells′ : List ℕ) : Type 0 where
 pub keeps-all : (count : ℕ) (cells : List ℕ) → Keeps count cells cells
 keeps-all count cells = record { same-length = refl; same-above = refl }
 
-keeps-set : (count : ℕ) (cells cells′ : List ℕ) (i v : ℕ) → i < count → Keeps count cells cells′ → Keeps count cells (set cells′ i v)
+pub keeps-set : (count : ℕ) (cells cells′ : List ℕ) (i v : ℕ) → i < count → Keeps count cells cells′ → Keeps count cells (set cells′ i v)
 keeps-set count cells cells′ i v h k =
     record { same-length = length-set cells′ i v ∙ k .same-length; same-above = drop-set-lt count cells′ i v h ∙ k .same-above }
 
-keeps-one : (count : ℕ) (cells : List ℕ) (i v : ℕ) → i < count → Keeps count cells (set cells i v)
+pub keeps-one : (count : ℕ) (cells : List ℕ) (i v : ℕ) → i < count → Keeps count cells (set cells i v)
 keeps-one count cells i v h = keeps-set count cells cells i v h (keeps-all count cells)
 
 -- ---- what an access shows

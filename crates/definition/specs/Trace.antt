@@ -7,8 +7,8 @@ use lib.ListN.{length}
 use Rattle.definition.specs.Checks.{accepted}
 use Rattle.definition.specs.Machine.{Program, Config, withEntities, leave, completed, step}
 use Rattle.definition.specs.Load.{programOf}
-use Rattle.definition.specs.Operations.{hostEnter, run, carryOn, rawWrite}
-use Rattle.definition.specs.Calls.{Call, enters, steps, runs, carries, abandons, reads, writes, lends, after, smallSteps}
+use Rattle.definition.specs.Operations.{hostEnter, run, carryOn, rawWrite, writeAll}
+use Rattle.definition.specs.Calls.{Call, enters, steps, runs, carries, abandons, reads, writes, writesAll, lends, after, smallSteps}
 use Rattle.definition.specs.Log.{Log, Kind, kindOf, noted}
 
 -- the log after a small step of that kind from c
@@ -24,6 +24,7 @@ Transition file carries c c′ = carryOn (programOf file) c ≡ accepted c′
 Transition file (abandons target) c c′ = leave (programOf file) c ≡ accepted c′
 Transition file (reads a) c c′ = ⊥
 Transition file (writes a v) c c′ = rawWrite (programOf file) a v c ≡ accepted c′
+Transition file (writesAll numbers) c c′ = writeAll (programOf file) numbers c ≡ accepted c′
 Transition file (lends entities) c c′ = withEntities c entities ≡ c′
 
 -- what the log takes the next small step for
@@ -58,6 +59,7 @@ Counted file carries c = Unit {0}
 Counted file (abandons target) c = Unit {0}
 Counted file (reads a) c = Unit {0}
 Counted file (writes a v) c = Unit {0}
+Counted file (writesAll numbers) c = Unit {0}
 Counted file (lends entities) c = Unit {0}
 
 -- `Step` always holds of a small step, and `At` of the state before the first call and after each: "The first call gets the state the load left, each

@@ -60,6 +60,9 @@ pub const MOST_ARGUMENTS: usize = 8;
 // "28: limit outside 1 to 99,999"
 pub const GREATEST_LIMIT: usize = 99_999;
 
+// Document 02, R-9: "Up to 64 pairs"
+pub const MOST_PAIRS: usize = 64;
+
 // ---- records
 
 // A lump of the header: where its records start, and how many there are.

@@ -3,7 +3,7 @@
 // what they are said to be.
 ghost use mathlib.Core.Path.{_≡_};
 ghost use Rattle.definition.specs.Load.{programOf};
-ghost use Rattle.definition.specs.Calls.{enters, steps, runs, carries, abandons, reads, writes};
+ghost use Rattle.definition.specs.Calls.{enters, steps, runs, carries, abandons, reads, writes, writesAll};
 ghost use Rattle.progs.specs.Contexts.{config};
 ghost use Rattle.call_list.specs.Encoding.{repliedOf, afterCall};
 ghost use Rattle.host.specs.Loading.{afterLoad};
@@ -136,6 +136,22 @@ pub extern "C" fn host_write(
     ensures { λ r. ⌜ repliedOf r (now (cells .exit)) (now (store .entry)) (now (entities .entry)) ≡ afterCall (programOf (now (file .entry))) (writes address value) (config context (now (cells .entry)) (now (store .entry)) (now (entities .entry))) ⌝ }
 {
     let written = context.write(file, address, value, cells, store, entities);
+    call_list::reply_answer(written)
+}
+
+// The pairs of address and value in `numbers`, all or none (document 02, R-9).
+#[no_mangle]
+pub extern "C" fn host_write_all(
+    context: ExecutionContext,
+    file: &[u8],
+    numbers: &[i64],
+    cells: &mut [u32],
+    store: &[u32],
+    entities: &[u32],
+) -> Replied
+    ensures { λ r. ⌜ repliedOf r (now (cells .exit)) (now (store .entry)) (now (entities .entry)) ≡ afterCall (programOf (now (file .entry))) (writesAll (now (numbers .entry))) (config context (now (cells .entry)) (now (store .entry)) (now (entities .entry))) ⌝ }
+{
+    let written = context.write_all(file, numbers, cells, store, entities);
     call_list::reply_answer(written)
 }
 

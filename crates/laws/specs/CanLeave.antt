@@ -88,7 +88,7 @@ module _ (file : List ℕ) where
   ranges-inductive =
       record {
         plain = λ c l p cells entities k keeps puts. (tt, advanced-ranges c p cells entities (keeps .same-length) k);
-        writing = λ c l a v k h. (tt, advanced-ranges c (c .state .pc) (set (c .cells) a v) (c .entities) (length-set (c .cells) a v) k);
+        writing = λ c l cells k keeps. (tt, advanced-ranges c (c .state .pc) cells (c .entities) (keeps .same-length) k);
         lending = λ c l entities k. (tt, advanced-ranges c (c .state .pc) (c .cells) entities refl k);
         entering = λ c l f back k h. (tt, entered-ranges c f back k h);
         returning = λ c l a k h. (tt, returned-ranges c a k h);

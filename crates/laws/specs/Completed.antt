@@ -12,9 +12,9 @@ use Rattle.definition.specs.File.{contentsOf}
 use Rattle.definition.specs.Statements.{Does, next, puts, calls, returns, refuses, handsOver}
 use Rattle.definition.specs.Machine.{Program, Config, entitiesOf, advanced, entryConditions, entered, returnConditions, returned, Stepped, completed, refusedStep, handedStep, asStep, stepAs, step, Ran, runAs, runFor}
 use Rattle.definition.specs.Load.{programOf}
-use Rattle.definition.specs.Operations.{natural, hostEnter, statement, runConditions, runAfter, run, carryOn, abandon, rawRead, rawWrite}
+use Rattle.definition.specs.Operations.{natural, hostEnter, statement, runConditions, runAfter, run, carryOn, abandon, rawRead, rawWrite, writeAll}
 use Rattle.definition.specs.Answers.{statementOutcome}
-use Rattle.definition.specs.Calls.{Call, enters, steps, runs, carries, abandons, reads, writes, lends, after}
+use Rattle.definition.specs.Calls.{Call, enters, steps, runs, carries, abandons, reads, writes, writesAll, lends, after}
 use Rattle.definition.specs.Log.{Kind, entry, leaving, other, statementKind}
 use Rattle.definition.specs.StatementLaws.{HasKind, beforeIn, statement-has-kind}
 
@@ -61,6 +61,7 @@ RefusedCall P carries c = (n : ℕ) × (carryOn P c ≡ refused n)
 RefusedCall P (abandons target) c = (n : ℕ) × (abandon P target c ≡ refused n)
 RefusedCall P (reads a) c = Unit {0}
 RefusedCall P (writes a v) c = (n : ℕ) × (rawWrite P a v c ≡ refused n)
+RefusedCall P (writesAll numbers) c = (n : ℕ) × (writeAll P numbers c ≡ refused n)
 -- a lending is never refused
 RefusedCall P (lends entities) c = ⊥
 
@@ -89,6 +90,7 @@ refusal-leaves P carries c (n, e) = rw e
 refusal-leaves P (abandons target) c (n, e) = rw e
 refusal-leaves P (reads a) c u = refl
 refusal-leaves P (writes a v) c (n, e) = rw e
+refusal-leaves P (writesAll numbers) c (n, e) = rw e
 refusal-leaves P (lends entities) c e = absurd e
 
 pub handover-leaves : (P : Program) (c : Config) (h : Handover) → statement P c ≡ handedStep h → after P steps c ≡ c

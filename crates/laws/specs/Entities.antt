@@ -26,9 +26,9 @@ use Rattle.definition.specs.Statements.{Entities, Does, next, puts, calls, retu
 use Rattle.definition.specs.Statements.{Shape, floats, values, vectors, vectorsToFloat, strings, negates, negatesV, negatesS, stores, storesV, loads, addresses, storesP, branches, jumps, call, return, host, opcodes, shapeOf}
 use Rattle.definition.specs.Machine.{Program, Config, entitiesOf, withEntities, advanced, entryConditions, entered, enter, left, returnConditions, returned, Stepped, completed, refusedStep, handedStep, asStep, stepAs, step, Ran, goOn, runAs, runFor}
 use Rattle.definition.specs.Load.{loaded, load, programWith, programOf}
-use Rattle.definition.specs.Operations.{sound, natural, hostEnter, stepIf, statement, runConditions, runAfter, run, isHandedOver, carryOnConditions, carryOn, leftTimes, abandon, rawWrite}
+use Rattle.definition.specs.Operations.{sound, natural, hostEnter, stepIf, statement, runConditions, runAfter, run, isHandedOver, carryOnConditions, carryOn, leftTimes, abandon, rawWrite, writeAll}
 use Rattle.definition.specs.Answers.{kept, statementOutcome, loadOutcome}
-use Rattle.definition.specs.Calls.{Call, enters, steps, runs, carries, abandons, reads, writes, lends, after, smallSteps}
+use Rattle.definition.specs.Calls.{Call, enters, steps, runs, carries, abandons, reads, writes, writesAll, lends, after, smallSteps}
 use Rattle.definition.specs.Log.{Log, Kind, entry, leaving, other, statementKind}
 use Rattle.definition.specs.Trace.{StepProperty, StateProperty, logAfterSteps, Always}
 use Rattle.definition.specs.Returns.{DepthsMatch, StepCorrect, Demand3}
@@ -120,6 +120,7 @@ LendEnough room (carries ∷ ks) = LendEnough room ks
 LendEnough room (abandons target ∷ ks) = LendEnough room ks
 LendEnough room (reads a ∷ ks) = LendEnough room ks
 LendEnough room (writes a v ∷ ks) = LendEnough room ks
+LendEnough room (writesAll numbers ∷ ks) = LendEnough room ks
 LendEnough room (lends entities ∷ ks) = (room ≤ length entities) × LendEnough room ks
 
 module _ (file : List ℕ) where
@@ -190,10 +191,11 @@ module _ (file : List ℕ) where
   EntitiesBy (abandons target) c c′ = Same c c′
   EntitiesBy (reads a) c c′ = Same c c′
   EntitiesBy (writes a v) c c′ = Same c c′
+  EntitiesBy (writesAll numbers) c c′ = Same c c′
   EntitiesBy (lends entities) c c′ = c′ ≡ withEntities c entities
 
   pub entities-by : (k : Call) (c : Config) → EntitiesBy k c (after P k c)
-  unfolding after hostEnter statement run carryOn abandon rawWrite
+  unfolding after hostEnter statement run carryOn abandon rawWrite writeAll
   entities-by (enters f) c = kept-same c (hostEnter P f c) (guarded (Same c) _ _ λ h. entered-same P _ (c .state .pc) c)
   entities-by steps c = statement-kept c (sound P c) (step P c) (step-kept c)
   entities-by (runs target limit) c = run-after-kept (judge (runConditions P target limit c)) (natural target) (natural limit) c
@@ -201,6 +203,7 @@ module _ (file : List ℕ) where
   entities-by (abandons target) c = kept-same c (abandon P target c) (guarded (Same c) _ _ λ h. left-times-same P _ c)
   entities-by (reads a) c = same c
   entities-by (writes a v) c = kept-same c (rawWrite P a v c) (guarded (Same c) _ _ λ h. record { number = refl; cells = refl })
+  entities-by (writesAll numbers) c = kept-same c (writeAll P numbers c) (guarded (Same c) _ _ λ h. record { number = refl; cells = refl })
   entities-by (lends entities) c = refl
 
   -- ---- lent entity cells enough
@@ -224,6 +227,7 @@ module _ (file : List ℕ) where
   enough-after (abandons target) ks c c′ by enough lent = kept-enough c c′ ks enough lent (as-kept c c′ by)
   enough-after (reads a) ks c c′ by enough lent = kept-enough c c′ ks enough lent (as-kept c c′ by)
   enough-after (writes a v) ks c c′ by enough lent = kept-enough c c′ ks enough lent (as-kept c c′ by)
+  enough-after (writesAll numbers) ks c c′ by enough lent = kept-enough c c′ ks enough lent (as-kept c c′ by)
   enough-after (lends entities) ks c c′ by enough lent = rw by lent
 
   -- what holds between the calls of a list where the lent entity cells suffice, holds throughout where every lending is of enough
@@ -614,7 +618,7 @@ transfers-inductive : (file : List ℕ) → Inductive file (λ c l. Unit {0}) Tr
 transfers-inductive file =
     record {
       plain = λ c l p cells entities k keeps puts. (tt, tt);
-      writing = λ c l a v k h. (tt, tt);
+      writing = λ c l cells k keeps. (tt, tt);
       lending = λ c l entities k. (tt, tt);
       entering = λ c l f back k h. (entered-same (programOf file) f back c, tt);
       returning = λ c l a k h. (returned-same (programOf file) a c, tt);

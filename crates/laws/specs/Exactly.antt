@@ -15,7 +15,7 @@ use Rattle.definition.specs.File.{leastCells}
 use Rattle.definition.specs.Statements.{Does, next, puts, calls, returns, refuses, handsOver, placeOf}
 use Rattle.definition.specs.Machine.{Program, Config, entitiesOf, countOf, withCells, advanced, entryConditions, entered, leaveConditions, left, returnConditions, returned, asStep, stepAs, completed, refusedStep, handedStep, step, Ran, runFor}
 use Rattle.definition.specs.Load.{loadConditions, loaded, entitiesGiven, load}
-use Rattle.definition.specs.Operations.{sound, natural, below, hostEnter, statement, runConditions, runAfter, run, carryOnConditions, carryOn, leftTimes, leavingsConditions, leavingsTo, abandonConditions, abandon, rawConditions, rawRead, rawWrite}
+use Rattle.definition.specs.Operations.{sound, natural, below, hostEnter, statement, runConditions, runAfter, run, carryOnConditions, carryOn, leftTimes, leavingsConditions, leavingsTo, abandonConditions, abandon, rawConditions, rawRead, rawWrite, pairsWritten, writeAllConditions, writeAll}
 use Rattle.definition.specs.CheckLaws.{All, FailsFirst, all-front, all-back, judge-all, judge-first, guard-accepts, accepted-all, guard-refuses, refused-first, WhenAccepted, guarded}
 
 -- x is accepted, with a, exactly where all of cs hold, and refused exactly with the number of the first that fails
@@ -60,6 +60,11 @@ read-exactly P a c = exactly _ _
 pub write-exactly : (P : Program) (a : ℤ) (v : ℕ) (c : Config) → Exactly (rawConditions P a c) (withCells c (set (c .cells) (natural a) v)) (rawWrite P a v c)
 unfolding rawWrite
 write-exactly P a v c = exactly _ _
+
+pub write-all-exactly : (P : Program) (numbers : List ℤ) (c : Config)
+    → Exactly (writeAllConditions P numbers c) (withCells c (pairsWritten numbers (c .cells))) (writeAll P numbers c)
+unfolding writeAll
+write-all-exactly P numbers c = exactly _ _
 
 -- one statement: 13 first, and then what the bytes say it does
 pub statement-exactly : (P : Program) (c : Config) → ((sound P c ≡ true) → statement P c ≡ step P c) × ((sound P c ≡ false) → statement P c ≡ refusedStep 13)

@@ -103,7 +103,7 @@ module _ (file : List ℕ) where
   frames-inductive =
       record {
         plain = λ c l p cells entities k keeps puts. (refl, record { number = k .number; zeros = k .zeros });
-        writing = λ c l a v k h. (refl, record { number = k .number; zeros = k .zeros });
+        writing = λ c l cells k keeps. (refl, record { number = k .number; zeros = k .zeros });
         lending = λ c l entities k. (refl, record { number = k .number; zeros = k .zeros });
         entering = entered-frames;
         returning = λ c l a k h. left-frames (withCells c (copied (successive 3 a 1) (c .cells))) l (record { number = k .number; zeros = k .zeros });

@@ -14,5 +14,6 @@ pub mod Untouched
 pub mod RoundTrip
 pub mod Lookup
 pub mod Texts
+pub mod Pairs
 pub mod Opcodes
 pub mod Refusals

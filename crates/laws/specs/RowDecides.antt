@@ -15,7 +15,7 @@ use Rattle.definition.specs.File.{greatestLimit, fileOf}
 use Rattle.definition.specs.Statements.{placeOf}
 use Rattle.definition.specs.Machine.{Program, Config, entitiesOf, countOf, limits, withCells, advanced, entryConditions, entered, step, Ran, runFor}
 use Rattle.definition.specs.Load.{load, programOf}
-use Rattle.definition.specs.Operations.{sound, natural, below, permitted, isHandedOver, hostEnter, statement, runConditions, run, carryOnConditions, carryOn, rawRead, rawWrite}
+use Rattle.definition.specs.Operations.{sound, natural, below, permitted, isHandedOver, hostEnter, statement, runConditions, run, carryOnConditions, carryOn, rawRead, rawWrite, settingConditions, pairsWritten, writeAll}
 use Rattle.definition.specs.Written.{roomConditions, placed, image, writeConditions, writeFile}
 use Rattle.definition.specs.Calls.{Call}
 use Rattle.definition.specs.Trace.{Always}
@@ -57,6 +57,7 @@ module _ (file : List ℕ) (c : Config) where
     pub carries : Exactly carryOnRow (advanced c (c .state .pc +ℤ pos 1) (c .cells) (c .entities)) (carryOn P c)
     pub reads : (a : ℤ) → Exactly (rawRow a) (getD (c .cells) (natural a) 0) (rawRead P a c)
     pub writes : (a : ℤ) (v : ℕ) → Exactly (rawRow a) (withCells c (set (c .cells) (natural a) v)) (rawWrite P a v c)
+    pub writes-all : (numbers : List ℤ) → Exactly (settingConditions (fileOf file .globals .count) numbers) (withCells c (pairsWritten numbers (c .cells))) (writeAll P numbers c)
     -- R-6: 34 alone, so in the middle of a run too the same file is written
     pub writes-file : (output : List ℕ) → Exactly (roomConditions (image file) (length output)) (placed (image file) output) (writeFile file output c)
 
@@ -77,19 +78,20 @@ module _ (file : List ℕ) (c : Config) where
         }
 
     -- the file's count of cells, for the count that the state records
-    by-count : {A : Type 0} (a : ℤ) (v : A) (x : Checked A) → Exactly ((below a (countOf c) otherwise 15) ∷ []) v x → Exactly (rawRow a) v x
-    by-count a v x e = subst (λ (r : FileRecord). Exactly ((below a (r .globals .count) otherwise 15) ∷ []) v x) (k .recorded) e
+    by-count : {A : Type 0} (cs : ℕ → Conditions) (v : A) (x : Checked A) → Exactly (cs (countOf c)) v x → Exactly (cs (fileOf file .globals .count)) v x
+    by-count cs v x e = subst (λ (r : FileRecord). Exactly (cs (r .globals .count)) v x) (k .recorded) e
 
     decides : RowDecides
-    unfolding hostEnter statement carryOn carryOnConditions rawRead rawWrite writeFile writeConditions
+    unfolding hostEnter statement carryOn carryOnConditions rawRead rawWrite writeAll writeFile writeConditions
     decides =
         record {
           enters = λ f. without-13 _ _;
           steps = rw passes;
           runs = run-decides;
           carries = without-13 _ _;
-          reads = λ a. by-count a _ _ (without-13 _ _);
-          writes = λ a v. by-count a _ _ (without-13 _ _);
+          reads = λ a. by-count (λ n. (below a n otherwise 15) ∷ []) _ _ (without-13 _ _);
+          writes = λ a v. by-count (λ n. (below a n otherwise 15) ∷ []) _ _ (without-13 _ _);
+          writes-all = λ numbers. by-count (λ n. settingConditions n numbers) _ _ (without-13 _ _);
           writes-file = λ output. without-13 _ _;
         }
 

@@ -11,9 +11,9 @@ use Rattle.definition.specs.declared.Handover.{Handover}
 use Rattle.definition.specs.declared.RunAnswer.{RunAnswer}
 use Rattle.definition.specs.declared.RunAnswer.the-variants.{Ended, Spent, Refused, HandedOver}
 use Rattle.definition.specs.Machine.{Program, Config, withEntities, Stepped, completed, refusedStep, handedStep, step, Ran, oneMore, goOn, runAs, runFor}
-use Rattle.definition.specs.Operations.{hostEnter, statement, run, carryOn, abandon, rawWrite}
+use Rattle.definition.specs.Operations.{hostEnter, statement, run, carryOn, abandon, rawWrite, writeAll}
 use Rattle.definition.specs.Answers.{kept, statementOutcome}
-use Rattle.definition.specs.Calls.{enters, steps, runs, carries, abandons, reads, writes, lends, after}
+use Rattle.definition.specs.Calls.{enters, steps, runs, carries, abandons, reads, writes, writesAll, lends, after}
 
 -- "Spent is given when the limit's statements are completed and the target isn't reached"; a run that ended stands at its target; one that was refused
 -- or handed over stands at a statement that is
@@ -88,6 +88,10 @@ module _ (P : Program) (c : Config) where
   pub writes-leaves : (a : ℤ) (v : ℕ) → after P (writes a v) c ≡ kept c (rawWrite P a v c)
   unfolding after
   writes-leaves a v = refl
+
+  pub writes-all-leaves : (numbers : List ℤ) → after P (writesAll numbers) c ≡ kept c (writeAll P numbers c)
+  unfolding after
+  writes-all-leaves numbers = refl
 
   pub lends-leaves : (entities : List ℕ) → after P (lends entities) c ≡ withEntities c entities
   unfolding after

@@ -237,7 +237,7 @@ pub consistent-inductive : (file : List ℕ) → Inductive file (λ c l. Consist
 consistent-inductive file =
     record {
       plain = λ c l p cells entities k keeps puts. (tt, advanced-consistent file c p cells entities (keeps .same-length) k);
-      writing = λ c l a v k h. (tt, advanced-consistent file c (c .state .pc) (set (c .cells) a v) (c .entities) (length-set (c .cells) a v) k);
+      writing = λ c l cells k keeps. (tt, advanced-consistent file c (c .state .pc) cells (c .entities) (keeps .same-length) k);
       lending = λ c l entities k. (tt, advanced-consistent file c (c .state .pc) (c .cells) entities refl k);
       entering = λ c l f back k h. (tt, entered-consistent file c f back k h);
       returning = λ c l a k h. (tt, returned-consistent file c a k h);
@@ -296,7 +296,7 @@ unfolding entered left
 number-inductive file n =
     record {
       plain = λ c l p cells entities k keeps puts. (tt, k);
-      writing = λ c l a v k h. (tt, k);
+      writing = λ c l cells k keeps. (tt, k);
       lending = λ c l entities k. (tt, k);
       entering = λ c l f back k h. (tt, k);
       returning = λ c l a k h. (tt, k);

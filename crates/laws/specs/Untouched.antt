@@ -181,11 +181,9 @@ module _ (file lent : List ℕ) where
         plain = λ c l p cells entities k keeps puts.
             keeps-preserves other c l (advanced c p cells entities) k (subst (λ (n : ℕ). Keeps n (c .cells) cells) (length-globals file) keeps) refl
             (advanced-consistent file c p cells entities (keeps .same-length) (k .consistent));
-        writing = λ c l a v k h.
-            keeps-preserves other c l (withCells c (set (c .cells) a v)) k
-            (record { same-length = length-set (c .cells) a v; same-above = drop-set-lt count (c .cells) a v (omega (arith, count-is c (k .consistent), h)) })
-            refl
-            (advanced-consistent file c (c .state .pc) (set (c .cells) a v) (c .entities) (length-set (c .cells) a v) (k .consistent));
+        writing = λ c l cells k keeps.
+            keeps-preserves other c l (withCells c cells) k (subst (λ (n : ℕ). Keeps n (c .cells) cells) (count-is c (k .consistent)) keeps) refl
+            (advanced-consistent file c (c .state .pc) cells (c .entities) (keeps .same-length) (k .consistent));
         lending = λ c l entities k.
             keeps-preserves other c l (withEntities c entities) k (keeps-all count (c .cells)) refl
             (advanced-consistent file c (c .state .pc) (c .cells) entities refl (k .consistent));

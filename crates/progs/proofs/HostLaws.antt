@@ -13,33 +13,19 @@ use Rattle.definition.specs.declared.ReadAnswer.the-variants as read
 use Rattle.definition.specs.Checks.{judge, guard}
 use Rattle.definition.specs.Statements.{placeOf}
 use Rattle.definition.specs.Machine.{Program, Config, entryConditions, enter}
-use Rattle.definition.specs.Operations.{sound, natural, below, hostEnter, leftTimes, leavingsConditions, abandonConditions, abandon, rawConditions, rawRead, rawWrite}
+use Rattle.definition.specs.Operations.{sound, natural, below, hostEnter, leftTimes, leavingsConditions, abandonConditions, abandon, rawConditions, rawRead, rawWrite, settingConditions, pairsWritten, writeAllConditions, writeAll}
 use Rattle.definition.specs.Load.{programOf}
 use Rattle.definition.specs.Answers.{Outcome, outcome, readAnswer}
 use Rattle.definition.specs.CheckLaws.{judge-passed}
+use Rattle.definition.specs.PlaceLaws.{below-place, below-natural, place-zero, place-natural}
+use Rattle.pairs.specs.Together.{unlessRefused}
+use Rattle.pairs.proofs.PairLaws.{none-written}
 use Rattle.progs.specs.declared.ExecutionContext.{ExecutionContext}
 use Rattle.progs.specs.declared.Answered.{Answered}
 use Rattle.progs.specs.Contexts.{config, bare, outcomeOf, after, refusing, accepting}
 use Rattle.progs.proofs.OutcomeLaws.{refused-outcome, accepted-outcome, guard-past}
 use Rattle.progs.proofs.StateLaws.{passed}
 use Rattle.progs.proofs.AbandonLaws.{leavings-alone}
-
--- a place is below the number of places exactly where the signed number is from 0 up to below it
-pub below-place : (n : ℕ) (a : ℤ) → below a n ≡ ltb (placeOf n a) n
-below-place n (pos i) = refl
-below-place n (negsuc i) = sym (le-ltb n n (omega arith))
-
-below-natural : (n : ℕ) (a : ℤ) → below a n ≡ true → natural a < n
-below-natural n (pos i) h = ltb-true i n h
-below-natural n (negsuc i) h = absurd (true≢false (sym h))
-
-pub place-zero : (a : ℤ) → placeOf 0 a ≡ natural a
-place-zero (pos i) = refl
-place-zero (negsuc i) = refl
-
-pub place-natural : (n : ℕ) (a : ℤ) → placeOf n a < n → natural a ≡ placeOf n a
-place-natural n (pos i) h = refl
-place-natural n (negsuc i) h = absurd (omega arith)
 
 module _ (P : Program) (x : ExecutionContext) (cells saved entities : List ℕ) where
   abbrev here : Config
@@ -93,6 +79,27 @@ module _ (P : Program) (x : ExecutionContext) (cells saved entities : List ℕ) 
       pub write-done : (v : ℕ) → outcomeOf (accepting x) (set cells at v) saved entities ≡ after here (rawWrite P a v)
       unfolding rawWrite
       write-done v = accepted-outcome x cells saved entities _ _ x (set cells at v) saved z (rw (e, place-zero a))
+
+  -- ---- pairs written together
+
+  module _ (numbers : List ℤ) where
+    pub write-all-13 : (r : Answered) → sound P here ≡ false → r ≡ refusing x 13 → outcomeOf r cells saved entities ≡ after here (writeAll P numbers)
+    unfolding writeAll judge
+    write-all-13 r s h = refused-outcome x cells saved entities _ _ 13 r (rw s) (λ z. absurd (omega arith)) h
+
+    module _ (count refusal : ℕ) (n : count ≡ x .file .globals .count) (s : sound P here ≡ true) (e : refusal ≡ judge (settingConditions count numbers)) (cells′ : List ℕ)
+        (w : cells′ ≡ unlessRefused refusal (pairsWritten numbers cells) cells) where
+      own-number : refusal ≡ judge (writeAllConditions P numbers here)
+      unfolding judge
+      own-number = e ∙ rw (n, s)
+
+      pub write-all-refused : (r : Answered) → (refusal ≡ 0 → ⊥) → r ≡ refusing x refusal → outcomeOf r cells′ saved entities ≡ after here (writeAll P numbers)
+      unfolding writeAll
+      write-all-refused r z h = rw (w, ← none-written refusal (pairsWritten numbers cells) cells z) (refused-outcome x cells saved entities _ _ refusal r own-number z h)
+
+      pub write-all-done : refusal ≡ 0 → outcomeOf (accepting x) cells′ saved entities ≡ after here (writeAll P numbers)
+      unfolding writeAll
+      write-all-done z = accepted-outcome x cells saved entities _ _ x cells′ saved (sym own-number ∙ z) (rw (w, z))
 
   -- ---- abandonment
 

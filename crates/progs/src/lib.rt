@@ -15,6 +15,7 @@ mod carry_on;
 mod copies;
 pub mod load;
 mod raw;
+mod settings;
 mod state;
 
 // All that an operation leaves for the next, beside the lent bytes, cells, saved store and entity cells.

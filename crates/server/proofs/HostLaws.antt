@@ -13,7 +13,7 @@ use Rattle.definition.specs.Machine.{Program, Config, limits, runFor}
 use Rattle.definition.specs.Operations.{sound, natural, below, permitted, runConditions, run}
 use Rattle.progs.specs.declared.ExecutionContext.{ExecutionContext}
 use Rattle.progs.specs.Contexts.{config}
-use Rattle.progs.proofs.HostLaws.{below-place, place-zero, place-natural}
+use Rattle.definition.specs.PlaceLaws.{below-place, place-zero, place-natural}
 use Rattle.server.specs.declared.Ran.{Ran}
 use Rattle.server.specs.Stepping.{ranOf, notRun}
 

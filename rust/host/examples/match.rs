@@ -17,6 +17,11 @@ const FUNCTION: u16 = 6;
 /// The most statements that one call may take.
 const LIMIT: i64 = 10_000;
 
+/// The match: how many rounds it has, how many points end it before, and where it is played.
+const ROUNDS: f32 = 10.0;
+const FRAGS: f32 = 20.0;
+const MAP: &str = "dm3";
+
 /// Names of the players, and the sides that they play for: red counts for, blue against.
 const PLAYERS: [(&str, f32); 4] = [("Ann", 1.0), ("Bert", -1.0), ("Cem", 1.0), ("Dora", -1.0)];
 
@@ -101,12 +106,16 @@ fn rules() -> Vec<u8> {
     for (name, _) in PLAYERS {
         rules.text(name);
     }
+    rules.text(MAP);
     let mut define = |kind, cell: u16, name: &str, content| {
         let name = rules.text(name);
         rules.definitions.push((kind, cell, name));
         rules.cells.push((cell.into(), content));
     };
     define(ENTITY, 28, "self", 0);
+    define(FLOAT, 34, "timelimit", 0);
+    define(FLOAT, 35, "fraglimit", 0);
+    define(STRING, 36, "mapname", 0);
     define(FUNCTION, 40, "random", 1);
     define(FUNCTION, 41, "bprint", 2);
     define(FLOAT, 43, "half", 0.5_f32.to_bits());
@@ -161,6 +170,27 @@ fn call(machine: &mut Machine, world: &mut World, name: &str) -> bool {
     called.is_ok()
 }
 
+/// The cell of a definition of the rules.
+fn cell(machine: &Machine, name: &str) -> Result<i64, String> {
+    let definition = machine.find_definition_by_name(name);
+    definition
+        .map(|definition| definition.cell.into())
+        .ok_or(format!("the rules have no {name}"))
+}
+
+/// Sets time limit, frag limit and map in one operation: where one of them is refused, no half of a setting stands.
+fn settle(machine: &mut Machine) -> Result<(), Box<dyn Error>> {
+    let map = machine
+        .find_text(MAP)
+        .ok_or("the rules don't know the map")?;
+    let settings = [
+        (cell(machine, "timelimit")?, ROUNDS.to_bits()),
+        (cell(machine, "fraglimit")?, FRAGS.to_bits()),
+        (cell(machine, "mapname")?, map.try_into()?),
+    ];
+    Ok(machine.write_all(&settings)?)
+}
+
 /// A loaded machine with the players as entities 1 and on; entity 0 is the world.
 fn kick_off() -> Result<Machine, Box<dyn Error>> {
     let program = rules();
@@ -179,7 +209,19 @@ fn kick_off() -> Result<Machine, Box<dyn Error>> {
         let next = (player + 1) % entities as i64;
         machine.field_mut(player, "chain")?.set_entity(next)?;
     }
+    settle(&mut machine)?;
     Ok(machine)
+}
+
+/// Whether a player has as many points as end the match.
+fn decided(machine: &Machine) -> Result<bool, Box<dyn Error>> {
+    let most = machine.read_float(cell(machine, "fraglimit")?)?;
+    for player in 1..machine.entity_count() as i64 {
+        if most <= machine.field(player, "frags")?.float()? {
+            return Ok(true);
+        }
+    }
+    Ok(false)
 }
 
 /// Prints each player's points.
@@ -197,13 +239,15 @@ fn scoreboard(machine: &Machine) -> Result<(), Box<dyn Error>> {
 pub fn play() -> Result<f32, Box<dyn Error>> {
     let mut machine = kick_off()?;
     let mut world = World { seed: 3 };
-    let current = machine.find_definition_by_name("self").ok_or("no self")?;
-    for _ in 0..10 {
+    let current = cell(&machine, "self")?;
+    let mut rounds = machine.read_float(cell(&machine, "timelimit")?)?;
+    while 0.0 < rounds && !decided(&machine)? {
         for player in 1..machine.entity_count() as u32 {
-            machine.write(current.cell.into(), player)?;
+            machine.write(current, player)?;
             call(&mut machine, &mut world, "PlayerPreThink");
         }
         call(&mut machine, &mut world, "BrokenRule");
+        rounds -= 1.0;
     }
     scoreboard(&machine)?;
     // The first argument is in cell 4: the first player.

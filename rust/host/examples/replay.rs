@@ -55,6 +55,7 @@ enum Call {
     Abandon(i64),
     Read(i64),
     Write(i64, u32),
+    Pairs(Vec<i64>),
     Image(u32),
     Sentence(u32),
 }
@@ -171,6 +172,7 @@ fn operate(machine: &mut Machine, last: &mut Run, call: Call) -> Result<String, 
         Call::Carry => accepted(machine.carry_on()),
         Call::Abandon(depth) => accepted(machine.abandon(depth)),
         Call::Write(address, value) => accepted(machine.write(address, value)),
+        Call::Pairs(numbers) => accepted(machine.write_numbers(&numbers)),
         Call::Read(address) => match machine.read(address) {
             Ok(value) => format!("ok {value}"),
             Err(refusal) => refused(refusal),
@@ -246,6 +248,9 @@ fn parse(line: &str) -> Option<Line> {
 }
 
 fn parse_call(words: &[&str]) -> Option<Call> {
+    if let ["pairs", numbers @ ..] = words {
+        return pairs(numbers).map(Call::Pairs);
+    }
     Some(match *words {
         ["load", entities] => Call::Load(number(entities)?),
         ["enter", function] => Call::Enter(number(function)?),
@@ -259,6 +264,19 @@ fn parse_call(words: &[&str]) -> Option<Call> {
         ["sentence", length] => Call::Sentence(length.parse().ok()?),
         _ => return None,
     })
+}
+
+/// An address and a value in turn, the value as that of a `write`. Any number of words is a call: the machine refuses what
+/// isn't paired.
+fn pairs(words: &[&str]) -> Option<Vec<i64>> {
+    let numbers = words.iter().enumerate().map(|(i, word)| {
+        if i % 2 == 0 {
+            number(word)
+        } else {
+            low_bits(word).map(i64::from)
+        }
+    });
+    numbers.collect()
 }
 
 /// A signed number. One that 64 bits can't hold is outside every range, and so is the nearest one that they can.

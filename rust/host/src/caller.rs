@@ -61,6 +61,11 @@ impl<'a> Caller<'a> {
         self.machine.write(address, value)
     }
 
+    /// Sets the 32 bits of cells in one operation, all or none: as [`Machine::write_all`].
+    pub fn write_all(&mut self, pairs: &[(i64, u32)]) -> Result<(), Refusal> {
+        self.machine.write_all(pairs)
+    }
+
     /// The cell as a float.
     pub fn read_float(&self, address: i64) -> Result<f32, Refusal> {
         self.machine.read_float(address)

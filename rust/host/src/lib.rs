@@ -64,7 +64,8 @@ pub use field::{Field, FieldError, FieldMut};
 pub use float_mode::{check_float_mode, FloatModeError};
 pub use layout::LayoutError;
 pub use machine::{
-    Handover, Machine, Outcome, Run, RunOutcome, Settings, CELLS, ENTITIES, IMAGE, SAVED_STORE,
+    Handover, Machine, Outcome, Run, RunOutcome, Settings, CELLS, ENTITIES, IMAGE, PAIRS,
+    SAVED_STORE,
 };
 pub use program::{Definition, Function, Program};
 pub use refusal::{LoadError, Refusal};

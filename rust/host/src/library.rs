@@ -133,6 +133,7 @@ extern "C" {
     fn host_abandon(out: *mut Reply, context: Context, file: *const u8, file_len: usize, target: i64, cells: *mut u32, cells_len: usize, saved: *const u32, saved_len: usize, entities: *const u32, entities_len: usize) -> *mut Reply;
     fn host_read(out: *mut Reply, context: Context, file: *const u8, file_len: usize, address: i64, cells: *const u32, cells_len: usize, saved: *const u32, saved_len: usize, entities: *const u32, entities_len: usize) -> *mut Reply;
     fn host_write(out: *mut Reply, context: Context, file: *const u8, file_len: usize, address: i64, value: u32, cells: *mut u32, cells_len: usize, saved: *const u32, saved_len: usize, entities: *const u32, entities_len: usize) -> *mut Reply;
+    fn host_write_all(out: *mut Reply, context: Context, file: *const u8, file_len: usize, numbers: *const i64, numbers_len: usize, cells: *mut u32, cells_len: usize, saved: *const u32, saved_len: usize, entities: *const u32, entities_len: usize) -> *mut Reply;
     fn host_write_file(out: *mut Reply, context: Context, file: *const u8, file_len: usize, cells: *const u32, cells_len: usize, saved: *const u32, saved_len: usize, entities: *const u32, entities_len: usize, output: *mut u8, output_len: usize) -> *mut Reply;
     fn host_sentence(word: u32, detail: u32, count: u32, position: i64, function: usize, display: *mut u8, display_len: usize) -> WriteReply;
     fn host_read_header(file: *const u8, file_len: usize) -> Found<FileRecord>;
@@ -377,6 +378,37 @@ pub fn write(
             file.len(),
             address,
             value,
+            cells.as_mut_ptr(),
+            cells.len(),
+            saved.as_ptr(),
+            saved.len(),
+            entities.as_ptr(),
+            entities.len(),
+        );
+        reply.assume_init_ref().answer
+    }
+}
+
+/// The context after it is the one before it, and isn't given back.
+pub fn write_all(
+    context: &Context,
+    file: &[u8],
+    numbers: &[i64],
+    cells: &mut [u32],
+    saved: &[u32],
+    entities: &[u32],
+) -> Answer {
+    assert_layout();
+    let mut reply = MaybeUninit::<Reply>::uninit();
+    // SAFETY: see the module's text. The function writes the whole answer.
+    unsafe {
+        host_write_all(
+            reply.as_mut_ptr(),
+            *context,
+            file.as_ptr(),
+            file.len(),
+            numbers.as_ptr(),
+            numbers.len(),
             cells.as_mut_ptr(),
             cells.len(),
             saved.as_ptr(),

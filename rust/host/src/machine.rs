@@ -17,6 +17,9 @@ pub const ENTITIES: usize = 600;
 /// The most bytes that a written program file has; an output buffer of so many is long enough for any.
 pub const IMAGE: usize = 1_048_576;
 
+/// The most pairs of address and value that [`Machine::write_all`] takes.
+pub const PAIRS: usize = 64;
+
 /// What is handed to the host, with its number.
 ///
 /// After [`Machine::run`] or [`Machine::statement`] the position stays at the statement until [`Machine::carry_on`].
@@ -292,6 +295,59 @@ impl Machine {
         ))
     }
 
+    /// Sets the 32 bits of cells, each by its address, in one operation: all of them, or none where it is refused.
+    ///
+    /// They are set in order: of two pairs with one address the later holds. Refused 15 where an address isn't a cell's,
+    /// and for more than [`PAIRS`] pairs.
+    ///
+    /// ```
+    /// use host::assemble::Assembly;
+    /// use host::{Machine, Refusal, CELLS, SAVED_STORE};
+    ///
+    /// let mut machine = Machine::new(Assembly::default().bytes(), vec![0; CELLS], vec![0; SAVED_STORE]);
+    /// machine.load()?;
+    /// let (timelimit, fraglimit, map) = (40, 41, 42);
+    /// machine.write_all(&[(timelimit, 10), (fraglimit, 20), (map, 3)])?;
+    /// // The file has 64 cells, so the last pair is bad and the others aren't written.
+    /// let refused = machine.write_all(&[(timelimit, 15), (fraglimit, 30), (64, 4)]);
+    /// assert_eq!(refused, Err(Refusal::new(15)));
+    /// assert_eq!(machine.cells()[40..43], [10, 20, 3]);
+    /// # Ok::<(), Box<dyn std::error::Error>>(())
+    /// ```
+    pub fn write_all(&mut self, pairs: &[(i64, u32)]) -> Result<(), Refusal> {
+        let numbers: Vec<i64> = pairs
+            .iter()
+            .flat_map(|&(address, value)| [address, value.into()])
+            .collect();
+        self.write_numbers(&numbers)
+    }
+
+    /// [`Machine::write_all`] of a list of numbers, an address and a value in turn, as a host may have them from
+    /// elsewhere. Refused 15 for a number without a pair and for a value that is negative or has more than 32 bits, too.
+    ///
+    /// ```
+    /// use host::assemble::Assembly;
+    /// use host::{Machine, Refusal, CELLS, SAVED_STORE};
+    ///
+    /// let mut machine = Machine::new(Assembly::default().bytes(), vec![0; CELLS], vec![0; SAVED_STORE]);
+    /// machine.load()?;
+    /// machine.write_numbers(&[40, 10, 41, 20])?;
+    /// assert_eq!(machine.write_numbers(&[40, 15, 41]), Err(Refusal::new(15)));
+    /// assert_eq!(machine.write_numbers(&[40, 15, 41, -1]), Err(Refusal::new(15)));
+    /// assert_eq!(machine.cells()[40..42], [10, 20]);
+    /// # Ok::<(), Box<dyn std::error::Error>>(())
+    /// ```
+    pub fn write_numbers(&mut self, numbers: &[i64]) -> Result<(), Refusal> {
+        accepted(library::write_all(
+            &self.reply.context,
+            &self.program,
+            numbers,
+            &mut self.cells,
+            &self.saved,
+            &self.entities,
+        ))
+    }
+
     /// The cell as a float.
     pub fn read_float(&self, address: i64) -> Result<f32, Refusal> {
         self.read(address).map(f32::from_bits)
@@ -314,12 +370,9 @@ impl Machine {
 
     /// Sets a cell and the two after it to a vector. Where one of them isn't there, nothing is set.
     pub fn write_vector(&mut self, address: i64, value: [f32; 3]) -> Result<(), Refusal> {
-        // Where the last is there and the first can be written, so can the others.
-        self.read(address.saturating_add(2))?;
-        for (address, value) in (address..).zip(value) {
-            self.write_float(address, value)?;
-        }
-        Ok(())
+        let cell = |next: i64, value: f32| (address.saturating_add(next), value.to_bits());
+        let [x, y, z] = value;
+        self.write_all(&[cell(0, x), cell(1, y), cell(2, z)])
     }
 
     // ---- the program file in its one form

@@ -21,6 +21,8 @@ enum Call {
     Abandon(i64),
     Read(i64),
     Write(i64, u32),
+    /// Pairs that are made of a seed.
+    Pairs(u64),
     Image(usize),
 }
 
@@ -42,7 +44,8 @@ fn random_call(chance: &mut Chance) -> Call {
         23 => Call::Run(chance.number(), chance.number()),
         24..=27 => Call::CarryOn,
         28..=31 => Call::Abandon(chance.number() % 5),
-        32..=34 => Call::Read(chance.number()),
+        32..=33 => Call::Read(chance.number()),
+        34 => Call::Pairs(chance.draw()),
         35 => Call::Image(chance.below(1_500) as usize),
         _ => Call::Write(chance.number(), chance.draw() as u32),
     }
@@ -57,6 +60,28 @@ fn write_image(machine: &Machine, length: usize) -> Result<(), Refusal> {
     answer.map(drop)
 }
 
+/// Writes pairs together, some of them with one address. What is accepted leaves what raw writes leave, one after the other.
+fn write_pairs(machine: &mut Machine, seed: u64) -> Result<(), Refusal> {
+    let mut chance = Chance::new(seed);
+    let count = chance.pick(&[0, 1, 2, 3, 8, 64, 65]);
+    let mut pair = || {
+        let address = if chance.one_in(60) {
+            chance.number()
+        } else {
+            chance.between(0, 35)
+        };
+        (address, chance.draw() as u32)
+    };
+    let pairs: Vec<_> = (0..count).map(|_| pair()).collect();
+    let mut other = machine.clone();
+    machine.write_all(&pairs)?;
+    for (address, value) in pairs {
+        other.write(address, value).unwrap();
+    }
+    assert_eq!(machine.cells(), other.cells());
+    Ok(())
+}
+
 /// Does a call; a refusal is given, with the completed statements of a run.
 fn perform(machine: &mut Machine, call: Call) -> Result<(), (Refusal, u32)> {
     let alone = |refusal| (refusal, 0);
@@ -69,6 +94,7 @@ fn perform(machine: &mut Machine, call: Call) -> Result<(), (Refusal, u32)> {
         Call::Abandon(depth) => machine.abandon(depth).map_err(alone),
         Call::Read(address) => machine.read(address).map(drop).map_err(alone),
         Call::Write(address, value) => machine.write(address, value).map_err(alone),
+        Call::Pairs(seed) => write_pairs(machine, seed).map_err(alone),
         Call::Image(length) => write_image(machine, length).map_err(alone),
         Call::Statement => match machine.statement() {
             Outcome::Refused(refusal) => Err(alone(refusal)),

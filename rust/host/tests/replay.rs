@@ -119,6 +119,43 @@ fn the_last_run() {
     );
 }
 
+/// The file has 64 cells. A value is taken modulo 2^32, an address that 64 bits can't hold is no cell's.
+#[test]
+fn pairs() {
+    let program = Assembly::default().bytes();
+    let answers = |calls: &str| -> Vec<String> {
+        let printed = printed_on(&program, &format!("load 0\n{calls}")).unwrap();
+        let answer = |line: &str| {
+            let (answer, _) = line.split_once(" | ").unwrap();
+            answer.split_once(" => ").unwrap().1.to_string()
+        };
+        printed.lines().skip(1).map(answer).collect()
+    };
+    assert_eq!(
+        answers("pairs\npairs 40 7 41 8 40 9\nread 40\nread 41\n"),
+        ["ok 0", "ok 0", "ok 9", "ok 8"]
+    );
+    assert_eq!(
+        answers(
+            "pairs 40 7 64 8\nread 40\npairs 40 7 41\npairs -1 0\npairs 99999999999999999999 0\n"
+        ),
+        [
+            "refused 15",
+            "ok 0",
+            "refused 15",
+            "refused 15",
+            "refused 15"
+        ]
+    );
+    assert_eq!(
+        answers("pairs 40 -1 41 4294967303\nread 40\nread 41\n"),
+        ["ok 0", "ok 4294967295", "ok 7"]
+    );
+    let (most, more) = ("pairs".to_string() + &" 40 7".repeat(64), " 40 8");
+    assert_eq!(answers(&most), ["ok 0"]);
+    assert_eq!(answers(&(most.clone() + more)), ["refused 15"]);
+}
+
 #[test]
 fn lines_that_are_no_calls() {
     for line in [
@@ -127,6 +164,8 @@ fn lines_that_are_no_calls() {
         "enter x",
         "run 1",
         "write 1 x",
+        "pairs x",
+        "pairs 1 x",
         "file -1",
         "load",
         "image",

@@ -10,10 +10,10 @@ use Rattle.call_list.proofs.all_formed.Statement.{statement}
 use Rattle.call_list.proofs.all_formed.Tie as tie
 
 abbrev Inv-loop : tie.InvT-loop
-Inv-loop calls n i₀ i = allTrue (records (formedAt calls) 3 (n - i) (3 * i)) ≡ allTrue (records (formedAt calls) 3 n 0)
+Inv-loop calls numbers n i₀ i = allTrue (records (formedAt calls numbers) 3 (n - i) (3 * i)) ≡ allTrue (records (formedAt calls numbers) 3 n 0)
 
 abbrev μ-loop : tie.MeasureT-loop
-μ-loop calls n i₀ i = n - i
+μ-loop calls numbers n i₀ i = n - i
 
 loop-holds : tie.Need-loop-holds Inv-loop μ-loop
 loop-holds c = formed-start _ _
@@ -42,14 +42,4 @@ returns-2 c = formed-end _ _ _ (c .loop-test .left) ∙ c .before .loop .inv
 pub all-formed-spec : {M : Type 1} → statement M
 all-formed-spec =
     tie.close
-    (tie.spec
-    Inv-loop
-    μ-loop
-    loop-holds
-    mul-formed-at
-    formed-at-requires
-    returns
-    add-i
-    loop-less
-    loop-again
-    returns-2)
+    (tie.spec Inv-loop μ-loop loop-holds mul-formed-at formed-at-requires returns add-i loop-less loop-again returns-2)

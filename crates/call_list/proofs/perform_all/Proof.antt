@@ -12,21 +12,17 @@ use Rattle.definition.specs.File.{records}
 use Rattle.definition.specs.Load.{programOf}
 use Rattle.progs.specs.Contexts.{config}
 use Rattle.call_list.specs.Encoding.{callIn, formedAt, allTrue}
-use Rattle.call_list.proofs.Lists.{Left, left-start, left-replied, left-end, formed-start, formed-here, formed-value}
+use Rattle.call_list.proofs.Lists.{Left, left-start, left-replied, left-end, formed-start, formed-here, formed-good}
 use Rattle.call_list.proofs.perform_all.Statement.{statement}
 use Rattle.call_list.proofs.perform_all.Tie as tie
-use Rattle.call_list.proofs.perform_all.Reads as reads
-use Rattle.call_list.proofs.perform_all.Lts as lts
-use Rattle.call_list.proofs.perform_call.Reads as perform-call-reads
-use Rattle.functions.proofs.fetch.place_of.Reads as place-of-reads
 
 abbrev Inv-loop : tie.InvT-loop
-Inv-loop file calls n answers₀ cells₀ saved₀ entities₀ now₀ i₀ answers cells saved entities now i =
-    (((length answers ≡ length answers₀) × ((length cells ≡ length cells₀) × (length saved ≡ length saved₀) × (length entities ≡ length entities₀))) × (allTrue (records (formedAt calls) 3 (n - i) (3 * i)) ≡ true))
-    × Left (programOf file) (callIn calls) n (config now₀ cells₀ saved₀ entities₀) (config now cells saved entities) answers₀ answers i
+Inv-loop file calls numbers n answers₀ cells₀ saved₀ entities₀ now₀ i₀ answers cells saved entities now i =
+    (((length answers ≡ length answers₀) × ((length cells ≡ length cells₀) × (length saved ≡ length saved₀) × (length entities ≡ length entities₀))) × (allTrue (records (formedAt calls numbers) 3 (n - i) (3 * i)) ≡ true))
+    × Left (programOf file) (callIn calls numbers) n (config now₀ cells₀ saved₀ entities₀) (config now cells saved entities) answers₀ answers i
 
 abbrev μ-loop : tie.MeasureT-loop
-μ-loop file calls n answers₀ cells₀ saved₀ entities₀ now₀ i₀ answers cells saved entities now i = n - i
+μ-loop file calls numbers n answers₀ cells₀ saved₀ entities₀ now₀ i₀ answers cells saved entities now i = n - i
 
 -- the numbers of the call, and that their places can be counted
 bound : (c : tie.In-loop Inv-loop μ-loop) → 3 * c .before .loop .i + 3 < 18446744073709551616
@@ -79,7 +75,7 @@ perform-call-requires c κs =
     let s = c .before .before .before .before .before .before .before .before .before .before .before .before .before .before in
     let l = c .before .before .before .before .before .before .before .before in
     let q = c .before .before .before in
-    rw (toZ-ofZ (third q)) (formed-value _ (3 * l .loop .i) _ (rw (toZ-ofZ (first q)) at (c .before .before .before .before .before .place-of .ensures)) (formed-here (formedAt (s .args .calls .now)) (s .args .n) (l .loop .i) (c .before .before .before .before .before .before .before .loop-test .taken) (l .loop .inv .0 .1) .0))
+    rw (toZ-ofZ (second q), toZ-ofZ (third q)) (formed-good (s .args .calls .now) (s .args .numbers .now) (3 * l .loop .i) _ (rw (toZ-ofZ (first q)) at (c .before .before .before .before .before .place-of .ensures)) (formed-here (formedAt (s .args .calls .now) (s .args .numbers .now)) (s .args .n) (l .loop .i) (c .before .before .before .before .before .before .before .loop-test .taken) (l .loop .inv .0 .1) .0))
 
 mul-answers : tie.Need-mul-answers Inv-loop μ-loop
 mul-answers c = let r = room (c .before .before .before .before .before .before .before .before .before .before .before .before .before .before) in record { fits = omega (arith, r) }
@@ -119,7 +115,7 @@ loop-again c =
     let p = c .before .before .before .before .before .before .before .perform-call in
     let t = c .before .before .before .before .before .before .before .before .before .before .before .before .before .before .before .loop-test .taken in
     let q = c .before .before .before .before .before .before .before .before .before .before .before in
-    (((simp length-set (i .0 .0 .0), (p .kept .1 .1 .1 .1 .1 .0 ∙ i .0 .0 .1 .0, p .kept .1 .1 .1 .1 .1 .1 .0 ∙ i .0 .0 .1 .1, p .kept .1 .1 .1 .1 .1 .1 .1 .0 ∙ i .0 .0 .1 .2)), formed-here (formedAt (s .args .calls .now)) (s .args .n) (l .loop .i) t (i .0 .1) .1), left-replied _ _ _ _ _ _ _ _ (i .1) t _ (rw (toZ-ofZ (first q)) at (c .before .before .before .before .before .before .before .before .before .before .before .before .before .place-of .ensures)) _ _ _ _ (rw (toZ-ofZ (second q), toZ-ofZ (third q)) at (p .ensures)))
+    (((simp length-set (i .0 .0 .0), (p .kept .1 .1 .1 .1 .1 .1 .0 ∙ i .0 .0 .1 .0, p .kept .1 .1 .1 .1 .1 .1 .1 .0 ∙ i .0 .0 .1 .1, p .kept .1 .1 .1 .1 .1 .1 .1 .1 .0 ∙ i .0 .0 .1 .2)), formed-here (formedAt (s .args .calls .now) (s .args .numbers .now)) (s .args .n) (l .loop .i) t (i .0 .1) .1), left-replied _ _ _ _ _ _ _ _ _ (i .1) t _ (rw (toZ-ofZ (first q)) at (c .before .before .before .before .before .before .before .before .before .before .before .before .before .place-of .ensures)) _ _ _ _ (rw (toZ-ofZ (second q), toZ-ofZ (third q)) at (p .ensures)))
 
 same-length : tie.Need-same-length Inv-loop μ-loop
 same-length c = c .before .loop .inv .0 .0 .0

@@ -2,6 +2,7 @@ use Rattle.call_list.proofs.Replies.{call-enters}
 use mir.Facts.{toZ-ofZ}
 use mir.Val.{SFits}
 use mir.Syntax.{w64}
+use mathlib.Core.List.{[]}
 use lib.IntN.{pos}
 use mathlib.Core.Path.{refl}
 use borrow.Author.Needs.{needs}
@@ -12,7 +13,7 @@ returns : tie.Need-returns
 returns c =
     let s = c .before .before .before .before .before .before .before .before .before .before .before .before in
     let fits : SFits w64 (s .args .function) = search needs in
-    call-enters _ _ _ _ _ _ 0 _ (pos 0) _ (c .reply-answer .ensures) refl (rw (toZ-ofZ fits) at (c .before .before .before .before .before .enter .ensures))
+    call-enters _ _ _ _ _ _ [] 0 _ (pos 0) _ (c .reply-answer .ensures) refl (rw (toZ-ofZ fits) at (c .before .before .before .before .before .enter .ensures))
 
 pub host-enter-spec : {M : Type 1} → statement M
 host-enter-spec =

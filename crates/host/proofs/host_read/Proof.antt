@@ -2,6 +2,7 @@ use Rattle.call_list.proofs.Replies.{call-reads}
 use mir.Facts.{toZ-ofZ}
 use mir.Val.{SFits}
 use mir.Syntax.{w64}
+use mathlib.Core.List.{[]}
 use lib.IntN.{pos}
 use mathlib.Core.Path.{refl}
 use borrow.Author.Needs.{needs}
@@ -18,7 +19,7 @@ returns : tie.Need-returns
 returns c =
     let s = c .before .before .before .before .before .before in
     let fits : SFits w64 (s .args .address) = search needs in
-    call-reads _ _ _ _ _ _ 5 _ (pos 0) _ _ (c .reply-read .ensures) refl refl (rw (toZ-ofZ fits) at (c .before .read .ensures))
+    call-reads _ _ _ _ _ _ [] 5 _ (pos 0) _ _ (c .reply-read .ensures) refl refl (rw (toZ-ofZ fits) at (c .before .read .ensures))
 
 pub host-read-spec : {M : Type 1} → statement M
 host-read-spec =

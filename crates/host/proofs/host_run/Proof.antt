@@ -1,3 +1,4 @@
+use mathlib.Core.List.{[]}
 use Rattle.call_list.proofs.Replies.{call-runs}
 use mir.Facts.{toZ-ofZ}
 use mir.Val.{SFits}
@@ -24,7 +25,7 @@ returns c =
     let s = c .before .before .before .before .before .before .before .before .before .before .before .before .before .before .before in
     let target-fits : SFits w64 (s .args .target) = search needs in
     let limit-fits : SFits w64 (s .args .limit) = search needs in
-    call-runs _ _ _ _ _ _ 2 _ _ _ (c .reply-run .ensures) refl (rw (toZ-ofZ target-fits, toZ-ofZ limit-fits) at (c .before .before .before .before .before .before .before .run .ensures))
+    call-runs _ _ _ _ _ _ [] 2 _ _ _ (c .reply-run .ensures) refl (rw (toZ-ofZ target-fits, toZ-ofZ limit-fits) at (c .before .before .before .before .before .before .before .run .ensures))
 
 pub host-run-spec : {M : Type 1} → statement M
 host-run-spec =

@@ -1,4 +1,5 @@
 use Rattle.call_list.proofs.Replies.{call-steps}
+use mathlib.Core.List.{[]}
 use lib.IntN.{pos}
 use mathlib.Core.Path.{refl}
 use borrow.Author.Needs.{needs}
@@ -18,7 +19,7 @@ same-length-2 : tie.Need-same-length-2
 same-length-2 c = search needs
 
 returns : tie.Need-returns
-returns c = call-steps _ _ _ _ _ _ 1 (pos 0) (pos 0) _ (c .reply-statement .ensures) refl (c .before .before .before .before .before .before .before .step-once .ensures)
+returns c = call-steps _ _ _ _ _ _ [] 1 (pos 0) (pos 0) _ (c .reply-statement .ensures) refl (c .before .before .before .before .before .before .before .step-once .ensures)
 
 pub host-statement-spec : {M : Type 1} → statement M
 host-statement-spec =

@@ -1,10 +1,7 @@
-use Rattle.call_list.proofs.Replies.{call-writes}
+use Rattle.call_list.proofs.Replies.{after-write}
 use mir.Facts.{toZ-ofZ}
 use mir.Val.{SFits}
 use mir.Syntax.{w64}
-use lib.IntN.{pos}
-use mathlib.Core.Path.{refl}
-use native.Mathlib.Omega.{arith}
 use borrow.Author.Needs.{needs}
 use Rattle.host.proofs.host_write.Statement.{statement}
 use Rattle.host.proofs.host_write.Tie as tie
@@ -13,7 +10,7 @@ returns : tie.Need-returns
 returns c =
     let s = c .before .before .before .before .before .before .before .before .before in
     let fits : SFits w64 (s .args .address) = search needs in
-    call-writes _ _ _ _ _ _ 6 _ (pos (s .args .value)) _ (c .reply-answer .ensures) (λ e. omega (arith, e)) (λ e. omega (arith, e)) (λ e. omega (arith, e)) (λ e. omega (arith, e)) (λ e. omega (arith, e)) (λ e. omega (arith, e)) _ refl (rw (toZ-ofZ fits) at (c .before .before .before .write .ensures))
+    after-write _ _ _ _ _ _ _ (c .reply-answer .ensures) _ _ (rw (toZ-ofZ fits) at (c .before .before .before .write .ensures))
 
 pub host-write-spec : {M : Type 1} → statement M
 host-write-spec =
