@@ -1,2 +1,3 @@
 pub mod Header
 pub mod Outcomes
+pub mod Laws
