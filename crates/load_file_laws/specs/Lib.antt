@@ -3,3 +3,5 @@ pub mod Drawn
 pub mod Loads
 pub mod Steps
 pub mod Ends
+pub mod Answers
+pub mod Examples

@@ -11,7 +11,7 @@ use Rattle.definition.specs.declared.Statement.{Statement}
 use Rattle.definition.specs.Checks.{accepted}
 use Rattle.definition.specs.File.{checkNumber, fileOf, lumpsFit, Contents, contentsOf}
 use Rattle.definition.specs.Load.{loaded, load}
-use Rattle.definition.specs.Written.{layout}
+use Rattle.definition.specs.Written.{layout, written, image}
 use Rattle.laws.specs.Loadable.{Every, StatementIs, Loadable, loadable}
 use Rattle.writing_laws.specs.Written.{version-written, check-written, file-written, contents-written}
 use Rattle.writing_laws.specs.Loads.{layout-fits}
@@ -34,6 +34,10 @@ known-drawn (x ∷ xs) h = (h .0 .known, known-drawn xs (h .1))
 module _ (seed n : ℕ) where
   pub says : contentsOf (bytesFor seed n) ≡ contentsFor seed n
   says = contents-written checkNumber (contentsFor seed n) (eight-for seed n)
+
+  -- "the bytes are in R-6's form": written by R-6 it is the same, byte for byte
+  pub written-same : image (bytesFor seed n) ≡ bytesFor seed n
+  written-same = ap (written checkNumber) says
 
   pub recorded : fileOf (bytesFor seed n) ≡ layoutFor n
   recorded = file-written checkNumber (contentsFor seed n) (eight-for seed n) ∙ layout-for seed n
