@@ -4,12 +4,14 @@ use mathlib.Core.Path.{_≡_, refl, sym, ap, _∙_}
 use mathlib.Core.List.{List, [], _∷_, _++_, append-assoc, append-nil}
 use native.Mathlib.Omega.{arith}
 use lib.ListN.{length, replicate, set, length-append}
+use Rattle.definition.specs.declared.Lump.{Lump}
 use Rattle.definition.specs.declared.FileRecord.{FileRecord}
 use Rattle.definition.specs.declared.Statement.{Statement}
 use Rattle.definition.specs.File.{checkNumber, Contents}
 use Rattle.definition.specs.Written.{u16Bytes, u32Bytes, statementBytes, functionBytes, definitionBytes, bytesOf, layout, layoutOf, headerNumbers, written}
 use Rattle.writing_laws.specs.ReadBack.{Each}
 use Rattle.writing_laws.specs.Written.{AllEight, length-written, length-header}
+use Rattle.writing_laws.specs.Lumps.{laidOut}
 use Rattle.load_files.specs.Draws.{after, drawn}
 use Rattle.load_files.specs.LoadFile.{drawnCell, cellsOf, drawnStatement, done, return, statementsFrom, statementsOf, functionsOf, contentsFor, bytesFor}
 
@@ -74,8 +76,23 @@ abbrev pub lumpsFor : ℕ → ℕ → List ℕ
 lumpsFor seed n =
     bytesOf statementBytes (statementsOf seed n) ++ (bytesOf functionBytes functionsOf ++ (0 ∷ bytesOf u32Bytes (cellsOf seed)))
 
+-- how many there are in each lump, the offsets apart
+abbrev pub countsFor : ℕ → FileRecord
+countsFor n =
+    let none : Lump = record { offset = 0; count = 0 } in
+    record {
+      length = 0;
+      statements = record { offset = 0; count = n + 2 };
+      globaldefs = none;
+      fielddefs = none;
+      functions = record { offset = 0; count = 2 };
+      strings = record { offset = 0; count = 1 };
+      globals = record { offset = 0; count = 64 };
+      entityfields = 105;
+    }
+
 abbrev pub layoutFor : ℕ → FileRecord
-layoutFor n = layout (n + 2) 0 0 2 1 64 105
+layoutFor n = laidOut (countsFor n)
 
 -- ---- the file
 

@@ -11,9 +11,9 @@ use Rattle.definition.specs.File.{checkNumber}
 use Rattle.definition.specs.Written.{u32Bytes, bytesOf, layout, headerNumbers}
 use Rattle.text.specs.Output.{output, put, Room, room-second, put-both}
 use Rattle.writing_laws.specs.Written.{length-header}
-use Rattle.writer.specs.Laws.{small, header-long, too-short, all-written}
+use Rattle.writer.proofs.Program.{small, header-long, too-short, all-written}
 use Rattle.load_files.specs.LoadFile.{bytesFor}
-use Rattle.load_files.specs.Laws.{lumpsFor, layoutFor, length-file, length-lumps, file-parts}
+use Rattle.load_files.specs.Laws.{lumpsFor, countsFor, layoutFor, length-file, length-lumps, file-parts}
 use Rattle.load_files.proofs.write_file.Statement.{statement}
 use Rattle.load_files.proofs.write_file.Tie as tie
 
@@ -36,8 +36,8 @@ returns c = too-short _ _ _ (size (c .before .before)) (c .if1 .taken)
 
 write-header-requires : tie.Need-write-header-requires
 write-header-requires c κs = (
-  omega (arith, same-size (c .before .before .before), header-long (c .before .before .before .before .before .args .n + 2) 0 0 2 1 64 105, c .before .if1 .left),
-  rw (c .before .before .before .lumps .ensures) (small _ _ _ _ _ _ _ (short _ (c .before .before .before .before .before .pre)) (omega arith)),
+  omega (arith, same-size (c .before .before .before), header-long (countsFor (c .before .before .before .before .before .args .n)), c .before .if1 .left),
+  rw (c .before .before .before .lumps .ensures) (small (countsFor (c .before .before .before .before .before .args .n)) (short _ (c .before .before .before .before .before .pre)) (omega arith)),
 )
 
 -- the header's place, and the room behind it

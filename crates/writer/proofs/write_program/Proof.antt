@@ -1,5 +1,5 @@
 -- `writer::write_program` meets its contract: the header is put, then the lumps, where there is room for both. Assumes nothing.
-use Prim.Native.Nat.{ℕ, _≤_}
+use Prim.Native.Nat.{ℕ}
 use mathlib.Core.Path.{_≡_, refl, sym, ap, _∙_}
 use mathlib.Core.List.{List, _++_}
 use native.Mathlib.Omega.{arith}
@@ -11,8 +11,7 @@ use Rattle.definition.specs.File.{contentsAt}
 use Rattle.definition.specs.Written.{u32Bytes, bytesOf, headerNumbers, written}
 use Rattle.text.specs.Output.{output, put, Room, room-second, put-both}
 use Rattle.writing_laws.specs.Lumps.{laidOut, lumpsOf, length-laid-out, length-lumps, written-lumps}
-use Rattle.writer.specs.Laws.{small, header-long, too-short, too-long, all-written}
-use Rattle.writer.proofs.Program.{counted}
+use Rattle.writer.proofs.Program.{counted, small, header-long, too-short, too-long, all-written}
 use Rattle.writer.proofs.write_program.Statement.{statement}
 use Rattle.writer.proofs.write_program.Tie as tie
 
@@ -33,9 +32,6 @@ size c = length-laid-out _ _ _ ∙ ap (λ (x : FileRecord). x .length) (sym (c .
 same-size : (c : tie.After-laid-out) → c .laid-out .result .length ≡ laidOut (record-of (c .before .before .before)) .length
 same-size c = ap (λ (x : FileRecord). x .length) (c .laid-out .ensures)
 
-long : (r : FileRecord) → 60 ≤ laidOut r .length
-long r = header-long _ _ _ _ _ _ _
-
 laid-out-requires : tie.Need-laid-out-requires
 laid-out-requires c κs = counted _ _ (c .before .before .pre .0)
 
@@ -47,8 +43,8 @@ returns-2 c = too-long _ _ _ (size (c .before .before .before .before)) (c .befo
 
 write-header-requires : tie.Need-write-header-requires
 write-header-requires c κs = (
-  omega (arith, same-size (c .before .before .before .before .before), long (record-of (c .before .before .before .before .before .before .before .before)), c .before .before .before .if1 .left),
-  rw (c .before .before .before .before .before .laid-out .ensures) (small _ _ _ _ _ _ _ (omega (arith, same-size (c .before .before .before .before .before), c .before .if2 .left)) (c .before .before .before .before .before .before .before .before .pre .1)),
+  omega (arith, same-size (c .before .before .before .before .before), header-long (record-of (c .before .before .before .before .before .before .before .before)), c .before .before .before .if1 .left),
+  rw (c .before .before .before .before .before .laid-out .ensures) (small (record-of (c .before .before .before .before .before .before .before .before)) (omega (arith, same-size (c .before .before .before .before .before), c .before .if2 .left)) (c .before .before .before .before .before .before .before .before .pre .1)),
 )
 
 -- the header's place, and the room behind it
