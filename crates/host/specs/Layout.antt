@@ -77,4 +77,5 @@ numberedStructs =
       statement = numberedStatement;
       function = numberedFunction;
       definition = record { found = 123; refusal = 124; definition = record { kind = 125; offset = 126; name = 127 } };
+      written = record { length = 128; refusal = 129 };
     }

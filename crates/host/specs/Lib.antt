@@ -2,3 +2,4 @@ pub mod Loading
 pub mod Found
 pub mod Layout
 pub mod Writing
+pub mod Display

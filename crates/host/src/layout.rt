@@ -2,6 +2,7 @@
 ghost use mathlib.Core.Path.{_≡_};
 ghost use Prim.Native.Nat.{_≤_};
 ghost use Rattle.host.specs.Layout.{numberedFile, numberedContext, numberedStatement, numberedFunction, numberedStructs};
+use crate::display::WriteReply;
 use crate::records::DefinitionReply;
 use crate::records::FunctionReply;
 use crate::records::HeaderReply;
@@ -24,6 +25,7 @@ pub struct Structs {
     pub statement: StatementReply,
     pub function: FunctionReply,
     pub definition: DefinitionReply,
+    pub written: WriteReply,
 }
 
 fn numbered_file(n: usize) -> FileRecord
@@ -153,6 +155,10 @@ pub extern "C" fn host_layout() -> Structs
                 offset: 126,
                 name: 127,
             },
+        },
+        written: WriteReply {
+            length: 128,
+            refusal: 129,
         },
     }
 }

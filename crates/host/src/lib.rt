@@ -14,6 +14,7 @@ use definition::WriteAnswer;
 use progs::ExecutionContext;
 use progs::load;
 
+mod display;
 mod layout;
 mod records;
 

@@ -72,16 +72,16 @@ pub data Above (c : ℕ) : List ℕ → Type 0 where
   none : Above c []
   more : {x : ℕ} {xs : List ℕ} → c < x → Above c xs → Above c (x ∷ xs)
 
-above-last : {c y : ℕ} {xs : List ℕ} → Above c xs → c < y → Above c (xs ++ y ∷ [])
-above-last none l = more l none
-above-last (more h hs) l = more h (above-last hs l)
+pub above-both : {c : ℕ} {xs ys : List ℕ} → Above c xs → Above c ys → Above c (xs ++ ys)
+above-both none k = k
+above-both (more h hs) k = more h (above-both hs k)
 
-above-less : {c d : ℕ} {xs : List ℕ} → d ≤ c → Above c xs → Above d xs
+pub above-less : {c d : ℕ} {xs : List ℕ} → d ≤ c → Above c xs → Above d xs
 above-less l none = none
 above-less {c} {d} l (more {x = x} h hs) = let k : d < x = omega arith in more k (above-less l hs)
 
 pub decimal-above : (n : ℕ) → Above 47 (decimal n)
-decimal-above = decimal-ind (λ n xs. Above 47 xs) (λ n h. more (omega arith) none) (λ n tenth h t. above-last t (omega arith))
+decimal-above = decimal-ind (λ n xs. Above 47 xs) (λ n h. more (omega arith) none) (λ n tenth h t. above-both t (more (omega arith) none))
 
 hexDigit-above : (d : ℕ) → 47 < hexDigit d
 unfolding hexDigit
@@ -94,7 +94,7 @@ hexDigit-above d = go (ltb d 10)
 hex-above : (k n : ℕ) → Above 47 (hexDigits k n)
 unfolding hexDigits
 hex-above zero n = none
-hex-above (suc k) n = above-last (hex-above k (n / 16)) (hexDigit-above (n % 16))
+hex-above (suc k) n = above-both (hex-above k (n / 16)) (more (hexDigit-above (n % 16)) none)
 
 pub hex8-above : (n : ℕ) → Above 47 (hex8 n)
 unfolding hex8
@@ -134,7 +134,7 @@ abbrev allAbove : ℕ → List ℕ → Bool
 allAbove c [] = true
 allAbove c (x ∷ xs) = ltb c x && allAbove c xs
 
-tested : (c : ℕ) (xs : List ℕ) → allAbove c xs ≡ true → Above c xs
+pub tested : (c : ℕ) (xs : List ℕ) → allAbove c xs ≡ true → Above c xs
 tested c [] e = none
 tested c (x ∷ xs) e = go (ltb c x) refl e (λ e. tested c xs e)
   where

@@ -1,5 +1,7 @@
 -- TEXTS, as lists of ASCII codes. Document 01: "Numbers are decimal; cell contents are eight hexadecimal digits, highest first."
 use Prim.Native.Nat.{ℕ, zero, suc, _+_, _-_, _/_, _%_}
+use Prim.Native.Char.{code}
+use Prim.Native.String.{String, [] as none, _∷_ as _then_}
 use mathlib.Core.List.{List, [], _∷_, _++_}
 use mathlib.Core.Bool.{cond}
 use lib.Dec.{ltb}
@@ -7,6 +9,11 @@ use lib.IntN.{ℤ, pos, negsuc}
 use Rattle.definition.specs.declared.RunAnswer.{RunAnswer}
 use Rattle.text.specs.declared.Line.{Line}
 use Rattle.definition.specs.Answers.{letters, refusedWord, outcomeWord, outcomeDetail}
+
+-- a text as it stands in quotation marks
+abbrev pub ascii : String → List ℕ
+ascii none = []
+ascii (c then cs) = code c ∷ ascii cs
 
 abbrev pub newline : ℕ
 newline = 10

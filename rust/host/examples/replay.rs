@@ -8,7 +8,7 @@ use std::io::{self, BufRead, BufWriter, Write};
 use std::num::{IntErrorKind, ParseIntError};
 use std::process::ExitCode;
 
-use host::{Handover, LoadError, Machine, Outcome, Refusal, RunOutcome, Settings};
+use host::{Handover, LoadError, Machine, Outcome, Refusal, Run, RunOutcome, Settings};
 
 /// The cells and the saved store that are lent before any `lend`, and no entity cells.
 const CELLS: u32 = 64;
@@ -18,8 +18,16 @@ const SAVED: u32 = 2048;
 const FIRST_CELL: u32 = 3_221_225_472;
 const FIRST_SAVED: u32 = 2_684_354_560;
 
-/// Each byte of a fresh output buffer.
+/// Each byte of a fresh output or display buffer.
 const OUTPUT: u8 = 238;
+
+/// What stands for the last run before there is one.
+const NO_RUN: Run = Run {
+    outcome: RunOutcome::Ended,
+    count: 0,
+    position: 0,
+    function: 0,
+};
 
 /// A longer file is answered by its length alone, as this one is: refused 1 or 13.
 const TOO_LONG: usize = 1_048_577;
@@ -48,11 +56,13 @@ enum Call {
     Read(i64),
     Write(i64, u32),
     Image(u32),
+    Sentence(u32),
 }
 
 /// What is lent, and the machine over it.
 struct Replay {
     machine: Machine,
+    last: Run,
     /// All the program's bytes, of which the machine is lent the first ones.
     program: Vec<u8>,
 }
@@ -73,6 +83,7 @@ impl Replay {
     fn new(program: Vec<u8>) -> Replay {
         Replay {
             machine: Machine::new(program.clone(), fresh_cells(CELLS), fresh_saved(SAVED)),
+            last: NO_RUN,
             program,
         }
     }
@@ -107,10 +118,11 @@ impl Replay {
 
     /// What a call answers and leaves, in words.
     fn call(&mut self, call: Call) -> Result<String, LoadError> {
-        if !self.machine.loaded() && !matches!(call, Call::Load(_)) {
+        let stateless = matches!(call, Call::Load(_) | Call::Sentence(_));
+        if !self.machine.loaded() && !stateless {
             return Ok("no state".to_string());
         }
-        let answer = operate(&mut self.machine, call)?;
+        let answer = operate(&mut self.machine, &mut self.last, call)?;
         Ok(format!("{answer} | {}", self.state()))
     }
 
@@ -144,7 +156,7 @@ impl Replay {
 
 /// One of the machine's own operations, and its answer in words. A load that isn't refused and yet not accepted is an
 /// error: no list of calls has an answer for it.
-fn operate(machine: &mut Machine, call: Call) -> Result<String, LoadError> {
+fn operate(machine: &mut Machine, last: &mut Run, call: Call) -> Result<String, LoadError> {
     let accepted = |answer: Result<(), Refusal>| match answer {
         Ok(()) => "ok 0".to_string(),
         Err(refusal) => refused(refusal),
@@ -163,7 +175,8 @@ fn operate(machine: &mut Machine, call: Call) -> Result<String, LoadError> {
             Ok(value) => format!("ok {value}"),
             Err(refusal) => refused(refusal),
         },
-        Call::Image(length) => image(machine, length),
+        Call::Image(length) => written(length, |output| machine.write_image(output)),
+        Call::Sentence(length) => written(length, |display| last.write_sentence(display)),
         Call::Statement => match machine.statement() {
             Outcome::Completed => "completed 0".to_string(),
             Outcome::Refused(refusal) => refused(refusal),
@@ -171,6 +184,7 @@ fn operate(machine: &mut Machine, call: Call) -> Result<String, LoadError> {
         },
         Call::Run(target, limit) => {
             let run = machine.run(target, limit);
+            *last = run;
             let word = match run.outcome {
                 RunOutcome::Ended => "ended 0".to_string(),
                 RunOutcome::Spent => "spent 0".to_string(),
@@ -182,14 +196,14 @@ fn operate(machine: &mut Machine, call: Call) -> Result<String, LoadError> {
     })
 }
 
-/// The program file in a fresh output buffer: its length, and the digest of the whole buffer.
-fn image(machine: &Machine, length: u32) -> String {
-    let mut output = vec![OUTPUT; length as usize];
-    let answer = match machine.write_image(&mut output) {
+/// What is written into a fresh buffer: its length, and the digest of the whole buffer.
+fn written(length: u32, write: impl FnOnce(&mut [u8]) -> Result<usize, Refusal>) -> String {
+    let mut buffer = vec![OUTPUT; length as usize];
+    let answer = match write(&mut buffer) {
         Ok(written) => format!("ok {written}"),
         Err(refusal) => refused(refusal),
     };
-    format!("{answer} {}", digest(output.into_iter()))
+    format!("{answer} {}", digest(buffer.into_iter()))
 }
 
 fn refused(refusal: Refusal) -> String {
@@ -242,6 +256,7 @@ fn parse_call(words: &[&str]) -> Option<Call> {
         ["read", address] => Call::Read(number(address)?),
         ["write", address, value] => Call::Write(number(address)?, low_bits(value)?),
         ["image", length] => Call::Image(length.parse().ok()?),
+        ["sentence", length] => Call::Sentence(length.parse().ok()?),
         _ => return None,
     })
 }

@@ -123,6 +123,8 @@ fn fields() -> Vec<Field> {
     all.extend(fields!(Structs, 4, definition.found, definition.refusal));
     all.extend(fields!(Structs, 2, definition.record.kind, definition.record.offset));
     all.extend(fields!(Structs, 4, definition.record.name));
+    all.extend(fields!(Structs, 8, written.length));
+    all.extend(fields!(Structs, 4, written.refusal));
     all
 }
 
@@ -152,7 +154,7 @@ mod tests {
 
     #[test]
     fn the_library_has_this_layout() {
-        assert_eq!(fields().len(), 127);
+        assert_eq!(fields().len(), 129);
         assert_eq!(compare(&library::numbered()), Ok(()));
         assert_eq!(library::layout(), Ok(()));
     }
@@ -164,7 +166,7 @@ mod tests {
         assert_eq!(size_of::<StackFrame>(), 16);
         assert_eq!(size_of::<Context>(), 648);
         assert_eq!(size_of::<Reply>(), 664);
-        assert_eq!(size_of::<Structs>(), 856);
+        assert_eq!(size_of::<Structs>(), 872);
     }
 
     /// A library in which a field lies where another is, or has another size.

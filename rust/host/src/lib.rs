@@ -54,6 +54,7 @@ mod library;
 mod machine;
 mod program;
 mod refusal;
+mod sentence;
 
 pub use call::{CallError, Cause};
 pub use caller::Caller;
@@ -66,6 +67,7 @@ pub use machine::{
 };
 pub use program::{Definition, Function, Program};
 pub use refusal::{LoadError, Refusal};
+pub use sentence::DISPLAY;
 
 /// The Rust of docs/EMBEDDING.md, compiled and run with the tests.
 #[cfg(doctest)]

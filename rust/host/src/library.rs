@@ -31,7 +31,7 @@ pub struct Reply {
 #[repr(C)]
 #[derive(Clone, Copy, Debug, Default, PartialEq, Eq)]
 pub struct Answer {
-    /// One of the words below; 3 is refused.
+    /// One of the words below.
     pub word: u32,
     /// The refusal's, builtin's or opcode's number, the cell that was read, or the length that was written; else 0.
     pub detail: u32,
@@ -88,6 +88,16 @@ pub struct DefinitionRecord {
     pub name: u32,
 }
 
+/// What was written into a buffer, by a function that takes no context.
+#[repr(C)]
+#[derive(Clone, Copy, Debug)]
+pub struct WriteReply {
+    /// How many bytes were written; 0 where it was refused.
+    pub length: usize,
+    /// The refusal's number; 0 where there is none.
+    pub refusal: u32,
+}
+
 /// All structs that the library answers, as `host_layout` gives them.
 #[repr(C)]
 pub struct Structs {
@@ -96,6 +106,7 @@ pub struct Structs {
     pub statement: Found<StatementRecord>,
     pub function: Found<FunctionRecord>,
     pub definition: Found<DefinitionRecord>,
+    pub written: WriteReply,
 }
 
 /// The word of what is accepted or completed.
@@ -104,6 +115,8 @@ pub const ACCEPTED: u32 = 0;
 pub const ENDED: u32 = 1;
 /// The word of a run that completed as many statements as its limit.
 pub const SPENT: u32 = 2;
+/// The word of what is refused.
+pub const REFUSED: u32 = 3;
 /// The word of what is handed over as a builtin.
 pub const BUILTIN: u32 = 4;
 /// The word of what is handed over as an opcode.
@@ -121,6 +134,7 @@ extern "C" {
     fn host_read(out: *mut Reply, context: Context, file: *const u8, file_len: usize, address: i64, cells: *const u32, cells_len: usize, saved: *const u32, saved_len: usize, entities: *const u32, entities_len: usize) -> *mut Reply;
     fn host_write(out: *mut Reply, context: Context, file: *const u8, file_len: usize, address: i64, value: u32, cells: *mut u32, cells_len: usize, saved: *const u32, saved_len: usize, entities: *const u32, entities_len: usize) -> *mut Reply;
     fn host_write_file(out: *mut Reply, context: Context, file: *const u8, file_len: usize, cells: *const u32, cells_len: usize, saved: *const u32, saved_len: usize, entities: *const u32, entities_len: usize, output: *mut u8, output_len: usize) -> *mut Reply;
+    fn host_sentence(word: u32, detail: u32, count: u32, position: i64, function: usize, display: *mut u8, display_len: usize) -> WriteReply;
     fn host_read_header(file: *const u8, file_len: usize) -> Found<FileRecord>;
     fn host_read_statement(file: *const u8, file_len: usize, recorded: FileRecord, pc: i64) -> Found<StatementRecord>;
     fn host_read_function(file: *const u8, file_len: usize, recorded: FileRecord, id: i64) -> Found<FunctionRecord>;
@@ -402,6 +416,23 @@ pub fn write_file(
             output.len(),
         );
         reply.assume_init_ref().answer
+    }
+}
+
+/// The sentence of a run's answer at the front of the display buffer.
+pub fn sentence(answer: Answer, position: i64, function: usize, display: &mut [u8]) -> WriteReply {
+    assert_layout();
+    // SAFETY: see the module's text.
+    unsafe {
+        host_sentence(
+            answer.word,
+            answer.detail,
+            answer.count,
+            position,
+            function,
+            display.as_mut_ptr(),
+            display.len(),
+        )
     }
 }
 

@@ -54,13 +54,17 @@ pub enum RunOutcome {
     HandedOver(Handover),
 }
 
-/// What a run answers.
+/// What a run answers, and where it stopped. It prints as the sentence of [`Run::sentence`].
 #[derive(Clone, Copy, Debug, PartialEq, Eq, Hash)]
 pub struct Run {
     /// How it ended.
     pub outcome: RunOutcome,
     /// How many statements were completed.
     pub count: u32,
+    /// The position after it.
+    pub position: i64,
+    /// The function that is being executed after it.
+    pub function: usize,
 }
 
 /// What a load is given beside the file and the buffers. The default is no entities.
@@ -226,7 +230,12 @@ impl Machine {
             library::OPCODE => RunOutcome::HandedOver(Handover::Opcode(detail)),
             _ => RunOutcome::Refused(Refusal::new(detail)),
         };
-        Run { outcome, count }
+        Run {
+            outcome,
+            count,
+            position: self.position(),
+            function: self.function(),
+        }
     }
 
     /// Goes past the statement that was handed over. Where the one at the position would not be handed over, with the

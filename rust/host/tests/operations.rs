@@ -75,7 +75,9 @@ fn enter_run_and_read() {
         run,
         Run {
             outcome: RunOutcome::Ended,
-            count: 2
+            count: 2,
+            position: 0,
+            function: 0,
         }
     );
     assert_eq!((machine.position(), machine.function()), (0, 0));
@@ -124,7 +126,9 @@ fn hand_overs_and_carrying_on() {
         run,
         Run {
             outcome: RunOutcome::HandedOver(builtin),
-            count: 0
+            count: 0,
+            position: 0,
+            function: 0,
         }
     );
     assert_eq!(machine.carry_on(), Ok(()));
@@ -139,7 +143,9 @@ fn hand_overs_and_carrying_on() {
         run,
         Run {
             outcome: RunOutcome::Ended,
-            count: 1
+            count: 1,
+            position: 0,
+            function: 0,
         }
     );
 }
@@ -165,7 +171,9 @@ fn runs_are_spent_and_abandoned() {
         run,
         Run {
             outcome: RunOutcome::Spent,
-            count: 50
+            count: 50,
+            position: 0,
+            function: 0,
         }
     );
     assert_eq!(number(machine.abandon(3)), 29);

@@ -5,7 +5,7 @@
 #[path = "../examples/replay.rs"]
 mod replay;
 
-use host::assemble::Assembly;
+use host::assemble::{Assembly, Function};
 
 const PROGRAM: &[u8] = include_bytes!("replay/program.dat");
 const CALLS: &str = include_str!("replay/calls");
@@ -75,6 +75,50 @@ fn written_files() {
     assert_eq!(answer(length + 3), format!("ok {length} {long}"));
 }
 
+/// What each `sentence` of the calls answers, without the state.
+fn sentences(program: &[u8], calls: &str) -> Vec<String> {
+    let printed = printed_on(program, calls).unwrap();
+    let lines = printed.lines().filter(|line| line.starts_with("sentence"));
+    let answers = lines.map(|line| line.split_once(" | ").unwrap().0);
+    answers
+        .map(|line| line.split_once(" => ").unwrap().1.to_string())
+        .collect()
+}
+
+/// The sentence is that of the last run, with the position and the function that it left, whatever came after it.
+#[test]
+fn the_last_run() {
+    let program = Assembly {
+        statements: vec![[0, 0, 0, 0], [61, -3, 0, 0]],
+        functions: vec![
+            Function::default(),
+            Function {
+                first: 1,
+                ..Function::default()
+            },
+        ],
+        ..Assembly::default()
+    };
+    let calls = "sentence 120\nload 0\nsentence 119\nenter 1\nsentence 120\nrun 0 9\nsentence 128\nabandon 0\nsentence 128\n";
+    let none = "Run ended, detail 0, statements 0, position 0, function 0.";
+    let refused = "Run refused, detail 14, statements 1, position -2, function 1.";
+    let answer = |line: &str, length: usize| {
+        let mut display = vec![238; length];
+        display[..line.len()].copy_from_slice(line.as_bytes());
+        format!("ok {} {}", line.len(), fnv(&display))
+    };
+    assert_eq!(
+        sentences(&program.bytes(), calls),
+        [
+            answer(none, 120),
+            format!("refused 12 {}", fnv(&[238; 119])),
+            answer(none, 120),
+            answer(refused, 128),
+            answer(refused, 128),
+        ]
+    );
+}
+
 #[test]
 fn lines_that_are_no_calls() {
     for line in [
@@ -89,6 +133,10 @@ fn lines_that_are_no_calls() {
         "image -1",
         "image 4294967296",
         "image 1 2",
+        "sentence",
+        "sentence -1",
+        "sentence 4294967296",
+        "sentence 1 2",
     ] {
         assert_eq!(
             printed(line).unwrap_err(),

@@ -1,0 +1,2 @@
+-- What the proofs of `sentences` cite.
+mod Displays
