@@ -6,6 +6,7 @@
 //! [`Machine::read`], [`Machine::write`] and [`Machine::image`]. What is refused changes nothing and gives a [`Refusal`], the
 //! number of document 01 or 02 with its sentence. [`Machine::call`] does what a server does with a function: it enters, runs, has
 //! the host answer what is handed over, and leaves the machine at the depth where it was, however the call went.
+//! [`load_file`] makes heavy files for benches.
 //! [`Machine::field`] and [`Machine::field_mut`] read and set the fields of entities, by name and type.
 //!
 //! What the library promises is proved. What this crate does around it is not: it is Rust, tested. A load checks what
@@ -51,6 +52,7 @@ mod float_mode;
 mod layout;
 #[allow(unsafe_code)]
 mod library;
+mod load_file;
 mod machine;
 mod program;
 mod refusal;
@@ -62,6 +64,7 @@ pub use context::{Context, FileRecord, Lump, StackFrame, FRAMES};
 pub use field::{Field, FieldError, FieldMut};
 pub use float_mode::{check_float_mode, FloatModeError};
 pub use layout::LayoutError;
+pub use load_file::{load_file, write_load_file, LOAD_FILE};
 pub use machine::{
     Handover, Machine, Outcome, Run, RunOutcome, Settings, CELLS, ENTITIES, IMAGE, SAVED_STORE,
 };
