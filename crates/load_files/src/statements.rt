@@ -10,6 +10,9 @@ use crate::draws;
 use definition::Statement;
 use functions::ops;
 
+// An operand is one of so many cells.
+const OPERANDS: u32 = DRAWN_COUNT as u32;
+
 fn opcode_of(drawn: u32) -> u16
     ensures { λ r. ⌜ r ≡ opcodeOf drawn ⌝ }
 {
@@ -23,11 +26,10 @@ fn opcode_of(drawn: u32) -> u16
     ops::SUB_F
 }
 
-// One of the drawn cells.
 fn operand_of(drawn: u32) -> u16
     ensures { λ r. ⌜ r ≡ operandOf drawn ⌝ }
 {
-    FIRST_DRAWN + (drawn % (DRAWN_COUNT as u32)) as u16
+    FIRST_DRAWN + (drawn % OPERANDS) as u16
 }
 
 // A statement, and the last of its draws.

@@ -121,10 +121,7 @@ impl Replay {
 
     /// What a call answers and leaves, in words.
     fn call(&mut self, call: Call) -> Result<String, LoadError> {
-        let stateless = matches!(
-            call,
-            Call::Load(_) | Call::Sentence(_) | Call::LoadFile(..)
-        );
+        let stateless = matches!(call, Call::Load(_) | Call::Sentence(_) | Call::LoadFile(..));
         if !self.machine.loaded() && !stateless {
             return Ok("no state".to_string());
         }
