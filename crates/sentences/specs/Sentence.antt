@@ -16,9 +16,6 @@ use Rattle.text.specs.ReadBack.{wordOf, number, signedNumber, upTo, past}
 
 -- ---- the line
 
-abbrev pub stop : ℕ
-stop = 46
-
 -- "The five": what a line says
 pub record Five : Type 0 where
   pub word : Word
@@ -59,6 +56,9 @@ sentence x =
 
 -- ---- "The five can be worked out from the line"
 
+abbrev stop : ℕ
+stop = 46
+
 abbrev behind : String → List ℕ → List ℕ
 behind name l = drop (length (ascii name)) l
 
@@ -95,7 +95,8 @@ displayed x display = writeOutcome display (guard (displayConditions (length dis
 
 -- ---- an outcome in numbers
 
--- the word of a number that a host gives, in the numbers of a list of calls: 1 ended, 2 spent, 3 refused, 4 builtin, 5 opcode; any other is taken for refused
+-- the word of a number that a host gives, in the numbers of a list of calls: 1 ended, 2 spent, 3 refused, 4 builtin, 5 opcode; any other is taken for
+-- refused
 unfoldable pub wordNumbered : ℕ → Word
 wordNumbered n =
     cond (eqb n 1) ended (cond (eqb n 2) spent (cond (eqb n 4) builtin (cond (eqb n 5) opcode refusedWord)))

@@ -6,8 +6,8 @@
 //! [`Machine::read`], [`Machine::write`] and [`Machine::image`]. What is refused changes nothing and gives a [`Refusal`], the
 //! number of document 01 or 02 with its sentence. [`Machine::call`] does what a server does with a function: it enters, runs, has
 //! the host answer what is handed over, and leaves the machine at the depth where it was, however the call went.
-//! [`load_file`] makes heavy files for benches.
-//! [`Machine::field`] and [`Machine::field_mut`] read and set the fields of entities, by name and type.
+//! [`Machine::field`] and [`Machine::field_mut`] read and set the fields of entities, by name and type. What a run answers,
+//! [`Run`], prints as a sentence for a display. [`load_file`] makes heavy files for benches.
 //!
 //! What the library promises is proved. What this crate does around it is not: it is Rust, tested. A load checks what
 //! both stand on: that the library is the crate's own, and the processor's floating-point mode ([`LoadError`]).

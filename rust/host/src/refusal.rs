@@ -19,7 +19,7 @@ const SENTENCES: [&str; 35] = [
     "a field definition has the save flag",
     "there are fewer than 36 cells or more than 32,768",
     "there are fewer than 105 cells per entity",
-    "fewer cells are lent than the file has, or the saved store is shorter than 2,048",
+    "fewer cells are lent than the file has, or the saved store is shorter than 2,048; for a sentence, the display buffer is shorter than 120",
     "the file, what is lent and the state do not belong together; at load, the entities are negative, over 600 or more than the lent entity cells hold",
     "there is no statement at the position",
     "a cell number is negative or not below the file's count of cells",
