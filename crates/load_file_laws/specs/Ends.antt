@@ -14,7 +14,7 @@ use Rattle.definition.specs.Checks.{accepted}
 use Rattle.definition.specs.File.{Contents, fileOf, contentsOf}
 use Rattle.definition.specs.Statements.{Entities, next, returns, doesAt}
 use Rattle.definition.specs.Machine.{Program, Config, entitiesOf, countOf, limits, present, copiesPresent, arguments, entryConditions, entered, leaveConditions, left, returned, advanced, completed, step, Ran, oneMore, runFor}
-use Rattle.definition.specs.Load.{programAt, programOf, loaded, load}
+use Rattle.definition.specs.Load.{programWith, programOf, loaded, load}
 use Rattle.definition.specs.Operations.{sound, hostEnter, runConditions, run}
 use Rattle.definition.specs.Written.{layout}
 use Rattle.definition.specs.CheckLaws.{All, WhenAccepted}
@@ -41,11 +41,11 @@ module _ (seed n : ℕ) where
   P = programOf file
 
   functions-are : P .functions ≡ functionsOf
-  unfolding programAt contentsFor
+  unfolding programWith contentsFor
   functions-are = ap (λ (k : Contents). k .functions) (says seed n)
 
   does-are : (p : ℤ) (e : Entities) (cells : List ℕ) → P .does p e cells ≡ doesAt (contentsFor seed n) p e cells
-  unfolding programAt
+  unfolding programWith
   does-are p e cells = ap (λ (k : Contents). doesAt k p e cells) (says seed n)
 
   -- function 1 is running, at statement i
