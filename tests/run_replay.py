@@ -1,8 +1,8 @@
 #!/usr/bin/env python3
 """Runs the host's replay program on lists of calls and compares what it prints with what the model of tests/model answers.
 
-    python3 tests/run_replay.py REPLAY      the lists of calls.txt, images.txt and outcomes.txt of tests/model/cases, the list of rust/host/tests/replay, the
-                                            rule files of tests/rules written, and lists made by chance
+    python3 tests/run_replay.py REPLAY      the lists of calls.txt, images.txt, outcomes.txt and pairs.txt of tests/model/cases, the list of
+                                            rust/host/tests/replay, the rule files of tests/rules written, and lists made by chance
     python3 tests/run_replay.py --write     writes the list of rust/host/tests/replay, with what the model prints for it
     python3 tests/run_replay.py --check     says whether the committed one is that
 
@@ -32,7 +32,7 @@ EDGES = [-2**64, -2**63, -2**31 - 1, -1, 0, 30, 31, 63, 64, 2048, 100000, 2**31 
 # what calls.txt calls otherwise
 NAMES = {"get": "read", "put": "write", "byte": "poke"}
 # the case files that have lists of calls
-LISTS = "calls.txt", "images.txt", "outcomes.txt"
+LISTS = "calls.txt", "images.txt", "outcomes.txt", "pairs.txt"
 # what each byte of an output or display buffer that is lent holds
 UNWRITTEN = 238
 # what only calls.txt has; its `lend` is of entity cells alone
@@ -106,9 +106,9 @@ class Lent:
 
     def operate(self, machine, name, given):
         machine.state = self.state
-        if name == "write":
-            given[1] %= 2**32
-        answer = self.operation(machine, name)(*given)
+        if name in ("write", "pairs"):
+            given[1::2] = [value % 2**32 for value in given[1::2]]
+        answer = machine.write_pairs(given) if name == "pairs" else self.operation(machine, name)(*given)
         self.state = machine.state
         if name == "run":
             self.outcome = model.outcome_of(answer, machine.state)
@@ -173,6 +173,11 @@ def lists(file):
     yield program, [] if left_out else calls
 
 
+def in_turn(count):
+    """So many pairs of which the first 63 write to cells one after the other."""
+    return "pairs " + " ".join("%d %d" % (i % 63, 500 + i) for i in range(count))
+
+
 def fixed_list():
     """A program and calls that reach each kind of answer, and each change of what is lent."""
     f = model.function
@@ -189,6 +194,7 @@ def fixed_list():
         statement
         read 0
         image 0
+        pairs 1 2
         run 0 1
         sentence 119
         sentence 120
@@ -213,7 +219,13 @@ def fixed_list():
         read -1
         write 50 4294967295
         write 64 1
+        pairs
+        pairs 50 7 51 8 50 9
+        pairs 50 1 64 1
+        pairs 50
+        pairs 50 1 51
         enter 1
+        pairs 30 5 31 6
         sentence 120
         run 0 1
         sentence 120
@@ -267,6 +279,8 @@ def fixed_list():
         read 1
         lend 63 2048 0
         read 1
+        pairs
+        pairs 1 2 3
         image 0
         image %(length)d
         lend 64 2047 1
@@ -312,6 +326,13 @@ def fixed_list():
         write 63 -1
         write 62 4294967297
         read 62
+        pairs 62 -1 61 4294967298 18446744073709551616 1
+        pairs -18446744073709551616 1
+        pairs 62 -1 61 18446744073709551618 60 -18446744073709551617
+        read 61
+        %(most)s
+        %(more)s
+        %(odd)s
         enter 1
         run 9223372036854775807 1
         run 18446744073709551616 18446744073709551616
@@ -365,7 +386,7 @@ def fixed_list():
         load 0
         enter 6
         statement
-    """ % {"length": len(data), "short": len(data) - 1, "spare": len(data) + 40}
+    """ % {"length": len(data), "short": len(data) - 1, "spare": len(data) + 40, "most": in_turn(64), "more": in_turn(65), "odd": in_turn(64) + " 0"}
     return data, [line.strip() for line in calls.strip().splitlines()]
 
 
@@ -396,6 +417,9 @@ def random_call(chance, length):
         return "abandon %d" % (chance.below(5) - 1)
     if kind < 87:
         return "read %d" % (chance.below(70) - 3)
+    if kind < 89:
+        pairs = ["%d %d" % (chance.pick((26, 40, 48)) + chance.below(17), chance.draw()) for _ in range(chance.below(6))]
+        return " ".join(["pairs", *pairs, *["3"] * (chance.below(10) == 0)])
     if kind < 92:
         return "write %d %d" % (28 + chance.below(40), chance.draw())
     if kind < 94:
@@ -412,7 +436,7 @@ def random_call(chance, length):
 def edged(chance, call):
     """A call, now and then with a number at an edge."""
     name, *numbers = call.split()
-    if numbers and name in ("enter", "run", "abandon", "read", "write", "load") and chance.below(12) == 0:
+    if numbers and name in ("enter", "run", "abandon", "read", "write", "pairs", "load") and chance.below(12) == 0:
         numbers[chance.below(len(numbers))] = str(chance.pick(EDGES))
     return " ".join([name, *numbers])
 

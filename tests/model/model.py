@@ -210,6 +210,7 @@ FEWEST_PER_ENTITY = 105
 DEEPEST = 31
 MOST_SAVED = 2_048
 MOST_STATEMENTS = 99_999
+MOST_PAIRS = 64  # R-9: "Up to 64 pairs of address and value"
 MOST_ENTITIES = 600  # R-3: "up to 600 entities"
 GREATEST_POINTER = 2_147_483_647
 
@@ -423,6 +424,10 @@ class Machine:
 
     def write(self, cell, value):
         return self._operation(lambda: self._put(cell, value))
+
+    def write_pairs(self, numbers):
+        """R-9: raw writes, "all or none", of addresses and values in turn."""
+        return self._operation(lambda: self._write_pairs(numbers))
 
     def image(self, output):
         """R-6: writes the loaded program into the output buffer; the answer has the written length."""
@@ -861,6 +866,15 @@ class Machine:
             saved=saved,
             frames=tuple(frames),
         )
+
+    # -- many raw writes -----------------------------------------------------------------------
+
+    def _write_pairs(self, numbers):
+        # "The refusal is that of the first bad pair, or 15 for more than 64 pairs or an unpaired number."
+        check(len(numbers) % 2 == 0, 15)
+        check(len(numbers) <= 2 * MOST_PAIRS, 15)
+        for address, value in zip(numbers[0::2], numbers[1::2]):
+            self._put(address, value)  # in order, so that "of two pairs with one address the later holds"
 
     # -- writing the program -------------------------------------------------------------------
 

@@ -662,6 +662,42 @@ MUTANTS = [
     ("return Outcome(answer.word, answer.detail, answer.count, state.position, state.function)", "return Outcome(answer.word, answer.detail, answer.count, state.frames[0].position, state.function)"),
     ("return Outcome(answer.word, answer.detail, answer.count, state.position, state.function)", "return Outcome(answer.word, answer.detail, answer.count, state.position, state.depth)"),
     ("return Outcome(answer.word, answer.detail, answer.count, state.position, state.function)", "return Outcome(answer.word, 0, answer.count, state.position, state.function)"),
+    # many raw writes
+    ("MOST_PAIRS = 64", "MOST_PAIRS = 63"),
+    ("MOST_PAIRS = 64", "MOST_PAIRS = 65"),
+    ("MOST_PAIRS = 64", "MOST_PAIRS = 32"),
+    ("MOST_PAIRS = 64", "MOST_PAIRS = 128"),
+    ("        check(len(numbers) % 2 == 0, 15)\n", ""),
+    ("        check(len(numbers) % 2 == 0, 15)\n", "        check(len(numbers) % 2 == 0, 12)\n"),
+    ("        check(len(numbers) % 2 == 0, 15)\n", "        check(len(numbers) % 2 == 0 and numbers, 15)\n"),
+    ("        check(len(numbers) % 2 == 0, 15)\n", "        numbers = [*numbers, *[0] * (len(numbers) % 2)]\n"),
+    ("        check(len(numbers) <= 2 * MOST_PAIRS, 15)\n", ""),
+    ("        check(len(numbers) <= 2 * MOST_PAIRS, 15)\n", "        check(len(numbers) <= 2 * MOST_PAIRS, 12)\n"),
+    ("        check(len(numbers) <= 2 * MOST_PAIRS, 15)\n", "        check(len(numbers) <= 2 * MOST_PAIRS, 28)\n"),
+    ("        check(len(numbers) <= 2 * MOST_PAIRS, 15)\n", "        numbers = numbers[: 2 * MOST_PAIRS]\n"),
+    ("        for address, value in zip(numbers[0::2], numbers[1::2]):\n", "        for address, value in reversed(list(zip(numbers[0::2], numbers[1::2]))):\n"),
+    ("        for address, value in zip(numbers[0::2], numbers[1::2]):\n", "        for value, address in zip(numbers[0::2], numbers[1::2]):\n"),
+    ("        for address, value in zip(numbers[0::2], numbers[1::2]):\n", "        for address, value in zip(numbers[: len(numbers) // 2], numbers[len(numbers) // 2 :]):\n"),
+    ("        for address, value in zip(numbers[0::2], numbers[1::2]):\n", "        for address, value in zip(numbers[0:-2:2], numbers[1::2]):\n"),
+    # equal addresses refused
+    ("        for address, value in zip(numbers[0::2], numbers[1::2]):\n", "        check(len(set(numbers[0::2])) == len(numbers[0::2]), 15)\n        for address, value in zip(numbers[0::2], numbers[1::2]):\n"),
+    # checked by the lent cells; in 16 bits; each written before the next is looked at, none undone
+    ("            self._put(address, value)  # in order", "            check(0 <= address < len(self.cells), 15)\n            self._store(self.cells, address, value)  # in order"),
+    ("            self._put(address, value)  # in order", "            self._put(address & 0xFFFF, value)  # in order"),
+    ("            self._put(address, value)  # in order", "            self._check_address(address)\n            self.cells[address] = value  # in order"),
+    # a bad address is passed over, or ends the writing
+    ("            self._put(address, value)  # in order", "            if 0 <= address < self._program.count(CELLS):\n                self._put(address, value)  # in order"),
+    ("            self._put(address, value)  # in order", "            if not 0 <= address < self._program.count(CELLS):\n                return\n            self._put(address, value)  # in order"),
+    # typed, which raw access isn't
+    ("            self._put(address, value)  # in order", "            self._put_typed(address, FLOAT, value)  # in order"),
+    # 15 before 13, and none of both for no pair
+    ("        return self._operation(lambda: self._write_pairs(numbers))\n", "        if len(numbers) % 2:\n            return Answer(\"refused\", 15)\n        return self._operation(lambda: self._write_pairs(numbers))\n"),
+    ("        return self._operation(lambda: self._write_pairs(numbers))\n", "        if len(numbers) > 2 * MOST_PAIRS:\n            return Answer(\"refused\", 15)\n        return self._operation(lambda: self._write_pairs(numbers))\n"),
+    ("        return self._operation(lambda: self._write_pairs(numbers))\n", "        if not numbers:\n            return Answer(\"accepted\")\n        return self._operation(lambda: self._write_pairs(numbers))\n"),
+    ("        return self._operation(lambda: self._write_pairs(numbers))\n", "        for address, value in zip(numbers[0::2], numbers[1::2]):\n            answer = self.write(address, value)\n            if answer.word == \"refused\":\n                return answer\n        return self._operation(lambda: self._write_pairs(numbers))\n"),
+    ("        return self._operation(lambda: self._write_pairs(numbers))\n", "        return self._operation(lambda: self._write_pairs(numbers) or self._advance(1))\n"),
+    # what an entry saved is written too
+    ("            self._put(address, value)  # in order", "            if address < self.state.saved:\n                self._store(self.saved_store, address, value)\n            self._put(address, value)  # in order"),
 ]
 
 

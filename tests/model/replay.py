@@ -145,6 +145,10 @@ def replay_outcomes(model):
     yield from replay_lists(model, "outcomes.txt")
 
 
+def replay_pairs(model):
+    yield from replay_lists(model, "pairs.txt")
+
+
 def replay_sentences(model):
     for line in lines_of("sentences.txt"):
         given, expected = line.split(" = ")
@@ -187,6 +191,8 @@ def call(model, machine, kind, given):
     operations |= dict(carry="carry_on", abandon="abandon", get="read", put="write")
     if kind in operations:
         return getattr(machine, operations[kind])(*given), []
+    if kind == "pairs":
+        return machine.write_pairs(given), []
     if kind == "image":
         output = bytearray([238] * given[0])
         return machine.image(output), [fnv(bytes(output))]
@@ -244,7 +250,7 @@ def replay_traces(model):
 
 
 REPLAYS = (replay_statements, replay_calls, replay_files, replay_traces, replay_images, replay_pads)
-REPLAYS += (replay_sentences, replay_outcomes)
+REPLAYS += (replay_sentences, replay_outcomes, replay_pairs)
 
 
 def differences(model):

@@ -1377,6 +1377,69 @@ class Padding(unittest.TestCase):
         self.assertGreater(done, 100)
 
 
+class PairsOfWrites(unittest.TestCase):
+    """R-9: many raw writes in one operation."""
+
+    def setUp(self):
+        self.machine = loaded(("Return", 28), functions=[function(0, 40, 2)], cells={40: 7, 41: 8}, lent=70)
+
+    def unchanged(self, numbers, number):
+        before = everything(self.machine)
+        self.assertEqual(self.machine.write_pairs(numbers), refused(number))
+        self.assertEqual(everything(self.machine), before)
+
+    def test_all_or_none(self):
+        self.assertEqual(self.machine.write_pairs([28, 1, 63, 2, 0, 3]), ACCEPTED)
+        self.assertEqual([self.machine.cells[cell] for cell in (28, 63, 0, 29)], [1, 2, 3, 0])
+        for bad in (-1, 64, 69, 2**63 - 1, -(2**63)):
+            self.unchanged([bad, 9, 28, 9], 15)
+            self.unchanged([28, 9, bad, 9, 29, 9], 15)
+            self.unchanged([28, 9, 29, 9, bad, 9], 15)
+
+    def test_how_many(self):
+        before = everything(self.machine)
+        self.assertEqual(self.machine.write_pairs([]), ACCEPTED)
+        self.assertEqual(everything(self.machine), before)
+        self.assertEqual(self.machine.write_pairs([number for i in range(64) for number in (i, i + 1)]), ACCEPTED)
+        self.assertEqual(self.machine.cells[:64], list(range(1, 65)))
+        self.unchanged([28, 1] * 65, 15)
+        for count in (1, 3, 127, 129):
+            self.unchanged([28] * count, 15)
+
+    def test_the_later_holds(self):
+        self.assertEqual(self.machine.write_pairs([28, 1, 29, 2, 28, 3, 29, 4, 28, 5]), ACCEPTED)
+        self.assertEqual(self.machine.cells[28:30], [5, 4])
+
+    def test_13_first(self):
+        self.machine.state = replace(self.machine.state, saved=1)
+        for numbers in ([], [28, 1], [28], [-1, 1], [28, 1] * 65):
+            self.unchanged(numbers, 13)
+
+    def test_a_single_pair(self):
+        for address in (-1, 0, 1, 28, 63, 64, 69, 70):
+            for value in (0, 0xFFFFFFFF):
+                other = copy.deepcopy(self.machine)
+                self.assertEqual(self.machine.write_pairs([address, value]), other.write(address, value))
+                self.assertEqual(everything(self.machine), everything(other))
+
+    def test_one_after_another(self):
+        """Where all are good it is as so many raw writes."""
+        chance = Xorshift(5)
+        for _ in range(50):
+            numbers = [number for _ in range(chance.below(65)) for number in (chance.below(64), chance.draw())]
+            other = copy.deepcopy(self.machine)
+            self.assertEqual(self.machine.write_pairs(numbers), ACCEPTED)
+            for address, value in zip(numbers[::2], numbers[1::2]):
+                self.assertEqual(other.write(address, value), ACCEPTED)
+            self.assertEqual(everything(self.machine), everything(other))
+
+    def test_a_return_restores(self):
+        self.machine.enter(1)
+        self.assertEqual(self.machine.write_pairs([40, 1, 41, 2, 42, 3]), ACCEPTED)
+        self.assertEqual(self.machine.run(0, 9), Answer("ended", 0, 1))
+        self.assertEqual(self.machine.cells[40:43], [7, 8, 3])
+
+
 class OutcomeSentences(unittest.TestCase):
     """R-8: a run's outcome in words."""
 
@@ -1446,7 +1509,7 @@ class CaseFiles(unittest.TestCase):
 
     def test_lists_can_be_replayed(self):
         """tests/run_replay.py plays every list of these: nothing in them changes what replay can't."""
-        for name in ("images.txt", "outcomes.txt"):
+        for name in ("images.txt", "outcomes.txt", "pairs.txt"):
             calls = {call.split(" ")[0] for call, _ in self.makers[name].seen}
             self.assertFalse(calls & {"field", "lend", "eput"})
 
