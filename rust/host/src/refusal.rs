@@ -22,7 +22,7 @@ const SENTENCES: [&str; 35] = [
     "fewer cells are lent than the file has, or the saved store is shorter than 2,048; for a sentence, the display buffer is shorter than 120",
     "the file, what is lent and the state do not belong together; at load, the entities are negative, over 600 or more than the lent entity cells hold",
     "there is no statement at the position",
-    "a cell number is negative or not below the file's count of cells",
+    "a cell number is negative or not below the file's count of cells; of pairs written together, there are over 64, one is incomplete, or a value isn't of 32 bits",
     "a cell's or a field's definition has another type",
     "a negative entity or field is read, or a negative string, entity or field is moved",
     "the third operand of a Store, through a pointer too, or the second of a Not isn't 0",
@@ -51,11 +51,11 @@ const SENTENCES: [&str; 35] = [
 ///
 /// ```
 /// use host::Refusal;
-/// let refusal = Refusal::new(15);
-/// assert_eq!(refusal.number(), 15);
+/// let refusal = Refusal::new(14);
+/// assert_eq!(refusal.number(), 14);
 /// assert_eq!(
 ///     refusal.to_string(),
-///     "refused 15: a cell number is negative or not below the file's count of cells"
+///     "refused 14: there is no statement at the position"
 /// );
 /// ```
 #[derive(Clone, Copy, Debug, PartialEq, Eq, PartialOrd, Ord, Hash)]
