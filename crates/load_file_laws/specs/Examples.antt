@@ -1,5 +1,5 @@
--- LOAD FILES BY HAND. Document 02's R-10 has no worked values of its own: the first four draws of three seeds, of which those of 2463534242 are Marsaglia's ("Xorshift
--- RNGs", 2003), and all that is drawn for that seed and n = 2. They were worked out from 02's words, not by the definition.
+-- LOAD FILES BY HAND. Document 02's R-10 has no worked values of its own: the first four draws of three seeds (2463534242 is the seed in Marsaglia's "Xorshift RNGs", 2003),
+-- and all that is drawn for that seed and n = 2. They were worked out from 02's words, not by the definition.
 use Prim.Native.Nat.{ℕ}
 use mathlib.Core.Path.{_≡_, refl}
 use mathlib.Core.List.{List, [], _∷_}
