@@ -1,7 +1,7 @@
 #!/usr/bin/env python3
 """Runs the built padding program on every file of tests/model/cases/pads.txt, and on longer inputs, each through a pipe in
 two parts, and compares all that it writes. A file of 36 to 63 cells is then refused 10 by the built show program, and once padded
-prints the line that it printed before R-7, unless that was 15, which an access to an added cell no longer is. After `rt check pad show`:
+prints the model's line, which is the one before R-7 unless that was 15. After `rt check pad show`:
 
     python3 tests/run_pad.py
 """
@@ -42,10 +42,11 @@ def shown(name, file, padded):
     """How many lines of a padded file were compared, and how many differ."""
     if not FEWEST_PADDED <= cells_of(file) < FEWEST_CELLS:
         return 0, 0
-    refused, line, before = output(SHOW, file).decode(), output(SHOW, padded).decode(), show(file, FEWEST_PADDED) + "\n"
-    same = refused == "refused,10\n" and (line == before or before.startswith("refused,15,"))
+    refused, line = output(SHOW, file).decode(), output(SHOW, padded).decode()
+    before, after = show(file, FEWEST_PADDED) + "\n", show(padded) + "\n"
+    same = refused == "refused,10\n" and line == after and (after == before or before.startswith("refused,15,"))
     if not same:
-        print("%s: %r, padded %r instead of %r" % (name, refused, line, before))
+        print("%s: %r, padded %r instead of %r" % (name, refused, line, after))
     return 1, not same
 
 

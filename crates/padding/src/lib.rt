@@ -25,7 +25,7 @@ fn zeros(count: usize) -> usize
     0
 }
 
-// The padded file, or the line of a refusal, stands at the front of `out`; the result is its length.
+// The padded file, or the line of a refusal, stands at the front of `out`; the result is its length. 34 is decided by the room in `out`.
 pub fn pad(file: &[u8], out: &mut [u8]) -> usize
     requires { ⌜ length (now out) ≡ 65536 ⌝ }
     ensures { λ r. ⌜ output (now (out .exit)) r ≡ atFront (padText (now (file .entry))) (now (out .entry)) ⌝ }

@@ -1,4 +1,4 @@
-// Composes sentences at the ends of what their numbers can be, into display buffers of 119 bytes and more, each byte a `#`. For each it prints the
+// Composes sentences at the ends of what their numbers can be, into display buffers of 0 to 130 bytes, each byte a `#`. For each it prints the
 // length or the refusal, and then the whole buffer.
 use definition::Handover;
 use definition::RunAnswer;

@@ -13,10 +13,11 @@ use Rattle.definition.specs.declared.RunAnswer.{RunAnswer}
 use Rattle.definition.specs.declared.WriteAnswer.the-variants as write
 use Rattle.definition.specs.Checks.{judge, guard}
 use Rattle.definition.specs.Answers.{Word, ended, spent, completedWord, refusedWord, builtin, opcode, letters, outcomeWord, outcomeDetail}
-use Rattle.text.specs.Text.{ascii, decimal}
+use Rattle.definition.specs.Machine.{Ran}
+use Rattle.text.specs.Text.{ascii, decimal, showLine}
 use Rattle.text.specs.Laws.{decimal-10, decimal-20, signed-20, word-7}
-use Rattle.text.specs.ReadBack.{Above, above-both, above-less, tested, decimal-above, signed-above, word-above, decimal-back, signed-back, word-back, upTo-back, past-back}
-use Rattle.sentences.specs.Sentence.{Five, fiveOf, sentence, readSentence, displayed}
+use Rattle.text.specs.ReadBack.{Above, above-both, above-less, tested, decimal-above, signed-above, word-above, decimal-back, signed-back, word-back, upTo-back, past-back, Shown, readLine, show-back}
+use Rattle.sentences.specs.Sentence.{Five, five, fiveOf, fiveAfter, sentence, readSentence, displayed}
 
 -- ---- "The five can be worked out from the line"
 
@@ -48,6 +49,15 @@ sentence-back x =
 -- so different fives have different lines
 pub sentence-tells : (x y : Five) → sentence x ≡ sentence y → x ≡ y
 sentence-tells x y e = sym (sentence-back x) ∙ ap readSentence e ∙ sentence-back y
+
+-- "with the show program's outcome word": what a run's line says is what the first five fields of the show program's line say
+pub as-shown : (r : Ran) (depth saved c1 c2 c3 : ℕ) → c1 < 2 ^ 32 → c2 < 2 ^ 32 → c3 < 2 ^ 32
+    → let s = readLine (showLine (r .answer) (r .count) (r .config .state .pc) (r .config .state .function) depth saved c1 c2 c3) in
+    five (s .word) (s .detail) (s .count) (s .position) (s .function) ≡ readSentence (sentence (fiveAfter r))
+as-shown r depth saved c1 c2 c3 h1 h2 h3 =
+    ap (λ (s : Shown). five (s .word) (s .detail) (s .count) (s .position) (s .function))
+    (show-back (r .answer) (r .count) (r .config .state .pc) (r .config .state .function) depth saved c1 c2 c3 h1 h2 h3)
+    ∙ sym (sentence-back (fiveAfter r))
 
 -- ---- "at most 120 bytes"
 

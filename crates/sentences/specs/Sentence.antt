@@ -9,6 +9,7 @@ use lib.ListN.{length, drop}
 use Rattle.definition.specs.declared.RunAnswer.{RunAnswer}
 use Rattle.definition.specs.declared.WriteAnswer.{WriteAnswer}
 use Rattle.definition.specs.Checks.{Conditions, _otherwise_, guard}
+use Rattle.definition.specs.Machine.{Ran}
 use Rattle.definition.specs.Answers.{Word, ended, spent, refusedWord, builtin, opcode, letters, outcomeWord, outcomeDetail}
 use Rattle.definition.specs.Written.{WriteOutcome, writeOutcome, placed}
 use Rattle.text.specs.Text.{ascii, comma, decimal, signedDecimal}
@@ -31,6 +32,10 @@ five word detail count position function =
 -- of a run's outcome: "the show program's outcome word", its detail, and the statements, position and function beside it
 abbrev pub fiveOf : RunAnswer → ℕ → ℤ → ℕ → Five
 fiveOf answer count position function = five (outcomeWord answer) (outcomeDetail answer) count position function
+
+-- of a run: position and function are those of the state that it leaves
+abbrev pub fiveAfter : Ran → Five
+fiveAfter r = fiveOf (r .answer) (r .count) (r .config .state .pc) (r .config .state .function)
 
 -- texts one behind the other
 abbrev pub joined : List (List ℕ) → List ℕ

@@ -13,7 +13,7 @@ impl Run {
     /// The run in a line of words and numbers, without a line end: its word, the number of the refusal, builtin or opcode
     /// (else 0), the completed statements, and the position and the function where it stopped.
     ///
-    /// All five can be worked out from the line, so different runs have different lines.
+    /// All five can be worked out from the line, so where one of them differs the lines do.
     ///
     /// ```
     /// use host::assemble::{Assembly, Function};
