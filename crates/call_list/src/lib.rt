@@ -120,7 +120,7 @@ pub fn reply_run(ran: Ran) -> Replied
     }
 }
 
-// Performs a write, which is of number 6, or of numbers of `numbers`, those from a on, as many as b says.
+// Performs call 6, a raw write, or call 7, pairs written together: of `numbers` those from a on, as many as b says.
 fn perform_write(
     context: ExecutionContext,
     file: &[u8],

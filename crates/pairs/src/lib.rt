@@ -10,8 +10,8 @@ ghost use Rattle.pairs.specs.Together.{unlessRefused};
 use definition::MOST_PAIRS;
 use functions::fetch;
 
-// So many contents has a cell.
-const CONTENTS: usize = 4_294_967_296;
+// A cell is 32 bits: its contents are below this.
+const CELL_VALUES: usize = 4_294_967_296;
 
 // 15 where a pair is bad, else 0.
 fn pairs_refusal(numbers: &[i64], count: usize) -> u8
@@ -22,7 +22,7 @@ fn pairs_refusal(numbers: &[i64], count: usize) -> u8
         if count <= fetch::place_of(count, numbers[at]) {
             return 15;
         }
-        if CONTENTS <= fetch::place_of(CONTENTS, numbers[at + 1]) {
+        if CELL_VALUES <= fetch::place_of(CELL_VALUES, numbers[at + 1]) {
             return 15;
         }
         at += 2;

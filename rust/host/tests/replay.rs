@@ -117,6 +117,7 @@ fn the_last_run() {
             answer(refused, 128),
         ]
     );
+}
 
 /// The file has 64 cells. A value is taken modulo 2^32, an address that 64 bits can't hold is no cell's.
 #[test]

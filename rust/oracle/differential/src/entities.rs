@@ -91,6 +91,7 @@ pub fn some_entity(r: &mut Random, entities: usize) -> usize {
 }
 
 const POINTER: u16 = 7;
+const STORE_P_S: i16 = 39;
 
 /// Whether a difference is one of those that the Rust takes more, or less, by its own arithmetic and checks. What is said of the statement
 /// is read from the file and from the cells, not from this machine's answer alone.
@@ -119,7 +120,8 @@ pub fn by_design(call: &Call, counted: bool, rust: &Seen, ours: &Left) -> Option
         (30, 30) if entity >= call.entities => Some("Address of an entity that isn't there: the Rust makes the pointer"),
         (31, 30) if second >= per_entity => Some("Address of a field that isn't there: the Rust makes the pointer"),
         (16 | 31, 24..=29) if last(second) >= NAMED => Some(CUT),
-        (16 | 31, 37..=42) if last(second / 4 % per_entity) >= NAMED => Some(CUT),
+        // A negative string is refused after the field's checks; the Rust doesn't get past them.
+        (16 | 31, 37..=42) | (17, STORE_P_S) if last(second / 4 % per_entity) >= NAMED => Some(CUT),
         _ => None,
     }
 }

@@ -524,11 +524,16 @@ fn negative_in_fields() -> Vec<Fact> {
 /// The Rust's field numbers have 16 bits.
 fn cut_to_16_bits() -> Vec<Fact> {
     let load = |field: u32| program(&[[37, 31, 30, 0], [24, 28, 29, 32], DONE], &[(29, field), (30, 12), (31, ONE)]);
-    let mut long = load(32_768);
-    long.entity_cells = 40_000;
+    let long = |mut program: Program| {
+        program.entity_cells = 40_000;
+        program
+    };
+    let negative = program(&[[39, 31, 30, 0], DONE], &[(30, 4 * 32_768), (31, u32::MAX)]);
+    const CUT: &str = "error Entity error: Invalid address (-32768)";
     vec![
         fact("16 bits: LoadF of field 65,539", &load(65_539), "ends", "refused 31", Some((32, ONE, 0))),
-        fact("16 bits: LoadF of field 32,768 of 40,000 cells", &long, "error Entity error: Invalid address (-32768)", "ended", None),
+        fact("16 bits: LoadF of field 32,768 of 40,000 cells", &long(load(32_768)), CUT, "ended", None),
+        fact("16 bits: StorePS of ffffffff to field 32,768 of 40,000 cells", &long(negative), CUT, "refused 17", None),
     ]
 }
 
