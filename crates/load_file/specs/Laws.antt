@@ -105,3 +105,8 @@ module _ (seed n : ℕ) (small-seed : seed < 4294967296) (small-n : n < 42949672
         eq-eqb (0 + a + 1 + b + 1) (length line) whole,
       )
       refl
+
+-- a seed of more than 32 bits, 4294967297, is none
+over-32-bits : numbersOf (52 ∷ 50 ∷ 57 ∷ 52 ∷ 57 ∷ 54 ∷ 55 ∷ 50 ∷ 57 ∷ 55 ∷ 32 ∷ 55 ∷ 10 ∷ []) ≡ record { seed = 0; n = 7 }
+unfolding numbersOf numberFrom withDigit in32Bits
+over-32-bits = refl

@@ -1,5 +1,5 @@
 -- LOAD FILES BY HAND. Document 02's R-10 has no worked values of its own: the first four draws of three seeds (2463534242 is the seed in Marsaglia's "Xorshift RNGs", 2003),
--- and all that is drawn for that seed and n = 2. They were worked out from 02's words, not by the definition.
+-- and all that is drawn for that seed and n = 4. They were worked out from 02's words, not by the definition.
 use Prim.Native.Nat.{ℕ}
 use mathlib.Core.Path.{_≡_, refl}
 use mathlib.Core.List.{List, [], _∷_}
@@ -35,10 +35,12 @@ cells-drawn : drop 28 (cellsOf 2463534242)
 unfolding drawn after draw Ieee.ofInt Ieee.round Ieee.toBits
 cells-drawn = refl
 
-statements-drawn : statementsOf 2463534242 2
+statements-drawn : statementsOf 2463534242 4
     ≡ record { opcode = 0; arg1 = 0; arg2 = 0; arg3 = 0 }
     ∷ record { opcode = 8; arg1 = 52; arg2 = 35; arg3 = 53 }
     ∷ record { opcode = 6; arg1 = 49; arg2 = 35; arg3 = 59 }
+    ∷ record { opcode = 8; arg1 = 31; arg2 = 47; arg3 = 51 }
+    ∷ record { opcode = 1; arg1 = 29; arg2 = 42; arg3 = 32 }
     ∷ record { opcode = 43; arg1 = 28; arg2 = 0; arg3 = 0 }
     ∷ []
 unfolding drawn after draw drawnStatement opcodeOf

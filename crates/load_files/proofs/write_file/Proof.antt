@@ -32,7 +32,7 @@ unfolding layout
 short n h = omega arith
 
 returns : tie.Need-returns
-returns c = too-short _ _ _ (size (c .before .before)) (c .if1 .taken)
+returns c = too-short _ _ _ (size (c .before .before)) (omega (arith, c .if1 .taken))
 
 write-header-requires : tie.Need-write-header-requires
 write-header-requires c κs = (
@@ -53,7 +53,7 @@ write-lumps-requires c κs = room-second (header (c .before .before .before .bef
 
 returns-2 : tie.Need-returns-2
 returns-2 c =
-    all-written _ _ _ (size (c .before .before .before .before .before .before .before .before .before .before)) _ _ (c .before .before .before .before .before .before .before .before .if1 .left) (omega (arith, same-size (c .before .before .before .before .before .before .before .before .before .before), short _ (c .before .before .before .before .before .before .before .before .before .before .before .before .pre)))
+    all-written _ _ _ (size (c .before .before .before .before .before .before .before .before .before .before)) _ _ (omega (arith, c .before .before .before .before .before .before .before .before .if1 .left)) (omega (arith, same-size (c .before .before .before .before .before .before .before .before .before .before), short _ (c .before .before .before .before .before .before .before .before .before .before .before .before .pre)))
     (put-both (header (c .before .before .before .before .before .before .before .before .before .before .before .before)) _ _ (file-parts _ _) (header-put (c .before .before .before .before .before .before)) (c .before .before .write-lumps .ensures))
 
 pub write-file-spec : {M : Type 1} → statement M
