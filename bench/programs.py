@@ -2,6 +2,7 @@
 files of one size, which load alike. All end within 99,999 statements, the most that a run has here and in the Rust."""
 import os
 import struct
+import subprocess
 import sys
 
 ROOT = os.path.dirname(os.path.dirname(os.path.abspath(__file__)))
@@ -220,3 +221,21 @@ WRITINGS = [
     (short_file, (100, 1_100), (2_000, 32_000)),
     (long_file, (2, 12), (10, 160)),
 ]
+
+
+# what the program load_file is given: the seed, and the most statements that can be drawn
+LOAD_FILE_ASKED = b"2463534242 1000\n"
+
+
+def load_file():
+    """02's heavy file (R-10), as the program load_file makes it: 1,000 drawn statements, a Return, and a Done that nothing does."""
+    made = subprocess.run([os.path.join(ROOT, "target", "bin", "load_file")], input=LOAD_FILE_ASKED, check=True, capture_output=True)
+    return made.stdout
+
+
+# name, what rust/host/examples/bench.rs is told to do, what it must print for a number of times
+LOAD_FILES = [
+    ("making a load file of 1,000 drawn statements, 8,405 bytes", "make", lambda times: 8_405 * times),
+    ("loading it, and a call of its function: 1,001 statements", "load", lambda times: 1_001 * times),
+]
+LOAD_FILE_TIMES = (10, 110), (100, 1_600)

@@ -1,8 +1,9 @@
 #!/usr/bin/env python3
 """Runs the host's replay program on lists of calls and compares what it prints with what the model of tests/model answers.
 
-    python3 tests/run_replay.py REPLAY      the lists of calls.txt, images.txt, outcomes.txt and pairs.txt of tests/model/cases, the list of
-                                            rust/host/tests/replay, the rule files of tests/rules written, and lists made by chance
+    python3 tests/run_replay.py REPLAY      the lists of calls.txt, images.txt, outcomes.txt and pairs.txt of tests/model/cases, the load files of
+                                            load_files.txt, the list of rust/host/tests/replay, the rule files of tests/rules written, and lists
+                                            made by chance
     python3 tests/run_replay.py --write     writes the list of rust/host/tests/replay, with what the model prints for it
     python3 tests/run_replay.py --check     says whether the committed one is that
 
@@ -91,11 +92,13 @@ class Lent:
         if name in ("lend", "poke", "file"):
             getattr(self, name)(*given)
             return None
-        if name not in ("load", "sentence") and not self.loaded:
+        if name not in ("load", "sentence", "loadfile") and not self.loaded:
             return line + " => no state"
         machine = model.Machine(bytearray(self.program[:self.length]), self.cells, self.saved, self.entity_cells)
         if name == "sentence":
             answer = self.sentence(*given)
+        elif name == "loadfile":
+            answer = load_file(*given)
         elif name == "load":
             answer = self.load(machine, *given)
         elif name == "image":
@@ -141,6 +144,11 @@ class Lent:
             first = "%d %d %d %d %s" % (s.position, s.function, s.depth, s.saved, digest(frames.encode()))
         buffers = ("cells", self.cells), ("saved", self.saved), ("entity", self.entity_cells)
         return " ".join([first] + [self.digests.of(*buffer) for buffer in buffers])
+
+
+def load_file(seed, n, room):
+    output = bytearray([UNWRITTEN] * room)
+    return "%s %s" % (words_of("loadfile", model.write_load_file(seed, n, output)), digest(output))
 
 
 def words_of(name, answer):
@@ -194,6 +202,8 @@ def fixed_list():
         statement
         read 0
         image 0
+        loadfile 1 1 413
+        loadfile 1 1 412
         pairs 1 2
         run 0 1
         sentence 119
@@ -256,6 +266,12 @@ def fixed_list():
         statement
         run 0 9
         abandon 0
+        loadfile 2463534242 7 500
+        loadfile 4294967295 1000 8405
+        loadfile 0 7 500
+        loadfile 5 0 0
+        loadfile 5 1001 9000
+        loadfile 5 1000 0
         enter 5
         run 0 77
         sentence 120
@@ -390,6 +406,18 @@ def fixed_list():
     return data, [line.strip() for line in calls.strip().splitlines()]
 
 
+def load_file_lists():
+    """Load files written into buffers, then each that load_files.txt knows: loaded, written again, entered and run."""
+    asked = [line.split(" = ")[0].split(" ") for line in lines_of("load_files.txt")]
+    yield bytes(60), [" ".join(["loadfile"] + given) for kind, *given in asked if kind == "buffer"]
+    for kind, *given in asked:
+        if kind == "file":
+            seed, n = map(int, given)
+            program = model.load_file(seed, n)
+            yield program, ["load 0", "image %d" % len(program), "enter 1", "run 0 %d" % n, "run 0 %d" % (n + 1),
+                            "load 0", "enter 1", "run 0 %d" % (n + 1), "sentence 120", "loadfile %d %d %d" % (seed, n, len(program))]
+
+
 def rule_lists():
     """The rule files, each written before and during a run of its first function."""
     for name in sorted(os.listdir(RULES)):
@@ -426,7 +454,9 @@ def random_call(chance, length):
         return "poke %d %d" % (60 + chance.below(max(1, length - 60)), chance.below(256))
     if kind < 95:
         return "sentence %d" % chance.pick([120, 120, 121, 119, chance.below(200)])
-    if kind < 97:
+    if kind < 96:
+        return "loadfile %d %d %d" % (chance.pick([0, 1, chance.draw()]), chance.pick([0, 1, 2, 20, 1001]), chance.pick([0, 412, 413, 600]))
+    if kind < 98:
         return "image %d" % chance.pick([length, length, length + 1, max(0, length - 1), chance.below(2 * length + 1)])
     return chance.pick(["load 0", "load 2", "load -1", "lend 64 2048 2", "lend 64 2048 315", "lend 66 2050 210", "lend 66 2050 0", "lend 63 2048 1", "lend 64 2047 0", "file %d" % length,
                         "file %d" % max(0, length - 1), "file %d" % (length + 1), "poke 4 0", "poke 4 39",
@@ -495,7 +525,7 @@ def run(replay, program, calls):
 
 def compare(replay):
     counted, left_out, differ = 0, 0, 0
-    every = [fixed_list()] + [each for name in LISTS for each in lists(name)] + list(rule_lists()) + list(random_lists())
+    every = [fixed_list()] + [each for name in LISTS for each in lists(name)] + list(load_file_lists()) + list(rule_lists()) + list(random_lists())
     for program, calls in every:
         if not calls:
             left_out += 1

@@ -1,11 +1,12 @@
 #!/usr/bin/env python3
-"""Makes what the programs show, pad, file_cases, call_cases and trace read, and what they must write:
+"""Makes what the programs show, pad, load_file, file_cases, call_cases and trace read, and what they must write:
 
     python3 tools/cases.py            writes crates/NAME/stdin and crates/NAME/stdout
     python3 tools/cases.py --check    says which of the committed files are not these
 
 show's file and line are document 01's. Those of the others are taken from tests/model/cases, whose answers are the
-model's: pad reads one file of pads.txt (tests/run_pad.py runs it on all); file_cases reads `NAME LENGTH HEX` and writes `NAME LINE`; call_cases reads what stands before `=` in calls.txt
+model's: pad reads one file of pads.txt (tests/run_pad.py runs it on all), load_file a seed and n of load_files.txt
+(tests/run_load_file.py runs it on all); file_cases reads `NAME LENGTH HEX` and writes `NAME LINE`; call_cases reads what stands before `=` in calls.txt
 and writes what stands after it, and trace likewise in traces.txt. tests/model/README.md has the formats. Nothing here comes from a run of the machine.
 """
 import os
@@ -16,6 +17,8 @@ ROOT = os.path.dirname(os.path.dirname(os.path.abspath(__file__)))
 
 # the file of pads.txt that pad reads: lumps in another order, gaps between them, profile numbers
 PADDED = "47-cells-gaps"
+# the seed and n of load_files.txt that load_file reads
+LOAD_FILE = "2463534242 7"
 # opcodes of document 01's example
 DONE, ADD_F, RETURN = 0, 6, 43
 
@@ -60,6 +63,12 @@ def padded():
     return bytes_of(*given.split(" ")[1:]), bytes_of(*answer.split(" "))
 
 
+def load_file():
+    """The bytes of a load file of load_files.txt."""
+    start = "bytes " + LOAD_FILE + " = "
+    return next(bytes_of(*line[len(start):].split(" ")) for line in lines("load_files.txt") if line.startswith(start))
+
+
 def made():
     """Each file below crates/ with its bytes."""
     files = [line.split(" ") for line in lines("files.txt")]
@@ -67,6 +76,8 @@ def made():
     traces = [line.split(" = ") for line in lines("traces.txt")]
     unpadded, written = padded()
     return {
+        "load_file/stdin": text([LOAD_FILE]),
+        "load_file/stdout": load_file(),
         "pad/stdin": unpadded,
         "pad/stdout": written,
         "show/stdin": example(),

@@ -1,5 +1,5 @@
 """Writes the case files: cases/statements.txt, files.txt, calls.txt, traces.txt, images.txt, pads.txt, sentences.txt,
-outcomes.txt and pairs.txt.
+outcomes.txt, pairs.txt and load_files.txt.
 
 What is expected in them is what model.py answers.  README.md says how to read them.  The same
 files come out every time: the only chance numbers are those of a xorshift with fixed seeds.
@@ -10,6 +10,7 @@ import os
 from call_cases import call_cases
 from file_cases import file_cases
 from image_cases import image_cases
+from load_file_cases import load_file_cases
 from pad_cases import pad_cases
 from pair_cases import pair_cases
 from sentence_cases import outcome_cases, sentence_cases
@@ -24,6 +25,7 @@ def make():
     makers = {"statements.txt": statement_vectors(), "files.txt": file_cases(), "calls.txt": call_cases()}
     makers |= {"traces.txt": trace_cases(), "images.txt": image_cases(), "pads.txt": pad_cases()}
     makers |= {"sentences.txt": sentence_cases(), "outcomes.txt": outcome_cases(), "pairs.txt": pair_cases()}
+    makers |= {"load_files.txt": load_file_cases()}
     texts = {name: "\n".join(maker.lines) + "\n" for name, maker in makers.items()}
     return texts, makers
 

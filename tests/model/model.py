@@ -7,6 +7,7 @@ be read beside 01 and to be run, not to be fast.
     python3 model.py < FILE     prints the show program's line for FILE
 """
 
+import re
 import struct
 import sys
 from collections import namedtuple
@@ -1122,6 +1123,59 @@ class Assembly:
     def place(self, lump, index=0):
         """Where a record begins in the file."""
         return self.lumps[2 * lump] + RECORD_SIZES[lump] * index
+
+
+# ---------------------------------------------------------------------------------------------
+# Load files (R-10)
+# ---------------------------------------------------------------------------------------------
+
+GREATEST_SEED = 2**32 - 1
+MOST_LOAD_STATEMENTS = 1_000
+
+
+def draws(s):
+    """ "each draw replaces s three times .. each kept to 32 bits, and gives s" """
+    while True:
+        s ^= s << 13 & 0xFFFFFFFF
+        s ^= s >> 17
+        s ^= s << 5 & 0xFFFFFFFF
+        yield s
+
+
+def load_file(seed, n):
+    """The bytes of the load file of a seed and n statements between the first and the last."""
+    drawn = draws(seed)
+    # "cells 28 to 63 take a draw modulo 256 as a float, the others 0"
+    cells = {cell: float_of(next(drawn) % 256) for cell in range(28, 64)}
+    statements = [("Done", 0, 0, 0)]
+    for _ in range(n):
+        opcode = ("MulF", "AddF", "SubF")[next(drawn) % 3]
+        statements.append((opcode, *[28 + next(drawn) % 36 for _ in range(3)]))
+    statements.append(("Return", 28, 0, 0))
+    # the assembler's form, without gaps, is R-6's; 64 cells, 105 cells per entity, strings of one zero byte
+    return bytes(Assembly(statements, [function(), function(1)], cells=cells).bytes())
+
+
+def write_load_file(seed, n, output):
+    """Writes it into an output buffer; the answer has its length."""
+    # "A seed of 0 or another n is refused 35, then a short output buffer 34; nothing is written."
+    if not (1 <= seed <= GREATEST_SEED and 1 <= n <= MOST_LOAD_STATEMENTS):
+        return Answer("refused", 35)
+    file = load_file(seed, n)
+    if len(file) > len(output):
+        return Answer("refused", 34)
+    for index, byte in enumerate(file):
+        output[index] = byte
+    return Answer("accepted", len(file))
+
+
+def load_file_program(text):
+    """All that the program writes for its input: seed and n in decimal digits, a blank between them, a line end."""
+    given = re.fullmatch(rb"([0-9]+) ([0-9]+)\n", text)
+    seed, n = map(int, given.groups()) if given else (0, 0)
+    output = bytearray(LARGEST_SHOWN)
+    answer = write_load_file(seed, n, output)
+    return b"refused,35\n" if answer.word == "refused" else bytes(output[: answer.detail])
 
 
 if __name__ == "__main__":

@@ -162,6 +162,28 @@ def replay_sentences(model):
         yield line, (expected.encode(), outcome), (model.sentence(outcome), model.read_sentence(expected.encode()))
 
 
+def replay_load_files(model):
+    for line in lines_of("load_files.txt"):
+        given, expected = line.split(" = ")
+        yield line, expected, load_file_answer(model, *given.split(" "))
+
+
+def load_file_answer(model, kind, *given):
+    """What stands after `=`."""
+    if kind == "input":
+        written = model.load_file_program(bytes.fromhex(given[0].strip("-")))
+        return written.decode().rstrip("\n") if written.startswith(b"refused") else f"{len(written)} {fnv(written)}"
+    seed, n, *room = map(int, given)
+    if kind == "buffer":
+        output = bytearray([238] * room[0])
+        answer = model.write_load_file(seed, n, output)
+        return f"{answer.word} {answer.detail} {fnv(bytes(output))}"
+    file = model.load_file(seed, n)
+    if kind == "bytes":
+        return f"{len(file)} {file.rstrip(bytes(1)).hex()}"
+    return f"{len(file)} {fnv(file)} {model.show(file)}"
+
+
 def replay_lists(model, name):
     for line in lines_of(name):
         kind, *words = line.split(" ")
@@ -250,7 +272,7 @@ def replay_traces(model):
 
 
 REPLAYS = (replay_statements, replay_calls, replay_files, replay_traces, replay_images, replay_pads)
-REPLAYS += (replay_sentences, replay_outcomes, replay_pairs)
+REPLAYS += (replay_sentences, replay_outcomes, replay_pairs, replay_load_files)
 
 
 def differences(model):

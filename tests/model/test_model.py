@@ -1494,6 +1494,73 @@ class OutcomeSentences(unittest.TestCase):
         self.assertEqual(words, {"ended", "refused", "builtin", "opcode"})
 
 
+class LoadFiles(unittest.TestCase):
+    """R-10: load files."""
+
+    def test_draws(self):
+        """Worked out by hand for seed 1; 723471715 is Marsaglia's first number for his seed."""
+        drawn = model.draws(1)
+        # 1 ^ 1 << 13 = 8193; >> 17 is 0; 8193 ^ 8193 << 5 = 270369
+        self.assertEqual(next(drawn), 270369)
+        self.assertEqual(next(drawn), 67634689)
+        self.assertEqual(next(model.draws(2463534242)), 723471715)
+        for seed in (1, 2, 2463534242, 4294967295):
+            drawn, chance = model.draws(seed), Xorshift(seed)
+            self.assertEqual([next(drawn) for _ in range(2000)], [chance.draw() for _ in range(2000)])
+
+    def test_byte_for_byte(self):
+        """Seed 1 and n 1: 36 draws for cells 28 to 63, then opcode and three operands."""
+        drawn = model.draws(1)
+        numbers = [next(drawn) for _ in range(40)]
+        header = struct.pack("<15i", 6, 5927, 60, 3, 84, 0, 84, 0, 84, 2, 156, 1, 157, 64, 105)
+        opcode = (1, 6, 8)[numbers[36] % 3]
+        statements = struct.pack("<12h", 0, 0, 0, 0, opcode, *[28 + number % 36 for number in numbers[37:]], 43, 28, 0, 0)
+        functions = bytes(36) + b"\1" + bytes(35)
+        cells = bytes(4 * 28) + b"".join(struct.pack("<f", number % 256) for number in numbers[:36])
+        self.assertEqual(model.load_file(1, 1), header + statements + functions + bytes(1) + cells)
+        # 270369 = 33 modulo 256, 67634689 = 1
+        self.assertEqual(cells[112:120], bytes.fromhex("00000442 0000803f"))
+
+    def test_the_same_beginning(self):
+        """With another n the cells and the first statements are the same."""
+        for seed in (1, 77, 4294967295):
+            short, long = model.load_file(seed, 5), model.load_file(seed, 1000)
+            self.assertEqual(short[-256:], long[-256:])
+            self.assertEqual(short[60 : 60 + 8 * 6], long[60 : 60 + 8 * 6])
+
+    def test_the_promise(self):
+        """It loads, function 1 ends after n + 1 statements under every limit above n, and R-6 writes the same bytes."""
+        chance = Xorshift(1812433253)
+        for n in (1, 2, 36, 999, 1000, *[1 + chance.below(1000) for _ in range(20)]):
+            file = model.load_file(chance.draw(), n)
+            machine = Machine(bytearray(file), [0xDEAD] * 64, [0xBEEF] * 2048)
+            for limit in (n + 1, n + 2, 99_999):
+                self.assertEqual(machine.load(), ACCEPTED)
+                self.assertEqual(machine.enter(1), ACCEPTED)
+                self.assertEqual(machine.run(0, limit), Answer("ended", 0, n + 1))
+                self.assertEqual((machine.state.position, machine.state.function, machine.state.depth), (0, 0, 0))
+            self.assertEqual(written(machine), file)
+            self.assertEqual(model.pad(file), file)
+            machine.load(), machine.enter(1)
+            self.assertEqual(machine.run(0, n), Answer("spent", 0, n))
+            self.assertEqual(contents(machine)[2:4], ([[], []], b"\0"))
+
+    def test_refusals(self):
+        for seed, n, room, number in ((0, 1, 9000, 35), (1, 0, 9000, 35), (1, 1001, 9000, 35), (0, 1, 0, 35), (1, 1001, 0, 35), (1, 1, 412, 34), (1, 1000, 8404, 34)):
+            output = bytearray([238] * room)
+            self.assertEqual(model.write_load_file(seed, n, output), refused(number))
+            self.assertEqual(output, bytes([238] * room))
+        output = bytearray([238] * 415)
+        self.assertEqual(model.write_load_file(9, 1, output), Answer("accepted", 413))
+        self.assertEqual(output, model.load_file(9, 1) + bytes([238] * 2))
+        self.assertEqual(model.write_load_file(4294967295, 1000, bytearray(8405)), Answer("accepted", 8405))
+
+    def test_program(self):
+        self.assertEqual(model.load_file_program(b"5 7\n"), model.load_file(5, 7))
+        for text in (b"0 7\n", b"4294967296 7\n", b"5 0\n", b"5 1001\n", b"5\n", b"", b"a b\n", b"-5 7\n"):
+            self.assertEqual(model.load_file_program(text), b"refused,35\n")
+
+
 class CaseFiles(unittest.TestCase):
     @classmethod
     def setUpClass(cls):
@@ -1550,8 +1617,10 @@ class CaseFiles(unittest.TestCase):
         self.assertEqual(images, {13, 34})
         pads = {int(got[8:]) for _, got in self.makers["pads.txt"].seen if got.startswith(b"refused,")}
         self.assertEqual(pads, {*range(1, 12), 34})
+        loads = {answer[1] for given, answer in self.makers["load_files.txt"].seen if given.startswith("buffer ") and answer[0] == "refused"}
+        self.assertEqual(loads, {34, 35})
         # 26 can't be met after 13; 8 and 9 are a field definition's in the files
-        self.assertEqual(calls | files | images, set(range(1, 35)) - {26})
+        self.assertEqual(calls | files | images | loads, set(range(1, 36)) - {26})
         # a file alone can't reach these: nothing lent is short, no state is made up, nothing changed
         self.assertEqual(set(range(1, 25)) - files, {12, 13})
         # without entities 31 isn't reached

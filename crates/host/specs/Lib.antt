@@ -3,3 +3,4 @@ pub mod Found
 pub mod Layout
 pub mod Writing
 pub mod Display
+pub mod Making

@@ -10,7 +10,7 @@ pub struct WriteReply {
     pub refusal: u32,
 }
 
-fn reply_written(answer: WriteAnswer) -> WriteReply
+pub fn reply_written(answer: WriteAnswer) -> WriteReply
     ensures { λ r. ⌜ r ≡ writeReply answer ⌝ }
 {
     match answer {

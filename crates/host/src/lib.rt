@@ -16,6 +16,7 @@ use progs::load;
 
 mod display;
 mod layout;
+mod making;
 mod records;
 
 // A refused load gives a context of zeros, which every operation refuses 13.

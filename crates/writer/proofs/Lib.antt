@@ -2,4 +2,4 @@
 mod Copying
 mod Headers
 mod Functions
-mod Program
+pub mod Program

@@ -76,7 +76,7 @@ fn write_two(out: &mut [u8], at: usize, a: usize, b: usize) -> usize
 }
 
 // The header: version and check number, offset and count of each lump, cells per entity.
-fn write_header(out: &mut [u8], check: u32, r: FileRecord) -> usize
+pub fn write_header(out: &mut [u8], check: u32, r: FileRecord) -> usize
     requires { ⌜ 60 ≤ length (now out) ⌝ }
     requires { ⌜ Small r ⌝ }
     ensures { λ e. ⌜ output (now (out .exit)) e ≡ put (bytesOf u32Bytes (headerNumbers check r)) (output (now (out .entry)) 0) ⌝ }
@@ -160,7 +160,7 @@ fn behind(size: usize, lump: Lump, next: Lump) -> Lump
 }
 
 // The lumps without gaps, behind the header.
-fn laid_out(r: FileRecord) -> FileRecord
+pub fn laid_out(r: FileRecord) -> FileRecord
     requires { ⌜ Counted r ⌝ }
     ensures { λ l. ⌜ l ≡ laidOut r ⌝ }
 {

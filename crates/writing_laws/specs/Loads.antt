@@ -52,7 +52,7 @@ lump-fits size end l some inside short =
     let many : 1 * l .count ≤ size * l .count = mul-le-mul-right (l .count) some in
     rw (lt-leb 2147483648 (l .offset) (omega arith), lt-leb 2147483648 (l .count) (omega (arith, one-mul (l .count))), le-leb (endOf size l) end inside) (or-true (eqb (l .count) 0))
 
-layout-fits : (s g d u t c e : ℕ) → layout s g d u t c e .length ≤ 1048576 → lumpsFit (layout s g d u t c e) ≡ true
+pub layout-fits : (s g d u t c e : ℕ) → layout s g d u t c e .length ≤ 1048576 → lumpsFit (layout s g d u t c e) ≡ true
 unfolding layout lumpsFit
 layout-fits s g d u t c e h =
     let r : FileRecord = layout s g d u t c e in

@@ -11,6 +11,8 @@
 //! | `set_field` | a write of it | what stands there |
 //! | `named_field` | a read of it by its name | the sum |
 //! | `image` | the program file written to a buffer, the same each time | the sum of the lengths |
+//! | `make` | the load file of [`SEED`] with 1,000 drawn statements written to a buffer, the same each time | the sum of the lengths |
+//! | `load` | a load without entities, and a call of function 1 | all statements |
 
 use std::env;
 use std::error::Error;
@@ -18,7 +20,7 @@ use std::fs;
 use std::hint::black_box;
 use std::process::ExitCode;
 
-use host::{Machine, Program, Settings, CELLS, IMAGE, SAVED_STORE};
+use host::{write_load_file, Machine, Program, Settings, CELLS, IMAGE, LOAD_FILE, SAVED_STORE};
 
 /// The most that a call may take.
 const LIMIT: i64 = 99_999;
@@ -27,6 +29,10 @@ const FUNCTION: i64 = 1;
 const CELL: i64 = 28;
 const PLAYER: i64 = 1;
 const FRAGS: &str = "frags";
+
+/// Of the load file that is made.
+const SEED: u32 = 2_463_534_242;
+const MOST_DRAWN: i64 = 1_000;
 
 fn run(machine: &mut Machine) -> Result<String, Box<dyn Error>> {
     let count = machine.call(FUNCTION, LIMIT, |_, _| Err("no builtins here"))?;
@@ -91,6 +97,18 @@ fn measured(what: &str, machine: &mut Machine, times: u32) -> Result<String, Box
             let mut output = vec![0; IMAGE];
             for _ in 0..times {
                 total += machine.write_image(black_box(&mut output))? as u64;
+            }
+        }
+        "make" => {
+            let mut output = vec![0; LOAD_FILE];
+            for _ in 0..times {
+                total += write_load_file(SEED, MOST_DRAWN, black_box(&mut output))? as u64;
+            }
+        }
+        "load" => {
+            for _ in 0..times {
+                machine.load()?;
+                total += u64::from(call(machine)?);
             }
         }
         "field" | "set_field" | "named_field" => {

@@ -8,7 +8,9 @@ use std::io::{self, BufRead, BufWriter, Write};
 use std::num::{IntErrorKind, ParseIntError};
 use std::process::ExitCode;
 
-use host::{Handover, LoadError, Machine, Outcome, Refusal, Run, RunOutcome, Settings};
+use host::{
+    write_load_file, Handover, LoadError, Machine, Outcome, Refusal, Run, RunOutcome, Settings,
+};
 
 /// The cells and the saved store that are lent before any `lend`, and no entity cells.
 const CELLS: u32 = 64;
@@ -58,6 +60,7 @@ enum Call {
     Pairs(Vec<i64>),
     Image(u32),
     Sentence(u32),
+    LoadFile(u32, i64, u32),
 }
 
 /// What is lent, and the machine over it.
@@ -119,7 +122,7 @@ impl Replay {
 
     /// What a call answers and leaves, in words.
     fn call(&mut self, call: Call) -> Result<String, LoadError> {
-        let stateless = matches!(call, Call::Load(_) | Call::Sentence(_));
+        let stateless = matches!(call, Call::Load(_) | Call::Sentence(_) | Call::LoadFile(..));
         if !self.machine.loaded() && !stateless {
             return Ok("no state".to_string());
         }
@@ -179,6 +182,9 @@ fn operate(machine: &mut Machine, last: &mut Run, call: Call) -> Result<String, 
         },
         Call::Image(length) => written(length, |output| machine.write_image(output)),
         Call::Sentence(length) => written(length, |display| last.write_sentence(display)),
+        Call::LoadFile(seed, n, length) => {
+            written(length, |output| write_load_file(seed, n, output))
+        }
         Call::Statement => match machine.statement() {
             Outcome::Completed => "completed 0".to_string(),
             Outcome::Refused(refusal) => refused(refusal),
@@ -262,6 +268,9 @@ fn parse_call(words: &[&str]) -> Option<Call> {
         ["write", address, value] => Call::Write(number(address)?, low_bits(value)?),
         ["image", length] => Call::Image(length.parse().ok()?),
         ["sentence", length] => Call::Sentence(length.parse().ok()?),
+        ["loadfile", seed, n, length] => {
+            Call::LoadFile(seed.parse().ok()?, number(n)?, length.parse().ok()?)
+        }
         _ => return None,
     })
 }

@@ -7,7 +7,7 @@
 //! number of document 01 or 02 with its sentence. [`Machine::call`] does what a server does with a function: it enters, runs, has
 //! the host answer what is handed over, and leaves the machine at the depth where it was, however the call went.
 //! [`Machine::field`] and [`Machine::field_mut`] read and set the fields of entities, by name and type. What a run answers,
-//! [`Run`], prints as a sentence for a display.
+//! [`Run`], prints as a sentence for a display. [`load_file`] makes heavy files for benches.
 //!
 //! What the library promises is proved. What this crate does around it is not: it is Rust, tested. A load checks what
 //! both stand on: that the library is the crate's own, and the processor's floating-point mode ([`LoadError`]).
@@ -52,6 +52,7 @@ mod float_mode;
 mod layout;
 #[allow(unsafe_code)]
 mod library;
+mod load_file;
 mod machine;
 mod program;
 mod refusal;
@@ -63,6 +64,7 @@ pub use context::{Context, FileRecord, Lump, StackFrame, FRAMES};
 pub use field::{Field, FieldError, FieldMut};
 pub use float_mode::{check_float_mode, FloatModeError};
 pub use layout::LayoutError;
+pub use load_file::{load_file, write_load_file, LOAD_FILE};
 pub use machine::{
     Handover, Machine, Outcome, Run, RunOutcome, Settings, CELLS, ENTITIES, IMAGE, PAIRS,
     SAVED_STORE,

@@ -18,6 +18,7 @@ use std::sync::OnceLock;
 
 use crate::context::{Context, FileRecord};
 use crate::layout::{self, LayoutError};
+use crate::refusal::Refusal;
 
 /// The context after an operation, and its answer.
 #[repr(C)]
@@ -98,6 +99,16 @@ pub struct WriteReply {
     pub refusal: u32,
 }
 
+impl WriteReply {
+    /// The length, or why nothing was written.
+    pub fn written(self) -> Result<usize, Refusal> {
+        match self.refusal {
+            0 => Ok(self.length),
+            number => Err(Refusal::new(number)),
+        }
+    }
+}
+
 /// All structs that the library answers, as `host_layout` gives them.
 #[repr(C)]
 pub struct Structs {
@@ -136,6 +147,7 @@ extern "C" {
     fn host_write_all(out: *mut Reply, context: Context, file: *const u8, file_len: usize, numbers: *const i64, numbers_len: usize, cells: *mut u32, cells_len: usize, saved: *const u32, saved_len: usize, entities: *const u32, entities_len: usize) -> *mut Reply;
     fn host_write_file(out: *mut Reply, context: Context, file: *const u8, file_len: usize, cells: *const u32, cells_len: usize, saved: *const u32, saved_len: usize, entities: *const u32, entities_len: usize, output: *mut u8, output_len: usize) -> *mut Reply;
     fn host_sentence(word: u32, detail: u32, count: u32, position: i64, function: usize, display: *mut u8, display_len: usize) -> WriteReply;
+    fn host_make_file(seed: u32, n: i64, output: *mut u8, output_len: usize) -> WriteReply;
     fn host_read_header(file: *const u8, file_len: usize) -> Found<FileRecord>;
     fn host_read_statement(file: *const u8, file_len: usize, recorded: FileRecord, pc: i64) -> Found<StatementRecord>;
     fn host_read_function(file: *const u8, file_len: usize, recorded: FileRecord, id: i64) -> Found<FunctionRecord>;
@@ -466,6 +478,13 @@ pub fn sentence(answer: Answer, position: i64, function: usize, display: &mut [u
             display.len(),
         )
     }
+}
+
+/// The load file of a seed and n drawn statements at the front of the output buffer.
+pub fn make_file(seed: u32, n: i64, output: &mut [u8]) -> WriteReply {
+    assert_layout();
+    // SAFETY: see the module's text.
+    unsafe { host_make_file(seed, n, output.as_mut_ptr(), output.len()) }
 }
 
 /// What the header says of the file; nothing where the length isn't one that a file may have.

@@ -6,8 +6,8 @@ use std::fmt;
 use crate::float_mode::FloatModeError;
 use crate::layout::LayoutError;
 
-/// The sentences of the numbers 1 to 34.
-const SENTENCES: [&str; 34] = [
+/// The sentences of the numbers 1 to 35.
+const SENTENCES: [&str; 35] = [
     "the file is shorter than 60 bytes or longer than 1,048,576",
     "the version isn't 6",
     "the check number isn't 5927",
@@ -42,6 +42,7 @@ const SENTENCES: [&str; 34] = [
     "a pointer is negative, no multiple of 4 or past the last entity, or one to be made is over 2,147,483,647",
     "EqS, NeS or NotS reads a string number that is negative or not below the length of the strings",
     "the output buffer is shorter than the file to be written, or that is longer than 1,048,576 bytes",
+    "the seed of a load file is 0, or its number of drawn statements isn't 1 to 1,000",
 ];
 
 /// Why an operation was refused: document 01's number, and its sentence.

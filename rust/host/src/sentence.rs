@@ -58,12 +58,7 @@ impl Run {
     /// assert_eq!(display[58..], [b'#'; 72]);
     /// ```
     pub fn write_sentence(&self, display: &mut [u8]) -> Result<usize, Refusal> {
-        let written = library::sentence(self.answer(), self.position, self.function, display);
-        if written.refusal == 0 {
-            Ok(written.length)
-        } else {
-            Err(Refusal::new(written.refusal))
-        }
+        library::sentence(self.answer(), self.position, self.function, display).written()
     }
 
     /// The answer in the library's numbers.
