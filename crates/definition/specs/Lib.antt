@@ -12,7 +12,7 @@ pub mod Written
 pub mod Answers
 pub mod Starred
 pub mod Rounding
-pub mod Requests
+pub mod ChangeRequests
 pub mod Calls
 pub mod Log
 pub mod Trace

@@ -1,4 +1,4 @@
--- REQUESTS OF DOCUMENT 02: one row or two of each that changed what a statement or a load does, R-1 apart (Rounding). The whole of them is in `crates/rows`:
+-- CHANGE REQUESTS OF DOCUMENT 02: one row or two of each that changed what a statement or a load does, R-1 apart (Rounding). The whole of them is in `crates/rows`:
 -- what stands here is what a wrong definition is refused by in this crate.
 use Prim.Native.Nat.{ℕ}
 use mathlib.Core.List.{List, [], _∷_}
