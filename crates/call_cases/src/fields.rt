@@ -58,6 +58,10 @@ pub fn with_field(context: ExecutionContext, i: usize, v: i64) -> ExecutionConte
         16 => next.depth = natural(v),
         17 => next.saved = natural(v),
         80 => next.entity_count = natural(v),
+        81 => next.settings.check_number = natural(v),
+        82 => next.settings.depth = natural(v),
+        83 => next.settings.saved = natural(v),
+        84 => next.settings.limit = natural(v),
         _ => return with_frame(context, i - 18, v),
     }
     next

@@ -10,10 +10,11 @@ use lib.IntN.{ℤ, pos}
 use lib.ListN.{length, getD, set, replicate, length-set, length-replicate}
 use lib.Dec.{eqb}
 use lib.Seq.{getD-set-same, getD-set-other}
+use Rattle.definition.specs.declared.Settings.{Settings}
 use Rattle.definition.specs.declared.StackFrame.{StackFrame}
 use Rattle.definition.specs.Checks.{Condition, Conditions, accepted}
 use Rattle.definition.specs.File.{greatestDepth}
-use Rattle.definition.specs.Machine.{Program, Config, zeroFrame, limits, copied, successive, withCells}
+use Rattle.definition.specs.Machine.{Program, Config, zeroFrame, copied, successive, withCells}
 use Rattle.definition.specs.Machine.{entryConditions, entered, left}
 use Rattle.definition.specs.Load.{load, programOf}
 use Rattle.definition.specs.Calls.{Call}
@@ -76,11 +77,11 @@ module _ (file : List ℕ) where
   Preserved κ c l c′ = Preserves file (λ c l. ZeroAbove c) FramesBy κ c l c′
 
   entered-frames : (c : Config) (l : Log) (f : ℕ) (back : ℤ) → ZeroAbove c → All (entryConditions P f c) → Preserved (entry f back) c l (entered P f back c)
-  unfolding entryConditions entered limits
+  unfolding entryConditions entered
   entered-frames c l f back k h =
       let s = c .state in
       let frame : StackFrame = record { «instr_id» = back; «func_id» = s .function } in
-      let shallow : s .depth < greatestDepth = ltb-true (s .depth) greatestDepth (h .1 .0) in (
+      let shallow : s .depth < s .settings .depth = ltb-true (s .depth) (s .settings .depth) (h .1 .0) in (
         (entry-touches P f back c, getD-set-same (s .frames) (s .depth) frame zeroFrame (omega (arith, k .number))),
         record {
           number = length-set (s .frames) (s .depth) frame ∙ k .number;
@@ -110,10 +111,10 @@ module _ (file : List ℕ) where
         leave-one = λ c l k h. left-frames c l k;
       }
 
-pub frames-by : (file : List ℕ) (n : ℤ) (cells saved entities : List ℕ) (c : Config) → load file n cells saved entities ≡ accepted c → (calls : List Call)
+pub frames-by : (s : Settings) (file : List ℕ) (n : ℤ) (cells saved entities : List ℕ) (c : Config) → load s file n cells saved entities ≡ accepted c → (calls : List Call)
     → Always file FramesBy (λ c′ l. ZeroAbove c′) c [] calls
-frames-by file n cells saved entities c accepts calls =
-    let started = load-starts file n cells saved entities c accepts in
+frames-by s file n cells saved entities c accepts calls =
+    let started = load-starts s file n cells saved entities c accepts in
     always file (λ c′ l. ZeroAbove c′) FramesBy (frames-inductive file) (λ c′ l. ZeroAbove c′) (λ c′ l k. k) c [] calls
     (record {
       number = ap length (started .frames) ∙ length-replicate greatestDepth zeroFrame;

@@ -22,6 +22,7 @@ abbrev pub stateOf : ExecutionContext → State
 stateOf x =
     record {
       file = x .file;
+      settings = x .settings;
       pc = x .pc;
       function = x .«current_function»;
       depth = x .depth;
@@ -73,6 +74,9 @@ pub record Within (file : List ℕ) (x : ExecutionContext) (cells saved entities
   pub most : x .file .globals .count ≤ 32768
   pub lent : x .file .globals .count ≤ cells
   pub store : 2048 ≤ saved
+  pub deepest : x .settings .depth ≤ 31
+  pub fullest : x .settings .saved ≤ 2048
+  pub longest : x .settings .limit ≤ 99999
   pub depth : x .depth ≤ 31
   pub held : x .saved ≤ 2048
   pub size-least : 105 ≤ x .file .entityfields

@@ -4,7 +4,7 @@ use borrow.Author.Tests.{not-true, not-false}
 use lib.ListN.{length}
 use Rattle.definition.specs.File.{leastCells}
 use Rattle.definition.specs.Load.{recordedIn}
-use Rattle.progs.proofs.StateLaws.{unrecorded, short-store, too-deep, too-full, no-room, adding-up, loaded-of, size-of}
+use Rattle.progs.proofs.StateLaws.{unrecorded, short-store, out-of-range, too-deep, too-full, no-room, adding-up, loaded-of, size-of}
 use borrow.Author.Needs.{needs}
 use Rattle.progs.proofs.ExecutionContext.check_state.Statement.{statement}
 use Rattle.progs.proofs.ExecutionContext.check_state.Tie as tie
