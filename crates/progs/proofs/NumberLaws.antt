@@ -90,8 +90,8 @@ module _ (P : Program) (f : ℕ) (x : ExecutionContext) (cells saved : List ℕ)
       entry-room range =
           let h = judge-passed (entryConditions P f (bare x)) clear in
           let l : r .locals ≡ functionOf P f .locals = ap (λ (z : Entering). z .entry .locals) gives in
-          let fits = leb-true _ _ (and-right (not (negative (functionOf P f .locals))) (leb (x .saved + functionOf P f .locals) (x .settings .saved)) (h .1 .1 .0)) in
-          (omega (arith, ltb-true _ _ (h .1 .0), range .depth-most), rw l (omega (arith, fits, range .saved-most)))
+          let fits = leb-true (x .saved + functionOf P f .locals) (x .settings .saved) (and-right (not (negative (functionOf P f .locals))) (leb (x .saved + functionOf P f .locals) (x .settings .saved)) (h .1 .1 .0)) in
+          (omega (arith, ltb-true (x .depth) (x .settings .depth) (h .1 .0), range .depth-most), rw l (omega (arith, fits, range .saved-most)))
 
       pub entered-config : (entities : List ℕ) (back : ℤ) → config (enteredContext x f (r .first) (r .locals) back) cells′ saved′ entities ≡ entered P f back (config x cells saved entities)
       unfolding entered

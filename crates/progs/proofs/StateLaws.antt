@@ -128,8 +128,8 @@ module _ (file cells saved entities : List ℕ) (x : ExecutionContext) where
       let h3 = and-left (r && s && roomy && fit) d h4 in
       let h2 = and-left (r && s && roomy) fit h3 in
       let range = settings-fit (x .settings) (and-right (r && s && roomy) fit h3) in
-      let deep = leb-true _ _ (and-right (r && s && roomy && fit) d h4) in
-      let full = leb-true _ _ (and-right (r && s && roomy && fit && d && p) l h5) in
+      let deep = leb-true (x .depth) (x .settings .depth) (and-right (r && s && roomy && fit) d h4) in
+      let full = leb-true (x .saved) (x .settings .saved) (and-right (r && s && roomy && fit && d && p) l h5) in
       let k = recorded file (x .file) (length cells) (and-left r s (and-left (r && s) roomy h2)) in
       let e = entities-room (x .«entity_count») (x .file .entityfields) (length entities) (and-right (r && s) roomy h2) in
       record {
