@@ -1,6 +1,7 @@
 // A state is the host's to make up: a number of it is changed, by the numbering of tests/model/README.md.
 use definition::FileRecord;
 use definition::GREATEST_DEPTH;
+use definition::Settings;
 use functions::fetch;
 use progs::ExecutionContext;
 
@@ -31,6 +32,18 @@ fn with_number(file: FileRecord, i: usize, v: usize) -> FileRecord {
     file
 }
 
+// The settings, from the check number on.
+fn with_setting(settings: Settings, i: usize, v: usize) -> Settings {
+    let mut settings = settings;
+    match i {
+        81 => settings.check_number = v,
+        82 => settings.depth = v,
+        83 => settings.saved = v,
+        _ => settings.limit = v,
+    }
+    settings
+}
+
 // Position and function of a frame, the lowest first.
 fn with_frame(context: ExecutionContext, i: usize, v: i64) -> ExecutionContext {
     let mut next = context;
@@ -52,16 +65,17 @@ pub fn with_field(context: ExecutionContext, i: usize, v: i64) -> ExecutionConte
         next.file = with_number(file, i, natural(v));
         return next;
     }
+    if 80 < i && i < 85 {
+        let settings = context.settings;
+        next.settings = with_setting(settings, i, natural(v));
+        return next;
+    }
     match i {
         14 => next.pc = v,
         15 => next.current_function = natural(v),
         16 => next.depth = natural(v),
         17 => next.saved = natural(v),
         80 => next.entity_count = natural(v),
-        81 => next.settings.check_number = natural(v),
-        82 => next.settings.depth = natural(v),
-        83 => next.settings.saved = natural(v),
-        84 => next.settings.limit = natural(v),
         _ => return with_frame(context, i - 18, v),
     }
     next

@@ -5,6 +5,7 @@ use lib.IntN.{ℤ, pos}
 use lib.ListN.{set, replicate}
 use Rattle.definition.specs.declared.Lump.{Lump}
 use Rattle.definition.specs.declared.FileRecord.{FileRecord}
+use Rattle.definition.specs.declared.Settings.{Settings}
 use Rattle.definition.specs.declared.StackFrame.{StackFrame}
 use Rattle.definition.specs.Machine.{zeroFrame}
 use Rattle.progs.specs.declared.ExecutionContext.{ExecutionContext}
@@ -28,6 +29,9 @@ numberedFile n =
       entityfields = n + 13;
     }
 
+abbrev pub numberedSettings : Settings
+numberedSettings = record { «check_number» = 15; depth = 16; saved = 17; limit = 18 }
+
 abbrev pub numberedFrame : ℕ → StackFrame
 numberedFrame i = record { «instr_id» = pos (24 + 2 * i); «func_id» = 25 + 2 * i }
 
@@ -40,13 +44,13 @@ abbrev pub numberedContext : ExecutionContext
 numberedContext =
     record {
       file = numberedFile 1;
-      settings = record { «check_number» = 15; depth = 16; saved = 17; limit = 18 };
+      settings = numberedSettings;
       pc = pos 19;
       «current_function» = 20;
       depth = 21;
       saved = 22;
       «entity_count» = 23;
-      frames = numberedFrames 35;
+      frames = numberedFrames 31;
     }
 
 abbrev pub numberedStatement : StatementReply

@@ -1,7 +1,7 @@
 // Where the fields of the structs lie. A host declares the structs again, and sees by a number of its own in each field whether its places are these.
 ghost use mathlib.Core.Path.{_≡_};
 ghost use Prim.Native.Nat.{_≤_};
-ghost use Rattle.host.specs.Layout.{numberedFile, numberedContext, numberedStatement, numberedFunction, numberedStructs};
+ghost use Rattle.host.specs.Layout.{numberedFile, numberedSettings, numberedContext, numberedStatement, numberedFunction, numberedStructs};
 use crate::display::WriteReply;
 use crate::records::DefinitionReply;
 use crate::records::FunctionReply;
@@ -63,6 +63,17 @@ fn numbered_file(n: usize) -> FileRecord
     }
 }
 
+fn numbered_settings() -> Settings
+    ensures { λ r. ⌜ r ≡ numberedSettings ⌝ }
+{
+    Settings {
+        check_number: 15,
+        depth: 16,
+        saved: 17,
+        limit: 18,
+    }
+}
+
 fn numbered_context() -> ExecutionContext
     ensures { λ r. ⌜ r ≡ numberedContext ⌝ }
 {
@@ -81,14 +92,10 @@ fn numbered_context() -> ExecutionContext
         i += 1;
     }
     let file = numbered_file(1);
+    let settings = numbered_settings();
     ExecutionContext {
         file,
-        settings: Settings {
-            check_number: 15,
-            depth: 16,
-            saved: 17,
-            limit: 18,
-        },
+        settings,
         pc: 19,
         current_function: 20,
         depth: 21,

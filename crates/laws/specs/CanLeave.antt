@@ -25,7 +25,7 @@ use Rattle.definition.specs.Parts.{length-copied}
 use Rattle.definition.specs.StatementLaws.{Keeps}
 use Rattle.definition.specs.Invariant.{Preserves, Inductive, always, roomIn}
 use Rattle.laws.specs.Entities.{Suffice, LendEnough, while-enough}
-use Rattle.laws.specs.Sound.{StackConsistent, Consistent, consistent-sound, entered-more, entered-less, suffice, advanced-consistent, entered-consistent, left-consistent, returned-consistent, loaded-consistent, load-suffices, AnyStep}
+use Rattle.laws.specs.Sound.{StackConsistent, depth-bound, Consistent, consistent-sound, entered-more, entered-less, suffice, advanced-consistent, entered-consistent, left-consistent, returned-consistent, loaded-consistent, load-suffices, AnyStep}
 
 -- the local cells of these functions are below the count
 abbrev Ranges : Program → ℕ → List ℕ → Type 0

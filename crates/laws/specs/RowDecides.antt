@@ -12,7 +12,7 @@ use Rattle.definition.specs.declared.Settings.{Settings}
 use Rattle.definition.specs.declared.FileRecord.{FileRecord}
 use Rattle.definition.specs.declared.RunAnswer.the-variants.{Refused}
 use Rattle.definition.specs.Checks.{Condition, Conditions, _otherwise_, judge, Checked, accepted, guard}
-use Rattle.definition.specs.File.{greatestLimit, fileOf}
+use Rattle.definition.specs.File.{fileOf}
 use Rattle.definition.specs.Statements.{placeOf}
 use Rattle.definition.specs.Machine.{Program, Config, entitiesOf, countOf, withCells, advanced, entryConditions, entered, step, Ran, runFor}
 use Rattle.definition.specs.Load.{load, programOf}
@@ -35,9 +35,9 @@ module _ (file : List ℕ) (c : Config) where
   abbrev P : Program
   P = programOf file
 
-  -- "28: limit outside 1 to 99,999; 29: target below 0, or not below the depth"
+  -- "28: limit outside 1 to 99,999" (R-11: to the greatest run limit of the settings); "29: target below 0, or not below the depth"
   abbrev pub runRow : ℤ → ℤ → Conditions
-  runRow target limit = (permitted limit greatestLimit otherwise 28) ∷ (below target (c .state .depth) otherwise 29) ∷ []
+  runRow target limit = (permitted limit (c .state .settings .limit) otherwise 28) ∷ (below target (c .state .depth) otherwise 29) ∷ []
 
   -- "15: cell negative or not below the count"
   abbrev pub rawRow : ℤ → Conditions

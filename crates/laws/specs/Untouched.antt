@@ -26,7 +26,7 @@ use Rattle.definition.specs.RecordLaws.{length-globals}
 use Rattle.definition.specs.LoadLaws.{load-rows}
 use Rattle.definition.specs.StatementLaws.{Keeps, keeps-all}
 use Rattle.definition.specs.Invariant.{Preserves, Inductive, always}
-use Rattle.laws.specs.Sound.{StackConsistent, Consistent, advanced-consistent, entered-consistent, left-consistent, returned-consistent, loaded-consistent}
+use Rattle.laws.specs.Sound.{StackConsistent, saved-bound, Consistent, advanced-consistent, entered-consistent, left-consistent, returned-consistent, loaded-consistent}
 
 -- the saved store after a small step: an entry writes the range that it saves, and nothing else writes
 abbrev pub SavedBy : List ℕ → Kind → Config → Config → Type 0
@@ -113,7 +113,7 @@ module _ (file lent : List ℕ) where
       let fewer : d .locals ≤ s .saved = leb-true (d .locals) (s .saved) (h .1 .0) in
       let there : Present (d .start) (d .locals) count = present-more _ _ (countOf c) _ (omega (arith, count-is c k)) (present-true (d .start) (d .locals) (countOf c) (h .1 .1 .0)) in
       let from : List ℕ = drop (s .saved - d .locals) (c .saved) in
-      let source : d .locals ≤ length from = omega (arith, fewer, k .stack .saved-most, k .long, length-drop (s .saved - d .locals) (c .saved)) in
+      let source : d .locals ≤ length from = omega (arith, fewer, k .stack .saved-most, saved-bound P s (k .stack), k .long, length-drop (s .saved - d .locals) (c .saved)) in
       let all : count ≤ length cells = omega (arith, enough c k, e) in
       record {
         same-length = length-pasted cells (d .start) from (d .locals) (present-more _ _ count _ all there) source;
@@ -133,7 +133,7 @@ module _ (file lent : List ℕ) where
       let from : List ℕ = drop (s .saved - d .locals) (c .saved) in
       pasted-only (c .cells) (d .start) from (d .locals)
       (present-more _ _ (countOf c) _ (k .enough) (present-true (d .start) (d .locals) (countOf c) (h .1 .1 .0)))
-      (omega (arith, fewer, k .stack .saved-most, k .long, length-drop (s .saved - d .locals) (c .saved)))
+      (omega (arith, fewer, k .stack .saved-most, saved-bound P s (k .stack), k .long, length-drop (s .saved - d .locals) (c .saved)))
 
   least : (c : Config) → Consistent file c → leastCells ≤ count
   least c k =

@@ -12,11 +12,11 @@ use Rattle.loader.proofs.Each.{fails, holds}
 
 module _ (check : ℕ) (file : List ℕ) where
   pub short : length file < 60 → 1 ≡ judge (headerConditions check file)
-  unfolding headerConditions check fileOf
+  unfolding headerConditions fileOf
   short h = fails _ 1 _ (rw (lt-leb 60 (length file) h))
 
   pub long : 60 ≤ length file → 1048576 < length file → 1 ≡ judge (headerConditions check file)
-  unfolding headerConditions check fileOf
+  unfolding headerConditions fileOf
   long l h = fails _ 1 _ (rw (le-leb 60 (length file) l, lt-leb (length file) 1048576 h))
 
   -- a length in range

@@ -47,7 +47,7 @@ pub record Passed (file : List ℕ) : Type 0 where
   pub lumps : lumpsFit (fileOf file) ≡ true
 
 pub header-passed : (check : ℕ) (file : List ℕ) (h : ℕ) → h ≡ 0 → h ≡ judge (headerConditions check file) → Passed file
-unfolding headerConditions check fileOf
+unfolding headerConditions fileOf
 header-passed check file h z e =
     let all : All (headerConditions check file) = judge-passed (headerConditions check file) (sym e ∙ z) in
     record { header = leb-true 60 (length file) (and-left (leb 60 (length file)) (leb (length file) 1048576) (all .0)); lumps = all .1 .1 .1 .0 }

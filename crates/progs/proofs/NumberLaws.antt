@@ -17,6 +17,7 @@ use Rattle.definition.specs.RecordLaws.{length-records}
 use Rattle.functions.specs.Parts.{functionsIn}
 use Rattle.definition.specs.Machine.{Program, functionOf, Config, copied, argumentsOf, entryConditions, entered, enter}
 use Rattle.definition.specs.CheckLaws.{judge-passed, and-right}
+use Rattle.definition.specs.LoadLaws.{InRange}
 use Rattle.progs.specs.declared.ExecutionContext.{ExecutionContext}
 use Rattle.progs.specs.declared.Answered.{Answered}
 use Rattle.progs.specs.declared.calls.Entry.{Entry}
@@ -84,13 +85,13 @@ module _ (P : Program) (f : ℕ) (x : ExecutionContext) (cells saved : List ℕ)
       unfolding entering
       gives = e ∙ ap (λ (n : ℕ). enteringAs n (functionOf P f) (x .saved) cells saved) clear
 
-      pub entry-room : x .settings .depth ≤ 31 → x .settings .saved ≤ 2048 → (x .depth < 31) × (x .saved + r .locals ≤ 2048)
+      pub entry-room : InRange (x .settings) → (x .depth < 31) × (x .saved + r .locals ≤ 2048)
       unfolding entryConditions
-      entry-room deepest fullest =
+      entry-room range =
           let h = judge-passed (entryConditions P f (bare x)) clear in
           let l : r .locals ≡ functionOf P f .locals = ap (λ (z : Entering). z .entry .locals) gives in
-          let fits = leb-true _ _ (and-right (not (negative (functionOf P f .locals))) (leb (x .saved + functionOf P f .locals) (x .settings .saved)) (h .1 .1 .0)) in
-          (omega (arith, ltb-true _ _ (h .1 .0)), rw l (omega (arith, fits)))
+          let fits = leb-true (x .saved + functionOf P f .locals) (x .settings .saved) (and-right (not (negative (functionOf P f .locals))) (leb (x .saved + functionOf P f .locals) (x .settings .saved)) (h .1 .1 .0)) in
+          (omega (arith, ltb-true (x .depth) (x .settings .depth) (h .1 .0), range .depth-most), rw l (omega (arith, fits, range .saved-most)))
 
       pub entered-config : (entities : List ℕ) (back : ℤ) → config (enteredContext x f (r .first) (r .locals) back) cells′ saved′ entities ≡ entered P f back (config x cells saved entities)
       unfolding entered

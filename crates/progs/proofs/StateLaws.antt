@@ -14,11 +14,12 @@ use Rattle.definition.specs.declared.FileRecord.{FileRecord}
 use Rattle.definition.specs.declared.StackFrame.{StackFrame}
 use Rattle.definition.specs.declared.FunctionDef.{FunctionDef}
 use Rattle.definition.specs.Checks.{judge}
-use Rattle.definition.specs.File.{negative, leastCells}
+use Rattle.definition.specs.File.{negative, leastCells, settingsFit}
 use Rattle.definition.specs.Machine.{Program, functionOf, State, Config, entitiesFit, zeroFrame, entryConditions, entered, enter, left, returnConditions, returned}
 use Rattle.definition.specs.Load.{programWith, programOf, recordedIn}
 use Rattle.definition.specs.Operations.{frameFunctions, enteredAt, enteredFunctions, allPresent, localsOf, sound}
 use Rattle.definition.specs.CheckLaws.{judge-passed, and-left, and-right}
+use Rattle.definition.specs.LoadLaws.{settings-fit}
 use Rattle.functions.specs.Laws.{Recorded, recorded, EntitySize, entities-room}
 use Rattle.progs.specs.declared.ExecutionContext.{ExecutionContext}
 use Rattle.progs.specs.declared.Answered.{Answered}
@@ -127,8 +128,8 @@ module _ (file cells saved entities : List ℕ) (x : ExecutionContext) where
       let h3 = and-left (r && s && roomy && fit) d h4 in
       let h2 = and-left (r && s && roomy) fit h3 in
       let range = settings-fit (x .settings) (and-right (r && s && roomy) fit h3) in
-      let deep = leb-true _ _ (and-right (r && s && roomy && fit) d h4) in
-      let full = leb-true _ _ (and-right (r && s && roomy && fit && d && p) l h5) in
+      let deep = leb-true (x .depth) (x .settings .depth) (and-right (r && s && roomy && fit) d h4) in
+      let full = leb-true (x .saved) (x .settings .saved) (and-right (r && s && roomy && fit && d && p) l h5) in
       let k = recorded file (x .file) (length cells) (and-left r s (and-left (r && s) roomy h2)) in
       let e = entities-room (x .«entity_count») (x .file .entityfields) (length entities) (and-right (r && s) roomy h2) in
       record {
@@ -137,9 +138,7 @@ module _ (file cells saved entities : List ℕ) (x : ExecutionContext) where
         most = k .most;
         lent = k .lends;
         store = leb-true _ _ (and-right r s (and-left (r && s) roomy h2));
-        deepest = range .depth-most;
-        fullest = range .saved-most;
-        longest = range .limit-most;
+        range = range;
         depth = omega (arith, deep, range .depth-most);
         held = omega (arith, full, range .saved-most);
         size-least = k .size .least;
@@ -167,9 +166,7 @@ own-within file cells saved entities x h =
       most = h .most;
       lent = h .lent;
       store = h .store;
-      deepest = h .deepest;
-      fullest = h .fullest;
-      longest = h .longest;
+      range = h .range;
       depth = h .depth;
       held = h .held;
       size-least = h .size-least;
@@ -187,9 +184,7 @@ module _ (file : List ℕ) (cells saved entities : ℕ) (x y : ExecutionContext)
         most = rw e (h .most);
         lent = rw e (h .lent);
         store = h .store;
-        deepest = rw v (h .deepest);
-        fullest = rw v (h .fullest);
-        longest = rw v (h .longest);
+        range = rw v (h .range);
         depth = d;
         held = s;
         size-least = rw e (h .size-least);
@@ -220,7 +215,7 @@ module _ (file : List ℕ) (cells saved entities : ℕ) (x y : ExecutionContext)
       let fits : x .saved + l ≤ x .settings .saved = leb-true _ _ (and-right (not (negative l)) (leb (x .saved + l) (x .settings .saved)) (k .1 .1 .0)) in
       let d : y .depth ≡ x .depth + 1 = ap (λ (s : State). s .depth) e in
       let s : y .saved ≡ x .saved + l = ap (λ (s : State). s .saved) e in
-      moved-within (ap (λ (s : State). s .file) e) (ap (λ (s : State). s .settings) e) (ap (λ (s : State). s .entityCount) e) (omega (arith, h .deepest)) (omega (arith, h .fullest))
+      moved-within (ap (λ (s : State). s .file) e) (ap (λ (s : State). s .settings) e) (ap (λ (s : State). s .entityCount) e) (omega (arith, h .range .depth-most)) (omega (arith, h .range .saved-most))
 
 -- after whatever an entry or a Return answers
 module _ (file : List ℕ) (P : Program) (x : ExecutionContext) (cells saved entities : List ℕ) (r : Answered) (cells′ saved′ : List ℕ) (h : Within file x (length cells) (length saved) (length entities)) where

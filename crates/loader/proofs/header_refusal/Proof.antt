@@ -29,5 +29,5 @@ returns-5 c =
 
 pub header-refusal-spec : {M : Type 1} → statement M
 header-refusal-spec =
-    tie.close (tie.spec returns returns-2 (λ c κs. search needs) returns-3 (λ c κs. search needs) returns-4 (λ c κs. search needs)
+    tie.close (tie.spec returns returns-2 (λ c κs. search needs) returns-3 (λ c κs. search needs) (λ c. search needs) returns-4 (λ c κs. search needs)
     (λ c κs. search needs) (λ c κs. search needs) returns-5)

@@ -65,6 +65,6 @@ returns-4 c =
 pub pad-spec : {M : Type 1} → statement M
 pad-spec =
     tie.close
-    (tie.spec (λ c κs. search needs) (λ c. search needs) returns (λ c κs. search needs) (λ c κs. search needs) (λ c. search needs) returns-2
+    (tie.spec (λ c κs. search needs) (λ c. search needs) returns (λ c. search needs) (λ c κs. search needs) (λ c κs. search needs) (λ c. search needs) returns-2
     file-of-requires (λ c κs. search needs) write-program-requires (λ c. search needs) (λ c. search needs) returns-3 (λ c. search needs)
     (λ c κs. search needs) (λ c. search needs) returns-4)

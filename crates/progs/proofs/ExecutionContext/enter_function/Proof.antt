@@ -20,7 +20,7 @@ returns : tie.Need-returns
 returns c = λ entities. refused-entry _ _ _ _ _ _ _ _ (did (c .before .before .before .before .before .before .before)) (c .before .if1 .taken) entities _ _ (c .refused .ensures)
 
 push-frame-requires : tie.Need-push-frame-requires
-push-frame-requires c κs = entry-room _ _ _ _ _ _ _ _ (did (c .before .before .before .before .before .before .before)) (c .before .if1 .left)
+push-frame-requires c κs = entry-room _ _ _ _ _ _ _ _ (did (c .before .before .before .before .before .before .before)) (c .before .if1 .left) (c .before .before .before .before .before .before .before .before .before .before .before .before .before .before .before .pre .range)
 
 returns-2 : tie.Need-returns-2
 returns-2 c =
