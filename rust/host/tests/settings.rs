@@ -236,47 +236,23 @@ fn checked_settings() {
         settings.to_string(),
         "check number 77, greatest depth 3, greatest saved count 40, greatest run limit 500, number of entities 33"
     );
+}
+
+#[rustfmt::skip]
+#[test]
+fn errors_name_the_range() {
+    let settings = Settings::default();
     let errors = [
-        (
-            settings.with_check_number(65_536),
-            "the check number is 65536, which isn't 0 to 65535",
-        ),
-        (
-            settings.with_check_number(-1),
-            "the check number is -1, which isn't 0 to 65535",
-        ),
-        (
-            settings.with_depth(0),
-            "the greatest depth is 0, which isn't 1 to 31",
-        ),
-        (
-            settings.with_depth(32),
-            "the greatest depth is 32, which isn't 1 to 31",
-        ),
-        (
-            settings.with_saved(-1),
-            "the greatest saved count is -1, which isn't 0 to 2048",
-        ),
-        (
-            settings.with_saved(2_049),
-            "the greatest saved count is 2049, which isn't 0 to 2048",
-        ),
-        (
-            settings.with_limit(0),
-            "the greatest run limit is 0, which isn't 1 to 99999",
-        ),
-        (
-            settings.with_limit(100_000),
-            "the greatest run limit is 100000, which isn't 1 to 99999",
-        ),
-        (
-            settings.with_entities(-1),
-            "the number of entities is -1, which isn't 0 to 600",
-        ),
-        (
-            settings.with_entities(601),
-            "the number of entities is 601, which isn't 0 to 600",
-        ),
+        (settings.with_check_number(65_536), "the check number is 65536, which isn't 0 to 65535"),
+        (settings.with_check_number(-1), "the check number is -1, which isn't 0 to 65535"),
+        (settings.with_depth(0), "the greatest depth is 0, which isn't 1 to 31"),
+        (settings.with_depth(32), "the greatest depth is 32, which isn't 1 to 31"),
+        (settings.with_saved(-1), "the greatest saved count is -1, which isn't 0 to 2048"),
+        (settings.with_saved(2_049), "the greatest saved count is 2049, which isn't 0 to 2048"),
+        (settings.with_limit(0), "the greatest run limit is 0, which isn't 1 to 99999"),
+        (settings.with_limit(100_000), "the greatest run limit is 100000, which isn't 1 to 99999"),
+        (settings.with_entities(-1), "the number of entities is -1, which isn't 0 to 600"),
+        (settings.with_entities(601), "the number of entities is 601, which isn't 0 to 600"),
     ];
     for (given, message) in errors {
         assert_eq!(given.unwrap_err().to_string(), message);
@@ -572,18 +548,10 @@ fn holding(context: Context, settings: HeldSettings) -> Context {
     }
 }
 
-#[test]
-fn states_with_other_settings() {
-    let mut machine = with_field();
-    machine.enter(PAIR).unwrap();
-    machine.enter(PAIR).unwrap();
-    let loaded = *machine.context();
-    let as_loaded = [0, 0, 0, 27, 0, 0, 0, 0, 0, 0];
-    let good = loaded.settings;
-    assert_eq!(operations(&machine, loaded), as_loaded);
-    // Two functions are entered, with four local cells.
-    #[rustfmt::skip]
-    let cases = [
+/// Settings, and whether a state with them is sound where two functions are entered, with four local cells.
+#[rustfmt::skip]
+fn other_settings(good: HeldSettings) -> Vec<(HeldSettings, bool)> {
+    vec![
         (HeldSettings { depth: 3, ..good }, true),
         (HeldSettings { saved: 4, ..good }, true),
         (HeldSettings { saved: 3, ..good }, false),
@@ -603,8 +571,19 @@ fn states_with_other_settings() {
         (HeldSettings { check_number: 65_536, ..good }, false),
         (HeldSettings { check_number: usize::MAX, ..good }, false),
         (HeldSettings::default(), false),
-    ];
-    for (settings, sound) in cases {
+    ]
+}
+
+#[test]
+fn states_with_other_settings() {
+    let mut machine = with_field();
+    machine.enter(PAIR).unwrap();
+    machine.enter(PAIR).unwrap();
+    let loaded = *machine.context();
+    let as_loaded = [0, 0, 0, 27, 0, 0, 0, 0, 0, 0];
+    let good = loaded.settings;
+    assert_eq!(operations(&machine, loaded), as_loaded);
+    for (settings, sound) in other_settings(good) {
         let expected = if sound { as_loaded } else { [13; 10] };
         let found = operations(&machine, holding(loaded, settings));
         assert_eq!(found, expected, "{settings:?}");
