@@ -105,7 +105,14 @@ pub fn show(
     if LONGEST_INPUT < file.len() {
         return text::refused_line(line, 1);
     }
-    let loaded = load::load(header::standard(), file, NO_ENTITIES, cells, store, entities);
+    let loaded = load::load(
+        header::standard(),
+        file,
+        NO_ENTITIES,
+        cells,
+        store,
+        entities,
+    );
     let context = loaded.context;
     let answer = loaded.answer;
     match answer {

@@ -207,7 +207,7 @@ module _ (file output : List ℕ) (c : Config) where
       let short : length (image held file) ≤ longestFile = rw (w .size) at (w .short) in
       rw (w .front) (
         subst (λ (check : ℕ). load s (image check file) number cells saved entities ≡ accepted (loaded s (image check file) (entitiesGiven number) cells saved entities)) same
-        (written-loads s file number cells saved entities fit a (rw (← same) at short) lent),
+            (written-loads s file number cells saved entities fit a (rw (← same) at short) lent),
         written-says held file,
       )
 
