@@ -9,7 +9,6 @@ ghost use Rattle.progs.specs.Contexts.{config, Within};
 ghost use Rattle.server.specs.Stepping.{steppedOf, steppedAs, ranAs, ranOf, notRun, Apart};
 use definition::FUNCTION_SIZE;
 use definition::GREATEST_DEPTH;
-use definition::GREATEST_LIMIT;
 use definition::RunAnswer;
 use definition::StackFrame;
 use definition::StatementAnswer;
@@ -78,6 +77,7 @@ fn run_for(
                 let entry = calls::enter_cells(
                     functions,
                     f,
+                    now.settings,
                     now.depth,
                     now.saved,
                     cell_count,
@@ -215,7 +215,8 @@ pub fn run(
         return not_run(context, 13);
     }
     let most = fetch::place_of(0, limit);
-    if most == 0 || GREATEST_LIMIT < most {
+    let settings = context.settings;
+    if most == 0 || settings.limit < most {
         return not_run(context, 28);
     }
     let down = fetch::place_of(context.depth, target);

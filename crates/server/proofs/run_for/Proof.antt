@@ -6,7 +6,7 @@ use mathlib.Core.Path.{_≡_, refl, sym, _∙_, ap}
 use mir.Syntax.{w64}
 use mir.Val.{SFits}
 use mir.Facts.{toZ-ofZ}
-use borrow.Author.Needs.{needs}
+use borrow.Author.Needs.{needs, sfits-of}
 use Rattle.definition.specs.declared.FileRecord.{FileRecord}
 use Rattle.definition.specs.Load.{programOf}
 use Rattle.definition.specs.Statements.{Does}
@@ -43,7 +43,7 @@ did : (c : tie.After-does Inv-loop μ-loop)
 did c =
     let l = c .before .before .before .before .before in
     let s = c .before .before .before .before .before .before .before .before .before .before .before .before in
-    let g : SFits w64 (l .loop .now .pc) = search needs in
+    let g : SFits w64 (l .loop .now .pc) = sfits-of (c .before .struct-told .given .1 .1 .0 .1) in
     (rw (toZ-ofZ g, l .loop .inv .0 .0 .0 .3) at (c .does .ensures)) ∙ ap (λ (d : Does). execution d (l .loop .cells) (l .loop .entities)) (does-here _ _ (s .pre .0 .loaded) _ _ _)
 
 -- the file's count of cells, which no statement changes
@@ -52,12 +52,12 @@ count-here c = ap (λ (r : FileRecord). r .globals .count) (c .before .before .b
 
 -- what a Call did to the cells
 entry-did : (c : tie.After-enter-cells Inv-loop μ-loop)
-    → let l = c .before .before .before .before .before .before .before .before .before .before .before .before .before .before .before .before .before .before in
-    let s = c .before .before .before .before .before .before .before .before .before .before .before .before .before .before .before .before .before .before .before .before .before .before .before .before .before in
-    entryOf (c .enter-cells .result) (c .enter-cells .last .1 .1 .1 .1 .1 .0) (c .enter-cells .last .1 .1 .1 .1 .1 .1 .0) ≡ entering (programOf (s .args .file .now)) (c .before .before .before .before .before .before .before .done2 .given .0 .0) (l .loop .now) (c .before .before .before .before .before .before .before .before .before .before .before .before .before .does .last .1 .1 .1 .0) (l .loop .store)
+    → let l = c .before .before .before .before .before .before .before .before .before .before .before .before .before .before .before .before .before .before .before in
+    let s = c .before .before .before .before .before .before .before .before .before .before .before .before .before .before .before .before .before .before .before .before .before .before .before .before .before .before in
+    entryOf (c .enter-cells .result) (c .enter-cells .last .1 .1 .1 .1 .1 .1 .0) (c .enter-cells .last .1 .1 .1 .1 .1 .1 .1 .0) ≡ entering (programOf (s .args .file .now)) (c .before .before .before .before .before .before .before .before .done2 .given .0 .0) (l .loop .now) (c .before .before .before .before .before .before .before .before .before .before .before .before .before .before .does .last .1 .1 .1 .0) (l .loop .store)
 entry-did c =
-    let s = c .before .before .before .before .before .before .before .before .before .before .before .before .before .before .before .before .before .before .before .before .before .before .before .before .before in
-    c .enter-cells .ensures (programOf (s .args .file .now)) (functions-here _ _ (s .pre .0 .loaded) _ (c .before .before .before .before .before .before .before .before .before .before .before .before .before .before .before .before .before .before .before .part .ensures)) ∙ by-count _ _ _ _ _ _ (count-here (c .before .before .before .before .before .before .before .before .before .before .before .before .before .before .before .before .before .before))
+    let s = c .before .before .before .before .before .before .before .before .before .before .before .before .before .before .before .before .before .before .before .before .before .before .before .before .before .before in
+    c .enter-cells .ensures (programOf (s .args .file .now)) (functions-here _ _ (s .pre .0 .loaded) _ (c .before .before .before .before .before .before .before .before .before .before .before .before .before .before .before .before .before .before .before .before .part .ensures)) ∙ by-count _ _ _ _ _ _ (count-here (c .before .before .before .before .before .before .before .before .before .before .before .before .before .before .before .before .before .before .before))
 
 -- what a Return did to the cells
 leaving-did : (c : tie.After-return-cells Inv-loop μ-loop)
@@ -68,8 +68,8 @@ leaving-did c =
     let s = c .before .before .before .before .before .before .before .before .before .before .before .before .before .before .before .before .before .before .before .before .before .before in
     c .return-cells .ensures (programOf (s .args .file .now)) (functions-here _ _ (s .pre .0 .loaded) _ (c .before .before .before .before .before .before .before .before .before .before .before .before .before .before .before .before .part .ensures)) ∙ return-by-count _ _ _ _ _ _ (count-here (c .before .before .before .before .before .before .before .before .before .before .before .before .before .before .before))
 
-room : (c : tie.Else1 Inv-loop μ-loop) → (c .before .before .before .before .before .before .before .before .before .before .before .before .before .before .before .before .before .before .before .before .before .before .before .before .loop .now .depth < 31) × (c .before .before .before .before .before .before .before .before .before .before .before .before .before .before .before .before .before .before .before .before .before .before .before .before .loop .now .saved + c .before .before .before .before .before .before .enter-cells .result .locals ≤ 2048)
-room c = turn-room _ _ _ _ _ _ _ _ _ (c .before .before .before .before .before .before .before .before .before .before .before .before .before .before .before .before .before .before .before .before .before .before .before .before .loop .inv .1) (c .before .before .before .before .before .before .before .before .before .before .before .before .before .before .before .before .before .before .before .before .before .before .before .loop-test .taken) _ _ _ (did (c .before .before .before .before .before .before .before .before .before .before .before .before .before .before .before .before .before .before .before)) _ (c .before .before .before .before .before .before .before .before .before .before .before .before .before .done2 .given .1) _ _ _ (entry-did (c .before .before .before .before .before .before)) (c .if1 .left)
+room : (c : tie.Else1 Inv-loop μ-loop) → (c .before .before .before .before .before .before .before .before .before .before .before .before .before .before .before .before .before .before .before .before .before .before .before .before .before .loop .now .depth < 31) × (c .before .before .before .before .before .before .before .before .before .before .before .before .before .before .before .before .before .before .before .before .before .before .before .before .before .loop .now .saved + c .before .before .before .before .before .before .enter-cells .result .locals ≤ 2048)
+room c = turn-room _ _ _ _ _ _ _ _ _ (c .before .before .before .before .before .before .before .before .before .before .before .before .before .before .before .before .before .before .before .before .before .before .before .before .before .loop .inv .1) (c .before .before .before .before .before .before .before .before .before .before .before .before .before .before .before .before .before .before .before .before .before .before .before .before .loop-test .taken) _ _ _ (did (c .before .before .before .before .before .before .before .before .before .before .before .before .before .before .before .before .before .before .before .before)) (c .before .before .before .before .before .before .before .before .before .before .before .before .before .before .before .before .before .before .before .before .before .before .before .before .before .loop .inv .0 .0 .1 .range) _ (c .before .before .before .before .before .before .before .before .before .before .before .before .before .before .done2 .given .1) _ _ _ (entry-did (c .before .before .before .before .before .before)) (c .if1 .left)
 
 some-left : (c : tie.Else2 Inv-loop μ-loop) → (0 < c .before .before .before .before .before .before .before .before .before .before .before .before .before .before .before .before .before .before .before .loop .now .depth) × (c .before .before .before .before .return-cells .result .locals ≤ c .before .before .before .before .before .before .before .before .before .before .before .before .before .before .before .before .before .before .before .loop .now .saved)
 some-left c = turn-left _ _ _ _ _ _ _ _ _ (c .before .before .before .before .before .before .before .before .before .before .before .before .before .before .before .before .before .before .before .loop .inv .1) (c .before .before .before .before .before .before .before .before .before .before .before .before .before .before .before .before .before .before .loop-test .taken) _ _ _ (did (c .before .before .before .before .before .before .before .before .before .before .before .before .before .before)) _ (c .before .before .before .before .before .before .before .before .done3 .given .1) _ _ (leaving-did (c .before .before .before .before)) (c .if2 .left)
@@ -99,36 +99,36 @@ does-requires c κs =
 after-requires : tie.Need-after-requires Inv-loop μ-loop
 after-requires c κs =
     let l = c .before .before .before .before .before .before .before .before .before .before .before .before .before .before in
-    let g : SFits w64 (l .loop .now .pc) = search needs in
+    let g : SFits w64 (l .loop .now .pc) = sfits-of (c .before .before .before .before .before .before .before .before .before .before .struct-told .given .1 .1 .0 .1) in
     let w = called-at (c .before .before .before) in
     omega (arith, w .small, (rw (toZ-ofZ g) at (c .place-of .ensures)))
 
 enter-cells-requires : tie.Need-enter-cells-requires Inv-loop μ-loop
 enter-cells-requires c κs =
-    let v = c .before .before .before .before .before .before .before .before .before .before .before .before .before .before .before .before .before .before .before .before .before .before .before .before .pre .0 in
-    let i = c .before .before .before .before .before .before .before .before .before .before .before .before .before .before .before .before .before .loop .inv .0 .0 in
-    (i .1 .held, i .1 .store, omega (arith, v .lent, c .before .before .before .before .before .before .before .before .before .before .before .before .does .kept .1 .1 .1 .0, i .0 .0))
+    let v = c .before .before .before .before .before .before .before .before .before .before .before .before .before .before .before .before .before .before .before .before .before .before .before .before .before .pre .0 in
+    let i = c .before .before .before .before .before .before .before .before .before .before .before .before .before .before .before .before .before .before .loop .inv .0 .0 in
+    (i .1 .held, i .1 .range .saved-most, i .1 .store, omega (arith, v .lent, c .before .before .before .before .before .before .before .before .before .before .before .before .before .does .kept .1 .1 .1 .0, i .0 .0))
 
 same-length : tie.Need-same-length Inv-loop μ-loop
-same-length c = c .before .before .before .before .before .before .before .enter-cells .kept .1 .1 .1 .1 .1 .0 ∙ c .before .before .before .before .before .before .before .before .before .before .before .before .before .before .before .before .before .before .before .before .does .kept .1 .1 .1 .0 ∙ c .before .before .before .before .before .before .before .before .before .before .before .before .before .before .before .before .before .before .before .before .before .before .before .before .before .loop .inv .0 .0 .0 .0
+same-length c = c .before .before .before .before .before .before .before .enter-cells .kept .1 .1 .1 .1 .1 .1 .0 ∙ c .before .before .before .before .before .before .before .before .before .before .before .before .before .before .before .before .before .before .before .before .before .does .kept .1 .1 .1 .0 ∙ c .before .before .before .before .before .before .before .before .before .before .before .before .before .before .before .before .before .before .before .before .before .before .before .before .before .before .loop .inv .0 .0 .0 .0
 
 same-length-2 : tie.Need-same-length-2 Inv-loop μ-loop
-same-length-2 c = c .before .before .before .before .before .before .before .enter-cells .kept .1 .1 .1 .1 .1 .1 .0 ∙ c .before .before .before .before .before .before .before .before .before .before .before .before .before .before .before .before .before .before .before .before .before .before .before .before .before .loop .inv .0 .0 .0 .1
+same-length-2 c = c .before .before .before .before .before .before .before .enter-cells .kept .1 .1 .1 .1 .1 .1 .1 .0 ∙ c .before .before .before .before .before .before .before .before .before .before .before .before .before .before .before .before .before .before .before .before .before .before .before .before .before .before .loop .inv .0 .0 .0 .1
 
 same-length-3 : tie.Need-same-length-3 Inv-loop μ-loop
-same-length-3 c = c .before .before .before .before .before .before .before .before .before .before .before .before .before .before .before .before .before .before .before .before .does .kept .1 .1 .1 .1 .0 ∙ c .before .before .before .before .before .before .before .before .before .before .before .before .before .before .before .before .before .before .before .before .before .before .before .before .before .loop .inv .0 .0 .0 .2
+same-length-3 c = c .before .before .before .before .before .before .before .before .before .before .before .before .before .before .before .before .before .before .before .before .before .does .kept .1 .1 .1 .1 .0 ∙ c .before .before .before .before .before .before .before .before .before .before .before .before .before .before .before .before .before .before .before .before .before .before .before .before .before .before .loop .inv .0 .0 .0 .2
 
 returns : tie.Need-returns Inv-loop μ-loop
-returns c = turn-entry-refused _ _ _ _ _ _ _ _ _ (c .before .before .before .before .before .before .before .before .before .before .before .before .before .before .before .before .before .before .before .before .before .before .before .before .before .loop .inv .1) (c .before .before .before .before .before .before .before .before .before .before .before .before .before .before .before .before .before .before .before .before .before .before .before .before .loop-test .taken) _ _ _ (did (c .before .before .before .before .before .before .before .before .before .before .before .before .before .before .before .before .before .before .before .before)) _ (c .before .before .before .before .before .before .before .before .before .before .before .before .before .before .done2 .given .1) _ _ _ (entry-did (c .before .before .before .before .before .before .before)) (c .before .if1 .taken) _ (c .ends .ensures)
+returns c = turn-entry-refused _ _ _ _ _ _ _ _ _ (c .before .before .before .before .before .before .before .before .before .before .before .before .before .before .before .before .before .before .before .before .before .before .before .before .before .before .loop .inv .1) (c .before .before .before .before .before .before .before .before .before .before .before .before .before .before .before .before .before .before .before .before .before .before .before .before .before .loop-test .taken) _ _ _ (did (c .before .before .before .before .before .before .before .before .before .before .before .before .before .before .before .before .before .before .before .before .before)) (c .before .before .before .before .before .before .before .before .before .before .before .before .before .before .before .before .before .before .before .before .before .before .before .before .before .before .loop .inv .0 .0 .1 .range) _ (c .before .before .before .before .before .before .before .before .before .before .before .before .before .before .before .done2 .given .1) _ _ _ (entry-did (c .before .before .before .before .before .before .before)) (c .before .if1 .taken) _ (c .ends .ensures)
 
 mul-frame : tie.Need-mul-frame Inv-loop μ-loop
-mul-frame c = omega (arith, room c .0)
+mul-frame c = omega (arith, room (c) .0)
 
 element-set-from-frame : tie.Need-element-set-from-frame Inv-loop μ-loop
-element-set-from-frame c = omega (arith, room c .0)
+element-set-from-frame c = omega (arith, room (c) .0)
 
 add-now : tie.Need-add-now Inv-loop μ-loop
-add-now c = omega (arith, room c .0)
+add-now c = omega (arith, room (c) .0)
 
 add-now-2 : tie.Need-add-now-2 Inv-loop μ-loop
 add-now-2 c = omega (arith, room (c .before) .1)
@@ -152,13 +152,13 @@ returns-2 : tie.Need-returns-2 Inv-loop μ-loop
 returns-2 c = turn-return-refused _ _ _ _ _ _ _ _ _ (c .before .before .before .before .before .before .before .before .before .before .before .before .before .before .before .before .before .before .before .before .loop .inv .1) (c .before .before .before .before .before .before .before .before .before .before .before .before .before .before .before .before .before .before .before .loop-test .taken) _ _ _ (did (c .before .before .before .before .before .before .before .before .before .before .before .before .before .before .before)) _ (c .before .before .before .before .before .before .before .before .before .done3 .given .1) _ _ (leaving-did (c .before .before .before .before .before)) (c .before .if2 .taken) _ (c .ends2 .ensures)
 
 sub-at : tie.Need-sub-at Inv-loop μ-loop
-sub-at c = omega (arith, some-left c .0)
+sub-at c = omega (arith, some-left (c) .0)
 
 mul-top : tie.Need-mul-top Inv-loop μ-loop
 mul-top c = omega (arith, c .before .before .before .before .before .before .before .before .before .before .before .before .before .before .before .before .before .before .before .loop .inv .0 .0 .1 .depth)
 
 element-copy-out-top : tie.Need-element-copy-out-top Inv-loop μ-loop
-element-copy-out-top c = omega (arith, some-left c .0, c .before .before .before .before .before .before .before .before .before .before .before .before .before .before .before .before .before .before .before .loop .inv .0 .0 .1 .depth)
+element-copy-out-top c = omega (arith, some-left (c) .0, c .before .before .before .before .before .before .before .before .before .before .before .before .before .before .before .before .before .before .before .loop .inv .0 .0 .1 .depth)
 
 mul-none : tie.Need-mul-none Inv-loop μ-loop
 mul-none c = omega (arith, c .before .before .before .before .before .before .before .before .before .before .before .before .before .before .before .before .before .before .before .before .loop .inv .0 .0 .1 .depth)
@@ -221,22 +221,22 @@ loop-again c =
     ((((k ∙ i .0 .0 .0 .0, i .0 .0 .0 .1, h ∙ i .0 .0 .0 .2, i .0 .0 .0 .3), rw (toZ-ofZ g) (within-lent _ _ _ _ _ _ _ _ (next-within _ _ _ _ _ (i .0 .0 .1) _) k refl h)), i .0 .1), rw (toZ-ofZ g) (turn-next _ _ _ _ _ _ _ _ _ (l .loop .inv .1) (c .before .before .before .before .before .before .before .before .before .before .before .loop-test .taken) _ _ _ (did (d)) _ _ (c .before .done .given .1) refl))
 
 loop-less-2 : tie.Need-loop-less-2 Inv-loop μ-loop
-loop-less-2 c = omega (arith, c .before .before .before .before .before .before .before .before .before .before .before .before .before .before .before .before .before .before .before .before .before .before .before .before .before .loop-test .taken)
+loop-less-2 c = omega (arith, c .before .before .before .before .before .before .before .before .before .before .before .before .before .before .before .before .before .before .before .before .before .before .before .before .before .before .loop-test .taken)
 
 loop-again-2 : tie.Need-loop-again-2 Inv-loop μ-loop
 loop-again-2 c =
-    let d = c .before .before .before .before .before .before .before .before .before .before .before .before .before .before .before .before .before .before .before .before .before in
-    let l = c .before .before .before .before .before .before .before .before .before .before .before .before .before .before .before .before .before .before .before .before .before .before .before .before .before .before in
+    let d = c .before .before .before .before .before .before .before .before .before .before .before .before .before .before .before .before .before .before .before .before .before .before in
+    let l = c .before .before .before .before .before .before .before .before .before .before .before .before .before .before .before .before .before .before .before .before .before .before .before .before .before .before .before in
     let n = c .before .before .before .before .before .before .before .before .enter-cells in
     let i = l .loop .inv in
-    let k = n .kept .1 .1 .1 .1 .1 .0 ∙ d .does .kept .1 .1 .1 .0 in
-    let m = n .kept .1 .1 .1 .1 .1 .1 .0 in
+    let k = n .kept .1 .1 .1 .1 .1 .1 .0 ∙ d .does .kept .1 .1 .1 .0 in
+    let m = n .kept .1 .1 .1 .1 .1 .1 .1 .0 in
     let h = d .does .kept .1 .1 .1 .1 .0 in
-    let a = c .before .before .before .before .before .before .before .before .before .before .before .after in
-    let g : SFits w64 (l .loop .now .pc) = search needs in
+    let a = c .before .before .before .before .before .before .before .before .before .before .before .before .after in
+    let g : SFits w64 (l .loop .now .pc) = sfits-of (c .before .before .before .before .before .before .before .before .before .before .before .before .before .before .before .before .before .before .before .before .before .before .before .struct-told .given .1 .1 .0 .1) in
     let f : SFits w64 (n .result .first) = search needs in
-    let back = a .ensures ∙ ap (λ (j : ℕ). pos j +ℤ pos 1) (rw (toZ-ofZ g) at (c .before .before .before .before .before .before .before .before .before .before .before .before .place-of .ensures)) in
-    ((((k ∙ i .0 .0 .0 .0, m ∙ i .0 .0 .0 .1, h ∙ i .0 .0 .0 .2, i .0 .0 .0 .3), rw (toZ-ofZ f, toZ-ofZ {w = w64} {z = a .result} (record { sfits = a .ok })) (within-lent _ _ _ _ _ _ _ _ (entered-within _ _ _ _ _ (i .0 .0 .1) _ _ _ _ (room (c .before .before))) k m h)), (λ u. i .0 .1 (omega (arith, u)))), rw (toZ-ofZ f, toZ-ofZ {w = w64} {z = a .result} (record { sfits = a .ok })) (turn-enters _ _ _ _ _ _ _ _ _ (l .loop .inv .1) (c .before .before .before .before .before .before .before .before .before .before .before .before .before .before .before .before .before .before .before .before .before .before .before .before .before .loop-test .taken) _ _ _ (did (d)) _ (c .before .before .before .before .before .before .before .before .before .before .before .before .before .before .before .done2 .given .1) _ _ _ (entry-did (c .before .before .before .before .before .before .before .before)) (c .before .before .if1 .left) (i .0 .1) (called-at (c .before .before .before .before .before .before .before .before .before .before .before .before .before .before .before)) _ back))
+    let back = a .ensures ∙ ap (λ (j : ℕ). pos j +ℤ pos 1) (rw (toZ-ofZ g) at (c .before .before .before .before .before .before .before .before .before .before .before .before .before .place-of .ensures)) in
+    ((((k ∙ i .0 .0 .0 .0, m ∙ i .0 .0 .0 .1, h ∙ i .0 .0 .0 .2, i .0 .0 .0 .3), rw (toZ-ofZ f, toZ-ofZ {w = w64} {z = a .result} (record { sfits = a .ok })) (within-lent _ _ _ _ _ _ _ _ (entered-within _ _ _ _ _ (i .0 .0 .1) _ _ _ _ (room (c .before .before))) k m h)), (λ u. i .0 .1 (omega (arith, u)))), rw (toZ-ofZ f, toZ-ofZ {w = w64} {z = a .result} (record { sfits = a .ok })) (turn-enters _ _ _ _ _ _ _ _ _ (l .loop .inv .1) (c .before .before .before .before .before .before .before .before .before .before .before .before .before .before .before .before .before .before .before .before .before .before .before .before .before .before .loop-test .taken) _ _ _ (did (d)) (i .0 .0 .1 .range) _ (c .before .before .before .before .before .before .before .before .before .before .before .before .before .before .before .before .done2 .given .1) _ _ _ (entry-did (c .before .before .before .before .before .before .before .before)) (c .before .before .if1 .left) (i .0 .1) (called-at (c .before .before .before .before .before .before .before .before .before .before .before .before .before .before .before .before)) _ back))
 
 loop-less-3 : tie.Need-loop-less-3 Inv-loop μ-loop
 loop-less-3 c = omega (arith, c .before .before .before .before .before .before .before .before .before .before .before .before .before .before .before .before .before .before .before .before .before .before .loop-test .taken)
@@ -269,8 +269,8 @@ run-for-spec =
     tie.close
     (tie.spec Inv-loop μ-loop (λ c κs. search needs) loop-holds add-completed does-requires (λ c. search needs) (λ c. search needs)
     (λ c κs. search needs) after-requires enter-cells-requires (λ c κs. search needs) same-length same-length-2 same-length-3 returns mul-frame
-    element-set-from-frame add-now add-now-2 (λ c. search needs) return-cells-requires (λ c κs. search needs) same-length-4 same-length-5
-    same-length-6 returns-2 sub-at mul-top element-copy-out-top mul-none element-set-from-none sub-now (λ c κs. search needs) same-length-7
-    same-length-8 same-length-9 returns-3 (λ c. search needs) (λ c κs. search needs) same-length-10 same-length-11 same-length-12 returns-4
-    (λ c. search needs) (λ c κs. search needs) same-length-13 same-length-14 same-length-15 returns-5 loop-less loop-again loop-less-2 loop-again-2
-    loop-less-3 loop-again-3 (λ c κs. search needs) same-length-16 same-length-17 same-length-18 returns-6)
+    element-set-from-frame add-now add-now-2 (λ c. search needs) return-cells-requires (λ c κs. search needs) same-length-4 same-length-5 same-length-6
+    returns-2 sub-at mul-top element-copy-out-top mul-none element-set-from-none sub-now (λ c κs. search needs) same-length-7 same-length-8
+    same-length-9 returns-3 (λ c. search needs) (λ c κs. search needs) same-length-10 same-length-11 same-length-12 returns-4 (λ c. search needs)
+    (λ c κs. search needs) same-length-13 same-length-14 same-length-15 returns-5 loop-less loop-again loop-less-2 loop-again-2 loop-less-3
+    loop-again-3 (λ c κs. search needs) same-length-16 same-length-17 same-length-18 returns-6)
