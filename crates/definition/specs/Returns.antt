@@ -10,6 +10,7 @@ use Rattle.definition.specs.File.{savedStore, greatestDepth}
 use Rattle.definition.specs.Machine.{Config}
 use Rattle.definition.specs.Load.{load}
 use Rattle.definition.specs.Calls.{Call}
+use Rattle.definition.specs.Unpacked.{AllReady}
 use Rattle.definition.specs.Log.{Note, Log, functionIn, localCells, Kind, entry, leaving, other}
 use Rattle.definition.specs.Trace.{StepProperty, StateProperty, logAfter, Always}
 
@@ -47,10 +48,11 @@ pub record StepCorrect (file : List ℕ) (k : Kind) (c : Config) (l : Log) (c′
   pub depths : DepthsMatch file c′ (logAfter file k c l)
 
 -- for every file, every accepted load of it with any number of entities, and every list of calls after that, from an empty log: every small step is correct, and between the calls
--- the depths match
+-- the depths match. R-12: "Every guarantee about returns is then stated for both, and for lists that mix them, on that condition wherever the second runs"
 unfoldable pub Demand3 : Type 0
 Demand3 =
     (file : List ℕ) (n : ℤ) (cells saved entities : List ℕ) (c : Config)
     → load file n cells saved entities ≡ accepted c
     → (calls : List Call)
+    → AllReady file calls
     → Always file (StepCorrect file) (DepthsMatch file) c [] calls

@@ -272,6 +272,6 @@ loaded-matches file n cells saved entities =
 
 pub demand3 : Demand3
 unfolding Demand3
-demand3 file n cells saved entities c accepts calls =
-    always file (StackMatches file) (StepCorrect file) (matches-inductive file) (DepthsMatch file) (λ c′ l k. k .depths) c [] calls
+demand3 file n cells saved entities c accepts calls ready =
+    always file (StackMatches file) (StepCorrect file) (matches-inductive file) (DepthsMatch file) (λ c′ l k. k .depths) c [] calls ready
     (subst (WhenAccepted (λ (c′ : Config). StackMatches file c′ [])) accepts (loaded-matches file n cells saved entities))

@@ -17,6 +17,7 @@ use Rattle.definition.specs.Machine.{Program, Config, zeroFrame, limits, copied
 use Rattle.definition.specs.Machine.{entryConditions, entered, left}
 use Rattle.definition.specs.Load.{load, programOf}
 use Rattle.definition.specs.Calls.{Call}
+use Rattle.definition.specs.Unpacked.{AllReady}
 use Rattle.definition.specs.Log.{Log, Kind, entry, leaving, other}
 use Rattle.definition.specs.Trace.{StepProperty, Always}
 use Rattle.definition.specs.CheckLaws.{All}
@@ -110,11 +111,11 @@ module _ (file : List ℕ) where
         leave-one = λ c l k h. left-frames c l k;
       }
 
-pub frames-by : (file : List ℕ) (n : ℤ) (cells saved entities : List ℕ) (c : Config) → load file n cells saved entities ≡ accepted c → (calls : List Call)
+pub frames-by : (file : List ℕ) (n : ℤ) (cells saved entities : List ℕ) (c : Config) → load file n cells saved entities ≡ accepted c → (calls : List Call) → AllReady file calls
     → Always file FramesBy (λ c′ l. ZeroAbove c′) c [] calls
-frames-by file n cells saved entities c accepts calls =
+frames-by file n cells saved entities c accepts calls ready =
     let started = load-starts file n cells saved entities c accepts in
-    always file (λ c′ l. ZeroAbove c′) FramesBy (frames-inductive file) (λ c′ l. ZeroAbove c′) (λ c′ l k. k) c [] calls
+    always file (λ c′ l. ZeroAbove c′) FramesBy (frames-inductive file) (λ c′ l. ZeroAbove c′) (λ c′ l k. k) c [] calls ready
     (record {
       number = ap length (started .frames) ∙ length-replicate greatestDepth zeroFrame;
       zeros = λ i le. ap (λ (fs : List StackFrame). getD fs i zeroFrame) (started .frames) ∙ all-zeros greatestDepth i;

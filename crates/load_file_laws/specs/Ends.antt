@@ -133,8 +133,8 @@ module _ (seed n : ℕ) where
 
     -- "run to depth 0 with a permitted limit above n"
     pub always-ends : (limit : ℕ) → n < limit → limit ≤ 99999 → EndedAfter (n + 1) (run P (pos 0) (pos limit) inside)
-    unfolding runConditions entered loaded limits
+    unfolding runConditions entered loaded limits programWith
     always-ends limit above permitted =
-        let begins = run-exactly P (pos 0) (pos limit) inside .0 (sound-inside, (rw (le-leb 1 limit (omega arith), le-leb limit 99999 permitted) refl, (refl, tt))) in
+        let begins = run-exactly P (pos 0) (pos limit) inside .0 (sound-inside, (refl, (rw (le-leb 1 limit (omega arith), le-leb limit 99999 permitted) refl, (refl, tt)))) in
         let enough : limit ≡ suc (n + (limit - suc n)) = omega arith in
         rw (begins, enough) (ends-after n 0 (limit - suc n) (omega arith) inside running)
