@@ -2,7 +2,7 @@
 -- acceptance away, and a run is begun, a cell read or written, a function entered, a handed-over statement carried on and the program written from wherever
 -- the row's conditions hold.
 use Prim.Native.Nat.{ℕ, suc, _+_}
-use mathlib.Core.Path.{_≡_, subst}
+use mathlib.Core.Path.{_≡_, refl, subst}
 use mathlib.Core.Logic.{inr}
 use mathlib.Core.List.{List, [], _∷_, _++_}
 use mathlib.Core.Bool.{true}

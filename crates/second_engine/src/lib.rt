@@ -1,71 +1,47 @@
 // The second engine (document 02, R-12): a run whose statements are read from the buffer that they were unpacked into. Its loop is made for speed.
 ghost use mathlib.Core.Path.{_≡_};
-ghost use Prim.Native.Nat.{_*_, _≤_, _<_};
-ghost use lib.IntN.{pos};
+ghost use mathlib.Core.List.{List};
+ghost use Prim.Native.Nat.{ℕ, _*_, _≤_};
 ghost use lib.ListN.{length};
 ghost use Rattle.definition.specs.File.{contentsAt, unpackedStatements, withStatements};
-ghost use Rattle.definition.specs.Statements.{execute, doesAt};
+ghost use Rattle.definition.specs.Cells.{typingOf};
+ghost use Rattle.definition.specs.Statements.{doesAt};
 ghost use Rattle.definition.specs.Machine.{withUnpacked, runFor};
 ghost use Rattle.definition.specs.Load.{programOf};
 ghost use Rattle.definition.specs.Operations.{run};
 ghost use Rattle.execution.specs.Execution.{executed, execution, Usable, UsableFields, entitiesAt};
 ghost use Rattle.progs.specs.Contexts.{config, Within};
-ghost use Rattle.server.specs.Stepping.{ranOf, Apart};
+ghost use Rattle.server.specs.Stepping.{ranOf, ranAs, notRun, Apart};
+ghost use Rattle.second_engine.specs.Quickly.{AllFloats};
 use definition::FUNCTION_SIZE;
 use definition::FileRecord;
 use definition::GREATEST_LIMIT;
 use definition::RunAnswer;
 use definition::StackFrame;
-use definition::Statement;
 use definition::UNPACKED_SIZE;
 use execution::Executed;
-use execution::shapes;
 use functions::fetch;
 use functions::fetch::Fetched;
-use functions::ops;
 use functions::parts;
 use progs::ExecutionContext;
 use progs::calls;
 use server::Ran;
 
-// The statement k. The commonest shapes are done here where there are no definitions to look at, so that they are part of the loop; all others are a call.
-fn execute(
-    file: &[u8],
-    recorded: FileRecord,
-    number: usize,
-    cells: &mut [u32],
-    entities: &mut [u32],
-    k: usize,
-    s: Statement,
-) -> Executed
+mod quick;
+
+// How many cells pass as floats with nothing looked up: where there are no definitions, all.
+fn untyped_cells(recorded: FileRecord) -> usize
+    ensures { λ r. ⌜ (r ≤ recorded .globals .count) × ((file : List ℕ) → AllFloats (typingOf (contentsAt recorded file)) r) ⌝ }
 {
     let globaldefs = recorded.globaldefs;
     let globals = recorded.globals;
-    let count = globals.count;
-    let x = s.arg1 as usize;
-    if (globaldefs.count == 0) & (x < count) {
-        let y = s.arg2 as usize;
-        let z = s.arg3 as usize;
-        if shapes::is_floats(s.opcode) & (y < count) & (z < count) {
-            cells[z] = floats::float_op(s.opcode, cells[x], cells[y]);
-            return Executed::Next(fetch::after(k));
-        }
-        if (s.opcode == ops::IF) | (s.opcode == ops::IF_NOT) {
-            if floats::is_zero(cells[x]) == (s.opcode == ops::IF_NOT) {
-                return Executed::Next(fetch::jump(k, s.arg2));
-            }
-            return Executed::Next(fetch::after(k));
-        }
+    if globaldefs.count == 0 {
+        return globals.count;
     }
-    if s.opcode == ops::GOTO {
-        return Executed::Next(fetch::jump(k, s.arg1));
-    }
-    if s.opcode == ops::RETURN {
-        return Executed::Returns(fetch::cell_of(s.arg1));
-    }
-    execution::execute(file, recorded, number, cells, entities, k, s)
+    0
 }
 
+// What the statement at a position does; one that writes cells or entity cells has done so.
 fn does(
     file: &[u8],
     recorded: FileRecord,
@@ -75,16 +51,23 @@ fn does(
     entities: &mut [u32],
     pc: i64,
 ) -> Executed
+    requires { ⌜ Usable (length (now file)) recorded (length (now cells)) ⌝ }
+    requires { ⌜ UsableFields recorded number (length (now entities)) ⌝ }
+    requires { ⌜ 4 * recorded .statements .count ≤ length (now buffer) ⌝ }
+    ensures { λ r. ⌜ executed r (now (cells .exit)) (now (entities .exit)) ≡ execution (doesAt (withStatements (contentsAt recorded (now (file .entry))) (unpackedStatements (now (buffer .entry)) (recorded .statements .count))) pc (entitiesAt number (now (entities .entry))) (now (cells .entry))) (now (cells .entry)) (now (entities .entry)) ⌝ }
 {
     let statements = recorded.statements;
     let fetched = unpacked::fetch(buffer, statements.count, pc);
     match fetched {
         Fetched::Refused(n) => return Executed::Refused(n),
-        Fetched::At(k, s) => return execute(file, recorded, number, cells, entities, k, s),
+        Fetched::At(k, s) => {
+            return execution::execute(file, recorded, number, cells, entities, k, s);
+        }
     }
 }
 
 fn ends(context: ExecutionContext, answer: RunAnswer, count: u32) -> Ran
+    ensures { λ r. ⌜ r ≡ ranAs context answer count ⌝ }
 {
     Ran {
         context,
@@ -93,6 +76,8 @@ fn ends(context: ExecutionContext, answer: RunAnswer, count: u32) -> Ran
     }
 }
 
+// At most `limit` statements, until the depth is the target. The context stays where it is: an entry and a Return go by numbers, and the frames are
+// written in place.
 fn run_for(
     context: ExecutionContext,
     file: &[u8],
@@ -103,15 +88,27 @@ fn run_for(
     store: &mut [u32],
     entities: &mut [u32],
 ) -> Ran
+    requires { ⌜ Within (now file) context (length (now cells)) (length (now store)) (length (now entities)) ⌝ }
+    requires { ⌜ Apart target (context .depth) ⌝ }
+    requires { ⌜ 4 * context .file .statements .count ≤ length (now buffer) ⌝ }
+    ensures { λ r. ⌜ ranOf r (now (cells .exit)) (now (store .exit)) (now (entities .exit)) ≡ runFor (withUnpacked (programOf (now (file .entry))) (now (buffer .entry))) limit target (config context (now (cells .entry)) (now (store .entry)) (now (entities .entry))) ⌝ }
 {
     let recorded = context.file;
     let functions = parts::part(file, FUNCTION_SIZE, recorded.functions);
     let cell_count = recorded.globals.count;
+    let statement_count = recorded.statements.count;
+    let untyped = untyped_cells(recorded);
     let number = context.entity_count;
     let mut now = context;
     let mut count: u32 = 0;
     while count < limit {
         let completed = count + 1;
+        let quick = quick::quick(buffer, statement_count, untyped, cells, now.pc);
+        if quick.done {
+            now.pc = quick.pc;
+            count = completed;
+            continue;
+        }
         let done = does(file, recorded, number, buffer, cells, entities, now.pc);
         match done {
             Executed::Next(p) => {
@@ -179,6 +176,17 @@ fn run_for(
     ends(now, RunAnswer::Spent, count)
 }
 
+fn not_run(context: ExecutionContext, n: u8) -> Ran
+    ensures { λ r. ⌜ r ≡ notRun context n ⌝ }
+{
+    Ran {
+        context,
+        answer: RunAnswer::Refused(n),
+        count: 0,
+    }
+}
+
+// A run of the second engine, from the buffer.
 pub fn run_unpacked(
     context: ExecutionContext,
     file: &[u8],
@@ -189,22 +197,23 @@ pub fn run_unpacked(
     store: &mut [u32],
     entities: &mut [u32],
 ) -> Ran
+    ensures { λ r. ⌜ ranOf r (now (cells .exit)) (now (store .exit)) (now (entities .exit)) ≡ run (withUnpacked (programOf (now (file .entry))) (now (buffer .entry))) target limit (config context (now (cells .entry)) (now (store .entry)) (now (entities .entry))) ⌝ }
 {
     if !context.check_state(file, cells, store, entities) {
-        return ends(context, RunAnswer::Refused(13), 0);
+        return not_run(context, 13);
     }
     let recorded = context.file;
     let statements = recorded.statements;
     if buffer.len() < UNPACKED_SIZE * statements.count {
-        return ends(context, RunAnswer::Refused(37), 0);
+        return not_run(context, 37);
     }
     let most = fetch::place_of(0, limit);
     if most == 0 || GREATEST_LIMIT < most {
-        return ends(context, RunAnswer::Refused(28), 0);
+        return not_run(context, 28);
     }
     let down = fetch::place_of(context.depth, target);
     if context.depth <= down {
-        return ends(context, RunAnswer::Refused(29), 0);
+        return not_run(context, 29);
     }
     run_for(context, file, buffer, most as u32, down, cells, store, entities)
 }
