@@ -1,5 +1,5 @@
 -- COMMON STATEMENTS DONE IN THE LOOP, in terms of the definition.
-use Prim.Native.Nat.{ℕ, _<_}
+use Prim.Native.Nat.{ℕ, zero, suc, _<_}
 use mathlib.Core.Path.{_≡_}
 use mathlib.Core.List.{List}
 use mathlib.Core.Bool.{Bool, true, false}
@@ -25,3 +25,8 @@ CommonIs Other op a b = Unit {0}
 abbrev pub QuicklyDoes : Bool → Does → ℤ → List ℕ → List ℕ → Type 0
 QuicklyDoes true d p new old = next p new ≡ d
 QuicklyDoes false d p new old = new ≡ old
+
+-- n statements that do nothing else, one after the other: from the position p and these cells to q and those
+abbrev pub GoesOn : (ℤ → List ℕ → Does) → ℕ → ℤ → List ℕ → ℤ → List ℕ → Type 0
+GoesOn does zero p cells q new = (p ≡ q) × (cells ≡ new)
+GoesOn does (suc n) p cells q new = (p′ : ℤ) × ((cells′ : List ℕ) × ((does p cells ≡ next p′ cells′) × GoesOn does n p′ cells′ q new))

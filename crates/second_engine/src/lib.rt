@@ -102,13 +102,13 @@ fn run_for(
     let mut now = context;
     let mut count: u32 = 0;
     while count < limit {
-        let completed = count + 1;
-        let quick = quick::quick(buffer, statement_count, untyped, cells, now.pc);
-        if quick.done {
-            now.pc = quick.pc;
-            count = completed;
-            continue;
+        let went = quick::run(buffer, statement_count, untyped, cells, now.pc, limit - count);
+        now.pc = went.pc;
+        count = count + went.count;
+        if limit <= count {
+            return ends(now, RunAnswer::Spent, count);
         }
+        let completed = count + 1;
         let done = does(file, recorded, number, buffer, cells, entities, now.pc);
         match done {
             Executed::Next(p) => {

@@ -8,15 +8,21 @@ ghost use Rattle.definition.specs.File.{Contents, unpackedStatements};
 ghost use Rattle.definition.specs.Cells.{signed, typingOf};
 ghost use Rattle.definition.specs.Floats.{isZero};
 ghost use Rattle.definition.specs.Statements.{Entities, doesAt};
-ghost use Rattle.second_engine.specs.Quickly.{AllFloats, CommonIs, QuicklyDoes};
+ghost use Rattle.second_engine.specs.Quickly.{AllFloats, CommonIs, QuicklyDoes, GoesOn};
 use functions::fetch;
 use functions::fetch::Fetched;
 use functions::ops;
 
 // Whether a statement was done, and the position after it.
-pub struct Quick {
-    pub done: bool,
+struct Quick {
+    done: bool,
+    pc: i64,
+}
+
+// The position after statements that were done, and their number.
+pub struct Quickly {
     pub pc: i64,
+    pub count: u32,
 }
 
 enum Common {
@@ -68,7 +74,7 @@ fn not_done() -> Quick
 }
 
 // Does the statement at a position, if it is a common one and its operands are below `untyped`, the cells that pass as floats.
-pub fn quick(buffer: &[u16], count: usize, untyped: usize, cells: &mut [u32], pc: i64) -> Quick
+fn quick(buffer: &[u16], count: usize, untyped: usize, cells: &mut [u32], pc: i64) -> Quick
     requires { ⌜ (4 * count ≤ length (now buffer)) × (count < 2147483648) ⌝ }
     requires { ⌜ (untyped ≤ length (now cells)) × (untyped ≤ 32768) ⌝ }
     ensures { λ r. ⌜ ((k : Contents) (e : Entities) → k .statements ≡ unpackedStatements (now (buffer .entry)) count → AllFloats (typingOf k) untyped → QuicklyDoes (r .done) (doesAt k pc e (now (cells .entry))) (r .pc) (now (cells .exit)) (now (cells .entry))) ⌝ }
@@ -100,5 +106,34 @@ pub fn quick(buffer: &[u16], count: usize, untyped: usize, cells: &mut [u32], pc
     Quick {
         done: true,
         pc: fetch::after(k),
+    }
+}
+
+// Does statements from a position on, at most so many, as long as they are common ones.
+pub fn run(
+    buffer: &[u16],
+    count: usize,
+    untyped: usize,
+    cells: &mut [u32],
+    pc: i64,
+    most: u32,
+) -> Quickly
+    requires { ⌜ (4 * count ≤ length (now buffer)) × (count < 2147483648) ⌝ }
+    requires { ⌜ (untyped ≤ length (now cells)) × (untyped ≤ 32768) ⌝ }
+    ensures { λ r. ⌜ (r .count ≤ most) × ((k : Contents) (e : Entities) → k .statements ≡ unpackedStatements (now (buffer .entry)) count → AllFloats (typingOf k) untyped → GoesOn (λ p cs. doesAt k p e cs) (r .count) pc (now (cells .entry)) (r .pc) (now (cells .exit))) ⌝ }
+{
+    let mut at = pc;
+    let mut done: u32 = 0;
+    while done < most {
+        let step = quick(buffer, count, untyped, cells, at);
+        if !step.done {
+            break;
+        }
+        at = step.pc;
+        done += 1;
+    }
+    Quickly {
+        pc: at,
+        count: done,
     }
 }

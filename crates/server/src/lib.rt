@@ -61,6 +61,7 @@ fn run_for(
     let mut now = context;
     let mut count: u32 = 0;
     while count < limit {
+        let completed = count + 1;
         let done = execution::does(file, recorded, number, cells, entities, now.pc);
         match done {
             Executed::Next(p) => {
@@ -83,13 +84,13 @@ fn run_for(
                 }
                 now = left.context;
                 if now.depth == target {
-                    return ends(now, RunAnswer::Ended, count + 1);
+                    return ends(now, RunAnswer::Ended, completed);
                 }
             }
             Executed::Refused(n) => return ends(now, RunAnswer::Refused(n), count),
             Executed::HandedOver(h) => return ends(now, RunAnswer::HandedOver(h), count),
         }
-        count += 1;
+        count = completed;
     }
     ends(now, RunAnswer::Spent, count)
 }

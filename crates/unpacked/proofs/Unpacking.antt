@@ -39,7 +39,8 @@ module _ (r : FileRecord) (file : List ℕ) (fit : AllFit (length file) r) where
   count-numbers =
       let bytes : length part ≡ 8 * r .statements .count = length-part readStatement 8 statement-local (omega arith) file (r .statements) (fit .statements) in
       let twice : 8 * r .statements .count ≡ 2 * (4 * r .statements .count) = omega arith in
-      rw (bytes, twice, mul-div-cancel-left (4 * r .statements .count) (omega arith))
+      let some : 0 < 2 = omega arith in
+      rw (bytes, twice, mul-div-cancel-left (4 * r .statements .count) some)
 
   numbers-here : numbersIn part ≡ numbersOf (contentsAt r file .statements)
   numbers-here =
@@ -51,7 +52,11 @@ module _ (r : FileRecord) (file : List ℕ) (fit : AllFit (length file) r) where
   -- the buffer after the numbers were written
   pub written : r ≡ fileOf file → (buffer b : List ℕ) → b ≡ numbersIn part ++ drop (length part / 2) buffer → b ≡ bufferAfter file buffer
   unfolding bufferAfter
-  written same buffer b e = e ∙ rw (count-numbers, numbers-here, same)
+  written same buffer b e =
+      e
+      ∙ ap (λ (xs : List ℕ). xs ++ drop (length part / 2) buffer) numbers-here
+      ∙ ap (λ (n : ℕ). numbersOf (contentsAt r file .statements) ++ drop n buffer) count-numbers
+      ∙ ap (λ (q : FileRecord). numbersOf (contentsAt q file .statements) ++ drop (4 * q .statements .count) buffer) same
 
 module _ (file buffer : List ℕ) (c : Config) where
   pub refused-13 : sound (programOf file) c ≡ false → unpackedOf (Refused 13) buffer ≡ unpackOutcome buffer (unpack file buffer c)
