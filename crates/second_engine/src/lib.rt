@@ -102,7 +102,14 @@ fn run_for(
     let mut now = context;
     let mut count: u32 = 0;
     while count < limit {
-        let went = quick::run(buffer, statement_count, untyped, cells, now.pc, limit - count);
+        let went = quick::run(
+            buffer,
+            statement_count,
+            untyped,
+            cells,
+            now.pc,
+            limit - count,
+        );
         now.pc = went.pc;
         count = count + went.count;
         if limit <= count {
@@ -215,5 +222,14 @@ pub fn run_unpacked(
     if context.depth <= down {
         return not_run(context, 29);
     }
-    run_for(context, file, buffer, most as u32, down, cells, store, entities)
+    run_for(
+        context,
+        file,
+        buffer,
+        most as u32,
+        down,
+        cells,
+        store,
+        entities,
+    )
 }

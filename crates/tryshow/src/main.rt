@@ -21,11 +21,28 @@ fn main() {
     let entered = context.enter(&file[..n], 1, &mut cells, &mut store, &entities);
     let context = entered.context;
     let un = unpacked::unpack(context, &file[..n], &mut buffer, &cells, &store, &entities);
-    let st = server::run(context, &file[..n], 0, (n / 100000) as i64, &mut cells, &mut store, &mut entities);
+    let st = server::run(
+        context,
+        &file[..n],
+        0,
+        (n / 100000) as i64,
+        &mut cells,
+        &mut store,
+        &mut entities,
+    );
     let context = st.context;
     let carried = context.carry_on(&file[..n], &cells, &store, &entities);
     let context = carried.context;
-    let ran = second_engine::run_unpacked(context, &file[..n], &buffer, 0, 99999, &mut cells, &mut store, &mut entities);
+    let ran = second_engine::run_unpacked(
+        context,
+        &file[..n],
+        &buffer,
+        0,
+        99999,
+        &mut cells,
+        &mut store,
+        &mut entities,
+    );
     let c = ran.context;
     let answer = ran.answer;
     let end = text::show_line(
