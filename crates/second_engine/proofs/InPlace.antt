@@ -10,6 +10,7 @@ use Rattle.definition.specs.declared.RunAnswer.the-variants as run
 use Rattle.definition.specs.Checks.{judge, guard, decided}
 use Rattle.definition.specs.Statements.{placeOf}
 use Rattle.definition.specs.Machine.{Program, Config, entitiesOf, advanced, completed, refusedStep, handedStep, entryConditions, entered, enter, left, leaveConditions, returnConditions, returned, asStep, step, runFor}
+use Rattle.definition.specs.LoadLaws.{InRange}
 use Rattle.execution.specs.declared.Executed.{Executed}
 use Rattle.execution.specs.declared.Executed.the-variants as does
 use Rattle.execution.specs.Execution.{executed, execution}
@@ -31,10 +32,10 @@ use Rattle.server.proofs.TurnLaws.{known, same, same-fields}
 
 module _ (file : List ℕ) (x : ExecutionContext) (n m k : ℕ) (w : Within file x n m k) where
   pub entered-within : (f : ℕ) (first back : ℤ) (locals : ℕ) → (x .depth < 31) × (x .saved + locals ≤ 2048) → Within file (enteredContext x f first locals back) n m k
-  entered-within f first back locals r = moved-within file n m k x _ w refl refl (omega (arith, r .0)) (r .1)
+  entered-within f first back locals r = moved-within file n m k x _ w refl refl refl (omega (arith, r .0)) (r .1)
 
   pub left-within : (locals : ℕ) → Within file (leftContext x locals) n m k
-  left-within locals = moved-within file n m k x _ w refl refl (omega (arith, w .depth)) (omega (arith, w .held))
+  left-within locals = moved-within file n m k x _ w refl refl refl (omega (arith, w .depth)) (omega (arith, w .held))
 
 -- ---- a conditional step that is accepted, and one that isn't
 
@@ -62,7 +63,7 @@ module _ (P : Program) (limit target : ℕ) (c₀ : Config) (x : ExecutionContex
 
   -- ---- a Call
 
-  module _ (f : ℕ) (d : done ≡ does.Calls f) (r : Entry) (cells″ saved″ : List ℕ) (o : entryOf r cells″ saved″ ≡ entering P f x cells′ saved) where
+  module _ (range : InRange (x .settings)) (f : ℕ) (d : done ≡ does.Calls f) (r : Entry) (cells″ saved″ : List ℕ) (o : entryOf r cells″ saved″ ≡ entering P f x cells′ saved) where
     entering-here : entryOf r cells″ saved″ ≡ entering P f x cells saved
     entering-here = o ∙ ap (λ (cs : List ℕ). entering P f x cs saved) (same-here (does.Calls f) d)
 
@@ -77,7 +78,7 @@ module _ (P : Program) (limit target : ℕ) (c₀ : Config) (x : ExecutionContex
 
     module _ (z : r .refusal ≡ 0) where
       pub turn-room : (x .depth < 31) × (x .saved + r .locals ≤ 2048)
-      turn-room = entry.entry-room P f x cells saved r cells″ saved″ entering-here z
+      turn-room = entry.entry-room P f x cells saved r cells″ saved″ entering-here z range
 
       pub turn-enters : Apart target (x .depth) → AtStatement (x .pc) → (back : ℤ) → back ≡ pos (placeOf 0 (x .pc)) +ℤ pos 1
           → RunLeft P limit target c₀ (config (enteredContext x f (r .first) (r .locals) back) cells″ saved″ entities′) (count + 1)
