@@ -1,7 +1,7 @@
 #!/usr/bin/env python3
 """Runs the host's replay program on lists of calls and compares what it prints with what the model of tests/model answers.
 
-    python3 tests/run_replay.py REPLAY      the lists of calls.txt, images.txt, outcomes.txt and pairs.txt of tests/model/cases, the load files of
+    python3 tests/run_replay.py REPLAY      the lists of calls.txt, images.txt, outcomes.txt, pairs.txt and settings.txt of tests/model/cases, the load files of
                                             load_files.txt, the list of rust/host/tests/replay, the rule files of tests/rules written, and lists
                                             made by chance
     python3 tests/run_replay.py --write     writes the list of rust/host/tests/replay, with what the model prints for it
@@ -33,7 +33,7 @@ EDGES = [-2**64, -2**63, -2**31 - 1, -1, 0, 30, 31, 63, 64, 2048, 100000, 2**31 
 # what calls.txt calls otherwise
 NAMES = {"get": "read", "put": "write", "byte": "poke"}
 # the case files that have lists of calls
-LISTS = "calls.txt", "images.txt", "outcomes.txt", "pairs.txt"
+LISTS = "calls.txt", "images.txt", "outcomes.txt", "pairs.txt", "settings.txt"
 # what each byte of an output or display buffer that is lent holds
 UNWRITTEN = 238
 # what only calls.txt has; its `lend` is of entity cells alone
@@ -121,8 +121,8 @@ class Lent:
         display = bytearray([UNWRITTEN] * size)
         return "%s %s" % (words_of("sentence", model.compose(self.outcome, display)), digest(display))
 
-    def load(self, machine, entities):
-        answer = machine.load(entities)
+    def load(self, machine, entities, *settings):
+        answer = machine.load(entities, *settings)
         if answer.word == "refused":
             return "refused %d" % answer.detail
         self.loaded, self.state = True, machine.state
@@ -402,6 +402,60 @@ def fixed_list():
         load 0
         enter 6
         statement
+        load 0 5927 31 2048 99999
+        load 0 5927 32 2048 99999
+        load 0 -1 31 2048 99999
+        load 0 5928 31 2048 99999
+        read 28
+        load 0 5927 1 0 3
+        enter 1
+        enter 4
+        enter 4
+        run 0 4
+        run 0 99999
+        run 0 3
+        abandon 0
+        load 0 5927 3 2 99998
+        enter 1
+        enter 3
+        enter 4
+        enter 5
+        enter 5
+        run 0 99999
+        run 2 99998
+        load 0
+        enter 3
+        poke 4 40
+        read 28
+        load 0
+        load 0 5927 31 2048 99999
+        load 0 5928 2 2 5
+        image %(length)d
+        poke 4 0
+        image %(length)d
+        enter 1
+        run 0 6
+        run 0 5
+        load 3 5888 2 2 5
+        load 2 5888 4 4 4
+        lend 64 2048 211
+        load 2 5888 4 4 4
+        enter 6
+        run 0 5
+        run 0 4
+        load 601 5888 0 4 4
+        load 0 5888 18446744073709551617 4 4
+        load 0 5888 4 -18446744073709551615 4
+        load 0 18446744073709557504 4 4 4
+        load 0 5888 4 4 9223372036854775808
+        file 59
+        load 0 5888 4 4 0
+        load 0 5888 4 4 4
+        file %(length)d
+        load 0 5888 31 0 1
+        enter 4
+        run 0 1
+        run 0 2
     """ % {"length": len(data), "short": len(data) - 1, "spare": len(data) + 40, "most": in_turn(64), "more": in_turn(65), "odd": in_turn(64) + " 0"}
     return data, [line.strip() for line in calls.strip().splitlines()]
 
@@ -415,7 +469,8 @@ def load_file_lists():
             seed, n = map(int, given)
             program = model.load_file(seed, n)
             yield program, ["load 0", "image %d" % len(program), "enter 1", "run 0 %d" % n, "run 0 %d" % (n + 1),
-                            "load 0", "enter 1", "run 0 %d" % (n + 1), "sentence 120", "loadfile %d %d %d" % (seed, n, len(program))]
+                            "load 0", "enter 1", "run 0 %d" % (n + 1), "sentence 120", "loadfile %d %d %d" % (seed, n, len(program)),
+                            "load 0 5927 1 0 %d" % (n + 1), "enter 1", "run 0 %d" % (n + 1), "load 0 5926 1 0 %d" % (n + 1)]
 
 
 def rule_lists():
@@ -458,9 +513,17 @@ def random_call(chance, length):
         return "loadfile %d %d %d" % (chance.pick([0, 1, chance.draw()]), chance.pick([0, 1, 2, 20, 1001]), chance.pick([0, 412, 413, 600]))
     if kind < 98:
         return "image %d" % chance.pick([length, length, length + 1, max(0, length - 1), chance.below(2 * length + 1)])
-    return chance.pick(["load 0", "load 2", "load -1", "lend 64 2048 2", "lend 64 2048 315", "lend 66 2050 210", "lend 66 2050 0", "lend 63 2048 1", "lend 64 2047 0", "file %d" % length,
+    return chance.pick([random_load(chance, 0), random_load(chance, 2), "load -1", "lend 64 2048 2", "lend 64 2048 315", "lend 66 2050 210", "lend 66 2050 0", "lend 63 2048 1", "lend 64 2047 0", "file %d" % length,
                         "file %d" % max(0, length - 1), "file %d" % (length + 1), "poke 4 0", "poke 4 39",
                         "poke %d %d" % (chance.below(60), chance.below(256))])
+
+
+def random_load(chance, entities):
+    """A load, often with settings of which some are narrow."""
+    if chance.below(2):
+        return "load %d" % entities
+    depth, saved, limit = chance.pick((1, 2, 3, 31)), chance.pick((0, 2, 5, 2048)), chance.pick((1, 10, 40, 99999))
+    return "load %d %d %d %d %d" % (entities, chance.pick((5927, 5927, 5927, 5888, 0)), depth, saved, limit)
 
 
 def edged(chance, call):
@@ -491,7 +554,7 @@ def random_lists():
         entities = chance.below(4)
         program = damaged(chance, random_program(chance, hosts=True, entities=entities > 0).bytes())
         lend = "lend %d %d %d" % (64 + chance.below(8), 2048 + chance.below(4), 105 * entities + chance.below(2))
-        load = "load %d" % entities
+        load = random_load(chance, entities)
         yield program, [lend, load] + [edged(chance, random_call(chance, len(program))) for _ in range(60)]
 
 

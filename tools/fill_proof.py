@@ -8,9 +8,10 @@ of a whole proof move when a line of the code does. So a proof may be written wi
                              search. `..` is what stands before the needs, as the invariant and the measure of a loop
 
     python3 tools/fill_proof.py CRATE FUNCTION
+    python3 tools/fill_proof.py --empty CRATE FUNCTION
 
-fills crates/CRATE/proofs/../FUNCTION/Proof.antt, by what `rt dev CRATE --generated` says of the function. The file is put aside while that runs, since
-the prover doesn't read `@`.
+The first fills crates/CRATE/proofs/../FUNCTION/Proof.antt, by what `rt dev CRATE --generated` says of the function. The file is put aside while that runs, since
+the prover doesn't read `@`. The second turns a proof's paths back into names: before a change of the code, so that they can be filled again after it.
 """
 import glob
 import os
@@ -87,6 +88,35 @@ def filled(text, fields, before, needs):
     return "\n".join(lines)
 
 
+def named(match, start, fields, before):
+    """A path as a name, where filling the name would give the path again."""
+    steps, field = match.group(1).count(".before"), match.group(2)
+    place = start
+    for _ in range(steps):
+        place = before[place]
+    if field and field in fields[place] and path(start, before, lambda p: field in fields[p]).count(".before") == steps:
+        return f"c@{field}"
+    if steps:
+        return f"c@@{place}" + (f" .{field}" if field else "")
+    return match.group(0)
+
+
+def emptied(text, fields, before, needs):
+    """The text with names for its paths, and no closing definition."""
+    lines, start = [], None
+    for line in text.split("\n"):
+        if match := re.match(r"pub (\S+-spec) : ", line):
+            spec = text[text.index(line) :]
+            lines.append(f"@close {match.group(1)}" + "".join(" " + word for word in re.findall(r"\b(?:Inv|μ)-\S+", spec)) + "\n")
+            break
+        if match := re.match(r"\S+ : tie\.(Need-\S+)", line):
+            start = needs[match.group(1)]
+        elif match := re.match(r"\S+ : \(c : tie\.([^ )]+)", line):
+            start = match.group(1)
+        lines.append(re.sub(r"\bc((?: \.before)*)(?: \.([^\s().]+))?(?=[\s().])", lambda m: named(m, start, fields, before), line + " ").rstrip() if start else line)
+    return "\n".join(lines)
+
+
 def closed(text, order):
     """The text with its closing definition."""
     match = re.search(r"^@close (\S+)(.*)$", text, re.M)
@@ -106,7 +136,8 @@ def closed(text, order):
 
 
 def main():
-    crate, function = sys.argv[1:3]
+    empty = sys.argv[1] == "--empty"
+    crate, function = sys.argv[1 + empty : 3 + empty]
     proof = one(f"crates/{crate}/proofs/**/{function}/Proof.antt")
     generate(crate, proof)
     folder = f"{GENERATED}/Rattle.{crate}.proofs/**/{function}"
@@ -114,7 +145,8 @@ def main():
         text = file.read()
     with open(one(f"{folder}/Tie.antt")) as file:
         order = re.findall(r"^abbrev pub (Need-\S+) :", file.read(), re.M)
-    text = closed(filled(text, *places(one(f"{folder}/Lts.antt"))), order)
+    found = places(one(f"{folder}/Lts.antt"))
+    text = emptied(text, *found) if empty else closed(filled(text, *found), order)
     with open(proof, "w") as file:
         file.write(text)
 

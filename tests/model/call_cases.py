@@ -5,14 +5,15 @@ from dataclasses import replace
 from functools import lru_cache
 
 from common import (
-    ANY_CALL, CHANCE_FLOATS, CURRENT, DEPTH, ENTITIES, FRAMES, HALF, LEAST, MINUS_INFINITY, MINUS_ZERO,
-    NEGATIVE_NAN, POSITION, SAVED, SIGNALLING_NAN, STATE_LENGTH, STATE_LUMPS, STATE_PER_ENTITY, THREE,
-    TWO, Xorshift, flt, hex_of, numbers, random_program,
+    ANY_CALL, CHANCE_FLOATS, CHECK_NUMBER_HELD, CURRENT, DEPTH, ENTITIES, FRAMES, GREATEST_DEPTH, GREATEST_LIMIT,
+    GREATEST_SAVED, HALF, LEAST, MINUS_INFINITY, MINUS_ZERO, NEGATIVE_NAN, POSITION, SAVED, SIGNALLING_NAN, STANDARD,
+    STATE_LENGTH, STATE_LUMPS, STATE_PER_ENTITY, THREE, TWO, Xorshift, flt, hex_of, numbers, random_program,
+    record_settings,
 )
 from entity_calls import entity_calls
 from model import (
     CELLS, FIELD_DEFS, FLOAT, FUNCTION, FUNCTIONS, GLOBAL_DEFS, HOST_OPCODES, ONE, POINTER, RECORD_SIZES,
-    STATEMENTS, STRING, STRINGS, VECTOR, Answer, Assembly, Frame, Machine, function,
+    STATEMENTS, STRING, STRINGS, VECTOR, Answer, Assembly, Frame, Machine, Settings, function,
 )
 from string_cases import string_calls
 from void_cases import many_voids, void_calls
@@ -47,6 +48,10 @@ def set_field(state, field, value):
     names = {13: "cells_per_entity", 14: "position", 15: "function", 16: "depth", 17: "saved", 80: "entities"}
     if field in names:
         return replace(state, **{names[field]: value})
+    if field >= CHECK_NUMBER_HELD:
+        settings = list(state.settings)
+        settings[field - CHECK_NUMBER_HELD] = value
+        return replace(state, settings=Settings(*settings))
     index, which = divmod(field - FRAMES, 2)
     frames = list(state.frames)
     old = frames[index]
@@ -281,6 +286,7 @@ def load_calls(c):
     c.new("59 bytes", HOUSE.bytes()[:59])
     c.no(1, "load 0")
     c.ok("field 0 59")
+    record_settings(c)
     c.no(13, *ANY_CALL)
     c.new("no bytes", b"")
     c.no(1, "load 0")
@@ -289,6 +295,11 @@ def load_calls(c):
 
 def record_state(c):
     """Make the state record what the header says, as if it had been loaded."""
+    record_file(c)
+    record_settings(c)
+
+
+def record_file(c):
     file = c.machine.file
     c.ok(f"field {STATE_LENGTH} {len(file)}")
     for index, value in enumerate(struct.unpack_from("<13i", file, 8)):
@@ -470,6 +481,143 @@ def state_calls(c):
         c.no(14, "statement", "carry", "run 0 3")
         c.ok("enter 13", "statement")
     c.ok(f"field {POSITION} 12", "put 39 13", "statement", "statement")
+
+
+def settings_calls(c):
+    """R-11: settings of a state made up by the host."""
+    c.new("R-11: each setting at both ends, one past them and far out, in a state: 13", HOUSE)
+    c.ok("load 0", f"enter {NOTHING}")
+    ends = ((0, 65_535), (1, 31), (0, 2_048), (1, 99_999))
+    for index, (least, greatest) in enumerate(ends):
+        field = CHECK_NUMBER_HELD + index
+        for value in (least, least + 1, greatest - 1, greatest):
+            c.ok(f"field {field} {value}", "get 1")
+        for value in (*range(least), greatest + 1, greatest + 65_536, 2_147_483_647):
+            c.ok(f"field {field} {value}")
+            c.no(13, *(ANY_CALL if value <= greatest + 1 else ("get 1", "abandon 0")))
+        c.ok(f"field {field} {STANDARD[index]}", "get 1")
+    c.new("R-11: a state of zeros but for what it records of the file, then the least settings", HOUSE)
+    record_file(c)
+    c.no(13, *ANY_CALL)
+    c.ok(f"field {GREATEST_DEPTH} 1")
+    c.no(13, *ANY_CALL)
+    c.ok(f"field {GREATEST_LIMIT} 1", "get 1", f"field {GREATEST_DEPTH} 0")
+    c.no(13, *ANY_CALL)
+    c.ok(f"field {GREATEST_DEPTH} 1", f"enter {NOTHING}")
+    c.no(22, f"enter {NOTHING}")
+    c.no(28, "run 0 2")
+    c.word("ended", "run 0 1")
+    c.no(23, "enter 1")
+    c.new("R-11: a saved store of 2,047, whatever saved count is the greatest", HOUSE, 64, 2047)
+    c.no(12, "load 0")
+    record_file(c)
+    for saved in (0, 1, 2047, 2048):
+        record_settings(c, STANDARD._replace(saved=saved))
+        c.no(13, *(ANY_CALL if saved == 0 else ("get 1", "enter 13")))
+    c.new("R-11: the check number held isn't compared with the file's", HOUSE)
+    c.ok("load 0", "enter 1", "statement")
+    for value in (0, 1, 5_926, 5_928, 65_535):
+        c.ok(f"field {CHECK_NUMBER_HELD} {value}", "get 1", "put 36 13", "statement", "statement")
+        c.word("ended", "run 0 1")
+        c.ok("enter 1", f"byte 4 {value % 256}", "statement")
+    c.ok("abandon 0", "get 40")
+    depth_settings_calls(c)
+    saved_settings_calls(c)
+    limit_settings_calls(c)
+
+
+def depth_settings_calls(c):
+    c.new("R-11: a depth over the greatest is 13; at the greatest, entries are 22", HOUSE)
+    c.ok("load 0", *[f"enter {NOTHING}"] * 3)
+    for greatest in (2, 1):
+        c.ok(f"field {GREATEST_DEPTH} {greatest}")
+        c.no(13, *ANY_CALL)
+    c.ok(f"field {GREATEST_DEPTH} 3", "get 1")
+    c.no(22, f"enter {NOTHING}", "enter 1", f"enter {NEGATIVE_LOCALS}", f"enter {BUILTIN_ENTERED}")
+    c.no(20, "enter 14", "enter -1")
+    c.ok("statement", f"enter {NOTHING}")
+    c.no(22, f"enter {NOTHING}")
+    c.ok(f"field {GREATEST_DEPTH} 4", "enter 1")
+    c.no(22, f"enter {NOTHING}")
+    c.ok("statement")
+    c.no(22, "statement", "run 0 5")
+    c.ok("put 36 3")
+    c.word("builtin", "statement", "run 0 5")  # a builtin needs no depth
+    c.ok("carry")
+    c.word("ended", "run 0 9")
+    c.ok(f"field {GREATEST_DEPTH} 2", "load 0", *[f"enter {NOTHING}"] * 31)  # the load's settings are 01's
+    c.no(22, f"enter {NOTHING}")
+    c.new("R-11: depths made up, over the greatest, at it and below it", HOUSE)
+    c.ok("load 0", f"field {GREATEST_DEPTH} 5", f"field {frame_field(7, True)} 77")  # no frame above the depth is looked at
+    for depth in (6, 7, 31, 32, 2_147_483_647):
+        c.ok(f"field {DEPTH} {depth}")
+        c.no(13, *(ANY_CALL if depth == 6 else ("get 1", "abandon 0")))
+    for depth in (4, 5):
+        c.ok(f"field {DEPTH} {depth}", "get 1")
+    c.no(22, "enter 1")
+    c.ok("abandon 4", "enter 1", "abandon 0")
+    for greatest in (2, 3, 7):
+        c.new(f"R-11: Calls as deep as {greatest}", HOUSE)
+        c.ok("load 0", f"field {GREATEST_DEPTH} {greatest}", "enter 5")
+        assert c.do("run 0 99", 22).count == 2 * greatest - 1
+        assert c.machine.state.depth == greatest
+        c.no(22, "statement")
+        c.ok(f"field {GREATEST_DEPTH} {greatest + 1}", "statement", "statement")
+        c.no(22, "statement")
+        c.ok(f"field {GREATEST_DEPTH} {greatest}")
+        c.no(13, "statement", "abandon 0")
+        c.ok(f"field {GREATEST_DEPTH} 31", f"abandon {greatest}", f"field {GREATEST_DEPTH} {greatest}", "abandon 0")
+
+
+def saved_settings_calls(c):
+    c.new("R-11: a saved count over the greatest is 13, though it is the sum; at the greatest it passes", HOUSE)
+    c.ok("load 0", "enter 1", "enter 2")
+    for greatest in (4, 0):
+        c.ok(f"field {GREATEST_SAVED} {greatest}")
+        c.no(13, *ANY_CALL)
+    c.ok(f"field {GREATEST_SAVED} 5", "get 1", f"enter {NOTHING}")
+    c.no(23, "enter 5", "enter 1", f"enter {NEGATIVE_LOCALS}", f"enter {LARGE}")
+    c.ok(f"field {GREATEST_SAVED} 6", "enter 5")
+    c.no(23, "enter 5")
+    c.ok(f"enter {NOTHING}", f"field {SAVED} 7")
+    c.no(13, "get 1")  # not the sum
+    c.ok(f"field {GREATEST_SAVED} 7")
+    c.no(13, "get 1")
+    c.ok(f"field {SAVED} 6", "abandon 0", f"field {GREATEST_SAVED} 0", "get 1", f"enter {NOTHING}")
+    c.no(23, "enter 5")
+    c.new("R-11: 23 before 15, 22 before 23", HOUSE)
+    c.ok("load 0", f"field {GREATEST_SAVED} 2")
+    c.no(23, f"enter {MISSING_LOCALS}")
+    c.ok(f"field {GREATEST_SAVED} 3")
+    c.no(15, f"enter {MISSING_LOCALS}")
+    c.ok("enter 2", f"field {GREATEST_DEPTH} 1")
+    c.no(22, "enter 2")
+    c.ok(f"field {GREATEST_DEPTH} 2")
+    c.no(23, "enter 2")
+    for greatest in (1, 2, 5):
+        c.new(f"R-11: Calls that save {greatest}", HOUSE)
+        c.ok("load 0", f"field {GREATEST_SAVED} {greatest}", "enter 5")
+        assert c.do("run 0 99", 23).count == 2 * greatest - 1
+        assert c.machine.state.saved == greatest
+        c.no(23, "statement")
+        c.ok(f"field {GREATEST_SAVED} {greatest - 1}")
+        c.no(13, "statement", "abandon 0")
+        c.ok(f"field {GREATEST_SAVED} {greatest}", "abandon 0")
+
+
+def limit_settings_calls(c):
+    c.new("R-11: 28 above the greatest limit, before 29; a run stops at it", HOUSE)
+    c.ok("load 0", f"enter {ENDLESS}")
+    for greatest in (1, 2, 5, 99_998):
+        c.ok(f"field {GREATEST_LIMIT} {greatest}")
+        c.no(28, f"run 0 {greatest + 1}", "run 0 99999", "run 0 0", "run 0 -1", f"run 1 {greatest + 1}", f"run -1 {greatest + 1}")
+        c.no(29, f"run 1 {greatest}", f"run -1 {greatest}")
+        for limit in (min(greatest, 5), 1):
+            assert c.do(f"run 0 {limit}", "spent").count == limit
+    c.ok(f"field {GREATEST_LIMIT} 3", "put 36 13", "enter 1")
+    assert c.do("run 1 3", "spent").count == 3
+    c.no(28, "run 1 4")
+    assert c.do("run 1 3", "ended").count == 1
 
 
 def raw_calls(c):
@@ -954,6 +1102,7 @@ def call_cases():
     life_calls(c)
     load_calls(c)
     state_calls(c)
+    settings_calls(c)
     raw_calls(c)
     depth_0_calls(c)
     run_calls(c)

@@ -3,19 +3,28 @@
 import struct
 
 from model import (
-    FLOAT, HOST_OPCODES, INFINITY, INSIDE_BUILTINS, LOADED_FIELDS, ONE, QUIET_NAN, SAVE_FLAG, SIGN,
-    STORED_FIELDS, VECTOR, VOID, Assembly, function,
+    CHECK_NUMBER, DEEPEST, FLOAT, HOST_OPCODES, INFINITY, INSIDE_BUILTINS, LOADED_FIELDS, MOST_SAVED, MOST_STATEMENTS, ONE,
+    QUIET_NAN, SAVE_FLAG, SIGN, STORED_FIELDS, VECTOR, VOID, Assembly, Settings, function,
 )
 
 # `field N V` of calls.txt sets one number of the state
 STATE_LENGTH, STATE_LUMPS, STATE_PER_ENTITY = 0, 1, 13
 POSITION, CURRENT, DEPTH, SAVED, FRAMES, ENTITIES = 14, 15, 16, 17, 18, 80
+CHECK_NUMBER_HELD, GREATEST_DEPTH, GREATEST_SAVED, GREATEST_LIMIT = range(81, 85)  # R-11's settings
+
+STANDARD = Settings(CHECK_NUMBER, DEEPEST, MOST_SAVED, MOST_STATEMENTS)  # 01's
 
 # calls that each operation takes or refuses otherwise, all refused 13 where the state isn't coherent
 ANY_CALL = (
     *("enter 1", "enter -1", "statement", "run 0 10", "run 0 0", "run -1 1", "carry"),
     *("abandon 0", "abandon -1", "get 1", "get -1", "put 1 7", "put 64 7"),
 )
+
+
+def record_settings(calls, settings=STANDARD):
+    """Makes the state of a list of calls hold the settings, without a load."""
+    for index, value in enumerate(settings):
+        calls.ok(f"field {CHECK_NUMBER_HELD + index} {value}")
 
 
 class Xorshift:

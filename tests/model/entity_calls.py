@@ -2,7 +2,10 @@
 
 import struct
 
-from common import ANY_CALL, CURRENT, DEPTH, ENTITIES, POSITION, SAVED, STATE_LENGTH, STATE_LUMPS, STATE_PER_ENTITY, THREE, TWO, flt
+from common import (
+    ANY_CALL, CURRENT, DEPTH, ENTITIES, POSITION, SAVED, STATE_LENGTH, STATE_LUMPS, STATE_PER_ENTITY, THREE, TWO, flt,
+    record_settings,
+)
 from model import (
     ENTITY, FIELD, FIELD_DEFS, FLOAT, FUNCTION, FUNCTIONS, ONE, POINTER, STATEMENTS, STRING, VECTOR, VOID, Answer,
     Assembly, function,
@@ -298,6 +301,7 @@ def recorded_calls(c):
     c.ok(f"field {STATE_LENGTH} {len(PLAYERS.bytes())}")
     for index, value in enumerate(struct.unpack_from("<13i", PLAYERS.bytes(), 8)):
         c.ok(f"field {STATE_LUMPS + index} {value}")
+    record_settings(c)
     c.ok("get 1", f"put {PLAYER} 1", "put 29 5", f"field {ENTITIES} 2", f"field {POSITION} 2", "statement")
     c.ok(f"field {CURRENT} 5", f"field {DEPTH} 1", f"field {SAVED} 1", f"field {POSITION} 5", "statement", "statement", "abandon 0")
     again(c, "R-3: cells per entity changed in file and state: what is there now counts, and 13", 3 * STRIDE + 3)

@@ -62,8 +62,9 @@ class Images(Calls):
         self.image(expected)
 
 
-def joined(file):
-    """What must be written for a file, put together by ranges of bytes; the model goes by records."""
+def joined(file, check_number=CHECK_NUMBER):
+    """What must be written for a file that was loaded under the check number, put together by ranges of bytes; the model goes by
+    records."""
     if isinstance(file, Assembly):
         file = file.bytes()
     numbers = struct.unpack_from("<15i", file)
@@ -75,7 +76,7 @@ def joined(file):
             lump_bytes[36 * record + 12 : 36 * record + 16] = bytes(4)
         header += struct.pack("<2i", HEADER_SIZE + len(body), count)
         body += lump_bytes
-    return struct.pack("<2i", VERSION, CHECK_NUMBER) + header + struct.pack("<i", numbers[14]) + body
+    return struct.pack("<2i", VERSION, check_number) + header + struct.pack("<i", numbers[14]) + body
 
 
 STRING_BYTES = b"\0goal\0teams\0\xe1\xff"  # no zero byte at the end

@@ -1,5 +1,5 @@
 """Writes the case files: cases/statements.txt, files.txt, calls.txt, traces.txt, images.txt, pads.txt, sentences.txt,
-outcomes.txt, pairs.txt and load_files.txt.
+outcomes.txt, pairs.txt, load_files.txt and settings.txt.
 
 What is expected in them is what model.py answers.  README.md says how to read them.  The same
 files come out every time: the only chance numbers are those of a xorshift with fixed seeds.
@@ -14,6 +14,7 @@ from load_file_cases import load_file_cases
 from pad_cases import pad_cases
 from pair_cases import pair_cases
 from sentence_cases import outcome_cases, sentence_cases
+from settings_cases import settings_cases
 from statement_cases import statement_vectors
 from trace_cases import trace_cases
 
@@ -25,7 +26,7 @@ def make():
     makers = {"statements.txt": statement_vectors(), "files.txt": file_cases(), "calls.txt": call_cases()}
     makers |= {"traces.txt": trace_cases(), "images.txt": image_cases(), "pads.txt": pad_cases()}
     makers |= {"sentences.txt": sentence_cases(), "outcomes.txt": outcome_cases(), "pairs.txt": pair_cases()}
-    makers |= {"load_files.txt": load_file_cases()}
+    makers |= {"load_files.txt": load_file_cases(), "settings.txt": settings_cases()}
     texts = {name: "\n".join(maker.lines) + "\n" for name, maker in makers.items()}
     return texts, makers
 

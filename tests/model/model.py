@@ -211,6 +211,7 @@ FEWEST_PER_ENTITY = 105
 DEEPEST = 31
 MOST_SAVED = 2_048
 MOST_STATEMENTS = 99_999
+GREATEST_CHECK_NUMBER = 65_535
 MOST_PAIRS = 64  # R-9: "Up to 64 pairs of address and value"
 MOST_ENTITIES = 600  # R-3: "up to 600 entities"
 GREATEST_POINTER = 2_147_483_647
@@ -304,10 +305,10 @@ class Program:
         # "from the file's own cells and not from the running ones"
         return b"".join(struct.pack("<I", self.cell(i)) for i in numbers)
 
-    def written(self, cells_per_entity, added=0):
+    def written(self, cells_per_entity, check_number, added=0):
         """R-6: the program's file, "header, then the six lumps in header order without gaps", with so many
         zero cells added."""
-        header, body = [VERSION, CHECK_NUMBER], b""
+        header, body = [VERSION, check_number], b""
         for lump in range(6):
             # an empty lump's offset is where it would begin, as any other's
             header += [HEADER_SIZE + len(body), self.count(lump)]
@@ -344,6 +345,19 @@ Frame = namedtuple("Frame", "position function")
 # opcode's number, the cell that a raw read gives, or the length that was written; count: completed statements of a run
 Answer = namedtuple("Answer", "word detail count", defaults=(0, 0))
 
+# R-11: "Check number (0 to 65,535), greatest depth (1 to 31), greatest saved count (0 to 2,048) and greatest run limit (1 to
+# 99,999) become settings given at load and held in the state."
+Settings = namedtuple("Settings", "check_number depth saved limit")
+
+
+def settings_fit(settings):
+    return (
+        0 <= settings.check_number <= GREATEST_CHECK_NUMBER
+        and 1 <= settings.depth <= DEEPEST
+        and 0 <= settings.saved <= MOST_SAVED
+        and 1 <= settings.limit <= MOST_STATEMENTS
+    )
+
 
 @dataclass(frozen=True)
 class State:
@@ -358,6 +372,7 @@ class State:
     saved: int = 0
     frames: tuple = (Frame(0, 0),) * DEEPEST
     entities: int = 0  # R-3: "their number given at load and kept in the state"
+    settings: Settings = Settings(0, 0, 0, 0)
 
 
 def lumps_fit(lumps, length):
@@ -393,9 +408,10 @@ class Machine:
 
     # -- the operations ------------------------------------------------------------------------
 
-    def load(self, entities=0):
+    def load(self, entities=0, check_number=CHECK_NUMBER, depth=DEEPEST, saved=MOST_SAVED, limit=MOST_STATEMENTS):
+        """The settings are 01's where none are given."""
         try:
-            state, program = self._checked_file(entities)
+            state, program = self._checked_file(entities, Settings(check_number, depth, saved, limit))
         except Refused as refusal:
             self.state = State()  # a refused load gives back a state of zeros
             return Answer("refused", refusal.number)
@@ -436,12 +452,14 @@ class Machine:
 
     # -- load ----------------------------------------------------------------------------------
 
-    def _checked_file(self, entities):
+    def _checked_file(self, entities, settings):
+        # R-11: "Settings out of range are refused 36, before the file is looked at"
+        check(settings_fit(settings), 36)
         file = self.file
         check(HEADER_SIZE <= len(file) <= LARGEST_FILE, 1)
         version, check_number, lumps, cells_per_entity = read_header(file)
         check(version == VERSION, 2)
-        check(check_number == CHECK_NUMBER, 3)
+        check(check_number == settings.check_number, 3)
         check(lumps_fit(lumps, len(file)), 4)
         program = Program(file, lumps)
 
@@ -464,11 +482,12 @@ class Machine:
         cell_count = program.count(CELLS)
         check(self.fewest_cells <= cell_count <= MOST_CELLS, 10)
         check(cells_per_entity >= FEWEST_PER_ENTITY, 11)
+        # R-11: "the lent saved store stays 2,048 at least"
         check(len(self.cells) >= cell_count and len(self.saved_store) >= MOST_SAVED, 12)
         # R-3: "More than 600 entities, or lent entity cells too few for them, are refused 13, at
         # load after 12."  So is a negative number of them.
         check(entities >= 0 and self._entities_fit(entities, cells_per_entity), 13)
-        state = State(len(file), lumps, cells_per_entity, entities=entities)
+        state = State(len(file), lumps, cells_per_entity, entities=entities, settings=settings)
         return state, program
 
     def _entities_fit(self, entities, cells_per_entity):
@@ -509,12 +528,16 @@ class Machine:
             return False
         if cells_per_entity != state.cells_per_entity or cells_per_entity < FEWEST_PER_ENTITY:
             return False
-        # "lent cells fewer than the file's, or saved store under 2,048; depth over 31"
+        # "lent cells fewer than the file's, or saved store under 2,048"
         if len(self.cells) < cell_count or len(self.saved_store) < MOST_SAVED:
             return False
         if not self._entities_fit(state.entities, cells_per_entity):
             return False
-        if state.depth > DEEPEST:
+        # R-11: "Settings out of range are refused .. 13 in a state", and "depth over 31" and "saved count over 2,048" use them;
+        # the check number is held, and not compared with the file's again
+        if not settings_fit(state.settings):
+            return False
+        if state.depth > state.settings.depth:
             return False
         # "an entered function (at depth above 0 the current one and every frame's but the lowest)
         # absent or of negative local count; saved count over 2,048 or not the sum"
@@ -529,7 +552,7 @@ class Machine:
             if locals_ < 0:
                 return False
             total += locals_
-        return state.saved <= MOST_SAVED and state.saved == total
+        return state.saved <= state.settings.saved and state.saved == total
 
     # -- cells ---------------------------------------------------------------------------------
 
@@ -810,8 +833,8 @@ class Machine:
         state = self.state
         check(0 <= number < self._program.count(FUNCTIONS), 20)
         function = self._program.function(number)
-        check(state.depth < DEEPEST, 22)
-        check(function.locals >= 0 and state.saved + function.locals <= MOST_SAVED, 23)
+        check(state.depth < state.settings.depth, 22)
+        check(function.locals >= 0 and state.saved + function.locals <= state.settings.saved, 23)
         self._check_range(function.local, function.locals)
         check(0 <= function.arguments <= 8, 24)
         # "Entry saves the local range onto the saved store, then copies arguments"
@@ -880,7 +903,8 @@ class Machine:
     # -- writing the program -------------------------------------------------------------------
 
     def _image(self, output):
-        file = self._program.written(self.state.cells_per_entity)
+        # R-11: "R-6 writes the check number held"
+        file = self._program.written(self.state.cells_per_entity, self.state.settings.check_number)
         # "An output buffer that is too short, or a written length over 1,048,576, is refused 34 and
         # nothing is written."  Bytes past the length stay, too.
         check(len(file) <= LARGEST_FILE, 34)
@@ -892,7 +916,7 @@ class Machine:
     # -- run, carry on, abandon ----------------------------------------------------------------
 
     def _run(self, target, limit):
-        check(1 <= limit <= MOST_STATEMENTS, 28)
+        check(1 <= limit <= self.state.settings.limit, 28)
         check(0 <= target < self.state.depth, 29)
         count = 0
         while True:
@@ -1006,7 +1030,7 @@ def pad(file):
     state = machine.state
     # "it writes them by R-6 with zero cells added up to 64 and everything else equal"
     missing = max(FEWEST_CELLS - state.lumps[2 * CELLS + 1], 0)
-    padded = Program(file, state.lumps).written(state.cells_per_entity, missing)
+    padded = Program(file, state.lumps).written(state.cells_per_entity, CHECK_NUMBER, missing)
     # "over 65,536 bytes to write is 34"
     return padded if len(padded) <= LARGEST_PADDED else b"refused,34\n"
 

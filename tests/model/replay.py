@@ -97,10 +97,10 @@ def set_number(model, machine, field, value):
     state = machine.state
     flat = [state.length, *state.lumps, state.cells_per_entity]
     flat += [state.position, state.function, state.depth, state.saved]
-    flat += [number for frame in state.frames for number in frame] + [state.entities]
+    flat += [number for frame in state.frames for number in frame] + [state.entities, *state.settings]
     flat[field] = value
     frames = tuple(model.Frame(*flat[i : i + 2]) for i in range(18, 80, 2))
-    machine.state = model.State(flat[0], tuple(flat[1:13]), *flat[13:18], frames, flat[80])
+    machine.state = model.State(flat[0], tuple(flat[1:13]), *flat[13:18], frames, flat[80], model.Settings(*flat[81:]))
     return model.Answer("accepted")
 
 
@@ -147,6 +147,10 @@ def replay_outcomes(model):
 
 def replay_pairs(model):
     yield from replay_lists(model, "pairs.txt")
+
+
+def replay_settings(model):
+    yield from replay_lists(model, "settings.txt")
 
 
 def replay_sentences(model):
@@ -272,7 +276,7 @@ def replay_traces(model):
 
 
 REPLAYS = (replay_statements, replay_calls, replay_files, replay_traces, replay_images, replay_pads)
-REPLAYS += (replay_sentences, replay_outcomes, replay_pairs, replay_load_files)
+REPLAYS += (replay_sentences, replay_outcomes, replay_pairs, replay_load_files, replay_settings)
 
 
 def differences(model):

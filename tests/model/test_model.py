@@ -17,11 +17,11 @@ import unittest
 import make_cases
 import model
 import replay
-from common import Xorshift, flt, random_program, triple
+from common import CHANCE_FLOATS, STANDARD, Xorshift, flt, random_program, triple
 from model import (
     BUILTINS, CELLS, ENTITY, FIELD, FIELD_DEFS, FLOAT, FUNCTION, FUNCTIONS, GLOBAL_DEFS, HOST_OPCODES, INFINITY,
     OPCODES, POINTER, QUIET_NAN, SAVE_FLAG, SIGN, STATEMENTS, STRING, STRINGS, VECTOR, VOID, Answer, Assembly, Frame,
-    Machine, State, function, replace, show,
+    Machine, Settings, State, function, replace, show,
 )
 from pad_cases import pad_cases
 from sentence_cases import sentence_cases
@@ -1293,7 +1293,7 @@ class Padding(unittest.TestCase):
         """Does a step on the machine, which is as before R-7, and on one with the file padded, from the same old cells, stores
         and state; the added cells hold anything.  Says whether it completed."""
         count, state = machine.state.lumps[2 * CELLS + 1], machine.state
-        file = model.Program(machine.file, state.lumps).written(state.cells_per_entity, 64 - count)
+        file = model.Program(machine.file, state.lumps).written(state.cells_per_entity, 5927, 64 - count)
         added = [0xADD0000 + i for i in range(count, 64)]
         after = Machine(bytearray(file), machine.cells + added, list(machine.saved_store), list(machine.entity_cells))
         after.state = replace(state, length=len(file), lumps=model.read_header(file)[2])
@@ -1375,6 +1375,186 @@ class Padding(unittest.TestCase):
                     break
                 done += 1
         self.assertGreater(done, 100)
+
+
+def with_check_number(file, check_number):
+    return bytearray(file[:4] + struct.pack("<i", check_number) + file[8:])
+
+
+class HouseLimits(unittest.TestCase):
+    """R-11: settings given at load and held in the state.  Function 1 goes on without end, 2 has three locals and calls itself, 3 has
+    one and returns."""
+
+    FILE = Assembly(
+        [("Goto", 0), ("Call0", 28), ("Return", 0)],
+        [function(), function(0), function(1, 40, 3), function(2, 40, 1)],
+        cells={28: 2},
+    ).bytes()
+    ENDS = (("check_number", 0, 65_535), ("depth", 1, 31), ("saved", 0, 2_048), ("limit", 1, 99_999))
+
+    def load(self, settings=STANDARD, file=FILE, lent=2048, entities=0, **changed):
+        """A machine with so many lent for the saved store, and what its load answers."""
+        machine = Machine(bytearray(file), [5] * 64, [6] * lent)
+        return machine, machine.load(entities, *settings._replace(**changed))
+
+    def test_where_none_are_given(self):
+        machine = Machine(bytearray(self.FILE), [5] * 64, [6] * 2048)
+        self.assertEqual(machine.load(), ACCEPTED)
+        self.assertEqual(machine.state.settings, (5927, 31, 2_048, 99_999))
+
+    def test_ranges(self):
+        for name, least, greatest in self.ENDS:
+            for value in (least - 1, -1, greatest + 1, 2**31, 2**63, -(2**63), STANDARD._asdict()[name] + 2**16, STANDARD._asdict()[name] + 2**32):
+                machine, answer = self.load(**{name: value})
+                self.assertEqual(answer, refused(36))
+                self.assertEqual((machine.state, machine.cells), (State(), [5] * 64))
+                machine, _ = self.load()
+                machine.state = replace(machine.state, settings=STANDARD._replace(**{name: value}))
+                self.assertEqual(machine.read(1), refused(13))
+            for value in (least, greatest):
+                file = with_check_number(self.FILE, value) if name == "check_number" else self.FILE
+                machine, answer = self.load(file=file, **{name: value})
+                self.assertEqual(answer, ACCEPTED)
+                self.assertEqual(machine.state.settings, STANDARD._replace(**{name: value}))
+                self.assertEqual(machine.read(1), ACCEPTED)
+                machine, _ = self.load()
+                machine.state = replace(machine.state, settings=STANDARD._replace(**{name: value}))
+                self.assertEqual(machine.read(1), ACCEPTED)
+
+    def test_36_first(self):
+        for file in (b"", bytes(59), bytes(60), bytes(1_048_577), with_check_number(self.FILE, 1)):
+            for name, least, _ in self.ENDS:
+                self.assertEqual(self.load(file=file, lent=0, entities=601, **{name: least - 1})[1], refused(36))
+        self.assertEqual(self.load(file=b"")[1], refused(1))
+
+    def test_12_by_2048(self):
+        self.assertEqual(self.load(saved=0, lent=2047)[1], refused(12))
+        machine, answer = self.load(saved=0)
+        self.assertEqual(answer, ACCEPTED)
+        machine.saved_store = [6] * 2047
+        self.assertEqual(machine.read(1), refused(13))
+
+    def test_check_number(self):
+        for held in (0, 1, 5927, 65_535, 65_536, 65_536 + 5_927, -1, -5927):
+            for given in (0, 1, 5927, 65_535):
+                machine, answer = self.load(file=with_check_number(self.FILE, held), check_number=given)
+                self.assertEqual(answer, ACCEPTED if held == given else refused(3))
+                if held != given:
+                    continue
+                # it isn't compared with the file's again, and it is what is written
+                for other in (5927, 7, -1):
+                    machine.file[:] = with_check_number(machine.file, other)
+                    self.assertEqual(machine.read(1), ACCEPTED)
+                    self.assertEqual(written(machine), with_check_number(self.FILE, given))
+                machine.state = replace(machine.state, settings=STANDARD._replace(check_number=300))
+                self.assertEqual(written(machine), with_check_number(self.FILE, 300))
+
+    def test_depth(self):
+        for greatest in (1, 2, 7, 31):
+            machine, _ = self.load(depth=greatest)
+            for _ in range(greatest):
+                self.assertEqual(machine.enter(3), ACCEPTED)
+            self.assertEqual((machine.enter(3), machine.enter(4)), (refused(22), refused(20)))
+            self.assertEqual(machine.abandon(0), ACCEPTED)
+            machine.enter(2)
+            self.assertEqual(machine.run(0, 99), refused(22, greatest - 1))
+            good = machine.state
+            for held, answer in ((greatest - 1, refused(13)), (greatest, ACCEPTED), (min(greatest + 1, 31), ACCEPTED)):
+                machine.state = replace(good, settings=STANDARD._replace(depth=held))
+                self.assertEqual(machine.read(1), answer)
+
+    def test_saved(self):
+        for greatest, calls in ((0, None), (2, None), (3, 0), (5, 0), (6, 1), (8, 1), (9, 2)):
+            machine, _ = self.load(saved=greatest)
+            self.assertEqual(machine.enter(1), ACCEPTED)
+            self.assertEqual(machine.enter(2), refused(23) if calls is None else ACCEPTED)
+            if calls is None:
+                continue
+            self.assertEqual(machine.run(0, 99), refused(23, calls))
+            good = machine.state
+            self.assertEqual(good.saved, 3 * (calls + 1))
+            for held, answer in ((good.saved - 1, refused(13)), (good.saved, ACCEPTED), (2_048, ACCEPTED)):
+                machine.state = replace(good, settings=STANDARD._replace(saved=held))
+                self.assertEqual(machine.read(1), answer)
+
+    def test_limit(self):
+        for greatest in (1, 2, 99, 99_999):
+            machine, _ = self.load(limit=greatest)
+            machine.enter(1)
+            self.assertEqual(machine.run(0, greatest + 1), refused(28))
+            self.assertEqual(machine.run(-1, greatest + 1), refused(28))
+            self.assertEqual(machine.run(1, greatest), refused(29))
+            self.assertEqual(machine.run(0, 0), refused(28))
+            self.assertEqual(machine.run(0, min(greatest, 99)), Answer("spent", 0, min(greatest, 99)))
+
+    def call(self, chance):
+        """The name and the numbers of a call."""
+        return chance.pick((
+            ("enter", 1 + chance.below(5)), ("enter", 1 + chance.below(5)), ("run", chance.below(3), 1 + chance.below(40)), ("statement",),
+            ("carry_on",), ("abandon", chance.below(5)), ("write", 28 + chance.below(30), chance.pick(CHANCE_FLOATS)),
+            ("write", 40 + chance.below(4), chance.below(8)), ("read", chance.below(66)),
+        ))
+
+    def test_narrower_settings(self):
+        """Where 22, 23 or 28 doesn't refuse, all goes as under 01's settings; the depth and the saved count stay within them."""
+        narrowed = {22: 0, 23: 0, 28: 0}
+        for seed in range(1, 101):
+            chance = Xorshift(seed * 2654435761 % 2**32)
+            file = random_program(chance, hosts=True, entities=True).bytes()
+            settings = STANDARD._replace(depth=1 + chance.below(5), saved=chance.pick((0, 3, 8, 20)), limit=1 + chance.below(40))
+            narrow, wide = (Machine(bytearray(file), [0] * 64, [0] * 2048, [0] * 315) for _ in range(2))
+            self.assertEqual((narrow.load(3, *settings), wide.load(3)), (ACCEPTED, ACCEPTED))
+            for _ in range(40):
+                name, *numbers = self.call(chance)
+                before = narrow.state
+                answer, other = getattr(narrow, name)(*numbers), getattr(wide, name)(*numbers)
+                if answer != other:
+                    self.assertIn(answer[:2], [("refused", number) for number in narrowed])
+                    narrowed[answer.detail] += 1
+                    wide = copy.deepcopy(narrow)
+                    wide.state = replace(wide.state, settings=STANDARD)
+                self.assertEqual(replace(narrow.state, settings=STANDARD), wide.state)
+                self.assertEqual(everything(narrow)[1:], everything(wide)[1:])
+                self.assertEqual(narrow.state.settings, settings)
+                self.assertLessEqual(narrow.state.depth, settings.depth)
+                self.assertLessEqual(narrow.state.saved, settings.saved)
+                if answer == refused(28):
+                    self.assertEqual(narrow.state, before)
+        self.assertGreater(min(narrowed.values()), 20)
+
+    def test_laws_of_writing(self):
+        """R-6's, for loads under one check number."""
+        for check_number in (0, 256, 65_535):
+            for file in list(accepted_files())[::7]:
+                standard, answer = machine_of(file)
+                output = bytearray(model.LARGEST_FILE)
+                if answer != ACCEPTED or standard.image(output).word == "refused":
+                    continue
+                machine = Machine(with_check_number(file, check_number), [0] * model.MOST_CELLS, [0] * 2048)
+                self.assertEqual(machine.load(0, check_number, 31, 2_048, 99_999), ACCEPTED)
+                # lumps over the header have the check number among their bytes
+                first = written(machine)
+                self.assertEqual(first[4:8], struct.pack("<i", check_number))
+                again = Machine(bytearray(first), [0] * model.MOST_CELLS, [0] * 2048)
+                self.assertEqual(again.load(), refused(3))
+                self.assertEqual(again.load(0, check_number, 1, 0, 1), ACCEPTED)
+                self.assertEqual(contents(again), contents(machine))
+                self.assertEqual(written(again), first)
+
+    def test_load_files(self):
+        """R-10: "under check number 5927 and a run limit above n"."""
+        chance = Xorshift(1812433253)
+        for n in (1, 2, 1000, *[1 + chance.below(300) for _ in range(10)]):
+            file = model.load_file(chance.draw(), n)
+            for limit in (n + 1, n + 2, 99_999):
+                settings = STANDARD._replace(depth=1 + chance.below(31), saved=chance.below(2_049), limit=limit)
+                machine, answer = self.load(settings, file)
+                self.assertEqual((answer, machine.enter(1)), (ACCEPTED, ACCEPTED))
+                self.assertEqual(machine.run(0, n + 1), Answer("ended", 0, n + 1))
+            self.assertEqual(self.load(file=file, check_number=5926)[1], refused(3))
+            machine, _ = self.load(file=file, depth=1, saved=0, limit=n)
+            machine.enter(1)
+            self.assertEqual(machine.run(0, n + 1), refused(28))
 
 
 class PairsOfWrites(unittest.TestCase):
@@ -1576,7 +1756,7 @@ class CaseFiles(unittest.TestCase):
 
     def test_lists_can_be_replayed(self):
         """tests/run_replay.py plays every list of these: nothing in them changes what replay can't."""
-        for name in ("images.txt", "outcomes.txt", "pairs.txt"):
+        for name in ("images.txt", "outcomes.txt", "pairs.txt", "settings.txt"):
             calls = {call.split(" ")[0] for call, _ in self.makers[name].seen}
             self.assertFalse(calls & {"field", "lend", "eput"})
 
@@ -1619,8 +1799,10 @@ class CaseFiles(unittest.TestCase):
         self.assertEqual(pads, {*range(1, 12), 34})
         loads = {answer[1] for given, answer in self.makers["load_files.txt"].seen if given.startswith("buffer ") and answer[0] == "refused"}
         self.assertEqual(loads, {34, 35})
+        settings = {answer.detail for call, answer in self.makers["settings.txt"].seen if call.startswith("load ") and answer.word == "refused"}
+        self.assertEqual(settings, {36, *range(1, 9), 10, 11, 12, 13})
         # 26 can't be met after 13; 8 and 9 are a field definition's in the files
-        self.assertEqual(calls | files | images | loads, set(range(1, 36)) - {26})
+        self.assertEqual(calls | files | images | loads | settings, set(range(1, 37)) - {26})
         # a file alone can't reach these: nothing lent is short, no state is made up, nothing changed
         self.assertEqual(set(range(1, 25)) - files, {12, 13})
         # without entities 31 isn't reached

@@ -5,6 +5,7 @@ use crate::fields;
 use cases::Numbers;
 use cases::answers;
 use cases::answers::Said;
+use functions::header;
 use progs::Answered;
 use progs::ExecutionContext;
 use progs::load;
@@ -123,7 +124,7 @@ pub fn perform(
     let m = numbers.second;
     let cell = (numbers.value % 0x1_0000_0000) as u32;
     match text[at] {
-        b'l' => return answered(load::load(file, n, cells, store, entities)),
+        b'l' => return answered(load::load(header::standard(), file, n, cells, store, entities)),
         b'e' => return answered(context.enter(file, n, cells, store, entities)),
         b's' => return stepped(server::statement(context, file, cells, store, entities)),
         b'r' => return ran(server::run(context, file, n, m, cells, store, entities)),

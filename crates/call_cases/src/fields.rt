@@ -1,6 +1,7 @@
 // A state is the host's to make up: a number of it is changed, by the numbering of tests/model/README.md.
 use definition::FileRecord;
 use definition::GREATEST_DEPTH;
+use definition::Settings;
 use functions::fetch;
 use progs::ExecutionContext;
 
@@ -31,6 +32,18 @@ fn with_number(file: FileRecord, i: usize, v: usize) -> FileRecord {
     file
 }
 
+// The settings, from the check number on.
+fn with_setting(settings: Settings, i: usize, v: usize) -> Settings {
+    let mut settings = settings;
+    match i {
+        81 => settings.check_number = v,
+        82 => settings.depth = v,
+        83 => settings.saved = v,
+        _ => settings.limit = v,
+    }
+    settings
+}
+
 // Position and function of a frame, the lowest first.
 fn with_frame(context: ExecutionContext, i: usize, v: i64) -> ExecutionContext {
     let mut next = context;
@@ -50,6 +63,11 @@ pub fn with_field(context: ExecutionContext, i: usize, v: i64) -> ExecutionConte
     if i < 14 {
         let file = context.file;
         next.file = with_number(file, i, natural(v));
+        return next;
+    }
+    if 80 < i && i < 85 {
+        let settings = context.settings;
+        next.settings = with_setting(settings, i, natural(v));
         return next;
     }
     match i {

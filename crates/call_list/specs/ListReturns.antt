@@ -7,6 +7,7 @@ use mathlib.Core.Bool.{Bool, true, false, cond}
 use lib.Dec.{eqb}
 use lib.IntN.{ℤ}
 use lib.ListN.{length}
+use Rattle.definition.specs.declared.Settings.{Settings}
 use Rattle.definition.specs.Checks.{accepted}
 use Rattle.definition.specs.Machine.{Config}
 use Rattle.definition.specs.Load.{load, programOf}
@@ -44,11 +45,11 @@ decoded-ready file list numbers zero at = tt
 decoded-ready file list numbers (suc n) at = (call-ready file numbers _ _ _, decoded-ready file list numbers n (at + 3))
 
 -- "for every list of calls after one accepted load": of the configuration that performing the list leaves
-pub list-returns : (file : List ℕ) (n : ℤ) (cells saved entities : List ℕ) (c : Config) → load file n cells saved entities ≡ accepted c
+pub list-returns : (s : Settings) (file : List ℕ) (n : ℤ) (cells saved entities : List ℕ) (c : Config) → load s file n cells saved entities ≡ accepted c
     → (list numbers : List ℤ) (answers : List ℕ) (o : Outcome) → wellFormed list numbers (length answers) ≡ true → o ≡ performed (programOf file) list numbers c answers
-    → Always file (StepCorrect file) (DepthsMatch file) c [] (decoded list numbers) × DepthsMatch file (o .config) (logAll file (decoded list numbers) c [])
+    → Always file (StepCorrect s file) (DepthsMatch s file) c [] (decoded list numbers) × DepthsMatch s file (o .config) (logAll file (decoded list numbers) c [])
 unfolding performed Demand3
-list-returns file n cells saved entities c e list numbers answers o w p =
+list-returns s file n cells saved entities c e list numbers answers o w p =
     let calls = decoded list numbers in
-    let always = demand3 file n cells saved entities c e calls (decoded-ready file list numbers (length list / 3) 0) in
-    (always, rw (p, w) (last file (StepCorrect file) (DepthsMatch file) c [] calls always))
+    let always = demand3 s file n cells saved entities c e calls (decoded-ready file list numbers (length list / 3) 0) in
+    (always, rw (p, w) (last file (StepCorrect s file) (DepthsMatch s file) c [] calls always))

@@ -2,6 +2,7 @@
 // What a text that isn't so gives is not stated.
 ghost use Prim.Native.Nat.{_+_, _*_, _≤_, _<_};
 ghost use lib.ListN.{length};
+use functions::header;
 use progs::ExecutionContext;
 use progs::load;
 
@@ -208,6 +209,6 @@ pub fn set_byte(file: &mut [u8], at: usize, b: u8) {
 pub fn zero_state() -> ExecutionContext {
     let mut cells = [0u32; 1];
     let lent = [0u32; 1];
-    let refused = load::load(b"", 0, &mut cells, &lent, &lent);
+    let refused = load::load(header::standard(), b"", 0, &mut cells, &lent, &lent);
     refused.context
 }

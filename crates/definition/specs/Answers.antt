@@ -4,6 +4,7 @@ use Prim.Native.Nat.{ℕ}
 use mathlib.Core.List.{List, [], _∷_}
 use Rattle.definition.specs.declared.Lump.{Lump}
 use Rattle.definition.specs.declared.FileRecord.{FileRecord}
+use Rattle.definition.specs.declared.Settings.{Settings}
 use Rattle.definition.specs.declared.Handover.{Handover}
 use Rattle.definition.specs.declared.Handover.the-variants.{Builtin, Opcode}
 use Rattle.definition.specs.declared.RunAnswer.{RunAnswer}
@@ -51,9 +52,12 @@ cellsAlone n =
       entityfields = 0;
     }
 
+abbrev pub noSettings : Settings
+noSettings = record { «check_number» = 0; depth = 0; saved = 0; limit = 0 }
+
 -- a refused load gives a state of zeros, which every operation refuses 13, and leaves the buffers
 abbrev pub noState : State
-noState = startState (cellsAlone 0) 0
+noState = startState noSettings (cellsAlone 0) 0
 
 abbrev pub loadOutcome : List ℕ → List ℕ → List ℕ → Checked Config → Outcome
 loadOutcome cells saved entities x = outcome (record { state = noState; cells = cells; saved = saved; entities = entities }) x

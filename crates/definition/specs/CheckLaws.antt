@@ -8,6 +8,10 @@ use native.Mathlib.Omega.{arith}
 use lib.Dec.{eqb, eqb·suc-zero}
 use Rattle.definition.specs.Checks.{Condition, Conditions, judge, Checked, refused, accepted, decided, guard}
 
+pub no-true : (b : Bool) → (b ≡ true → ⊥) → b ≡ false
+no-true true h = absurd (h refl)
+no-true false h = refl
+
 pub and-left : (a b : Bool) → (a && b) ≡ true → a ≡ true
 and-left true b e = refl
 and-left false b e = e

@@ -6,6 +6,7 @@ use lib.ListN.{length, getD, replicate}
 use lib.Dec.{leb, ltb, eqb}
 use Rattle.definition.specs.declared.Lump.{Lump}
 use Rattle.definition.specs.declared.FileRecord.{FileRecord}
+use Rattle.definition.specs.declared.Settings.{Settings}
 use Rattle.definition.specs.declared.Statement.{Statement}
 use Rattle.definition.specs.declared.Definition.{Definition}
 use Rattle.definition.specs.declared.FunctionDef.{FunctionDef}
@@ -89,6 +90,10 @@ mostArguments = 8
 -- "28: limit outside 1 to 99,999"
 abbrev pub greatestLimit : ℕ
 greatestLimit = 99999
+
+-- R-11: "Check number (0 to 65,535)"
+abbrev pub greatestCheckNumber : ℕ
+greatestCheckNumber = 65535
 
 -- ---- numbers in the file: little-endian; past the end of the file a byte reads as 0, and nothing accepted reads there
 
@@ -256,6 +261,21 @@ noFunction = record { first = 0; start = 0; locals = 0; name = 0; srcfile = 0; a
 
 abbrev pub between : ℕ → ℕ → ℕ → Bool
 between low high n = leb low n && leb n high
+
+-- ---- settings (R-11)
+
+-- "Check number (0 to 65,535), greatest depth (1 to 31), greatest saved count (0 to 2,048) and greatest run limit (1 to 99,999)". A host's numbers are
+-- signed: the bits of a negative one are above every bound
+unfoldable pub settingsFit : Settings → Bool
+settingsFit s =
+    leb (s .«check_number») greatestCheckNumber
+    && between 1 greatestDepth (s .depth)
+    && leb (s .saved) savedStore
+    && between 1 greatestLimit (s .limit)
+
+-- those of 01: "5927, 31, 2,048 and 99,999"
+abbrev pub standard : Settings
+standard = record { «check_number» = checkNumber; depth = greatestDepth; saved = savedStore; limit = greatestLimit }
 
 -- "1-4, 6-32, 34-38, 40-41, 43-49, 51-59, 67-70, 72-78"
 unfoldable pub builtinNumber : ℕ → Bool

@@ -16,7 +16,7 @@ use Rattle.definition.specs.Machine.{Program, withUnpacked, Config, enti
 use Rattle.definition.specs.Machine.{Stepped, completed, refusedStep, handedStep, asStep, stepAs, step, Ran, goOn, runAs, runFor}
 use Rattle.definition.specs.Load.{programOf}
 use Rattle.definition.specs.Operations.{sound, natural, below, hostEnter, stepIf, statement, runConditions, runAfter, run, carryOnConditions, carryOn}
-use Rattle.definition.specs.Operations.{leftTimes, leavingsConditions, leavingsTo, abandonConditions, abandon, rawConditions, rawWrite, pairConditions, settingConditions, pairsWritten, writeAll}
+use Rattle.definition.specs.Operations.{leftTimes, leavingsConditions, leavingsTo, abandonConditions, abandon, rawConditions, rawWrite, pairConditions, pairsConditions, pairsWritten, writeAll}
 use Rattle.definition.specs.Answers.{kept, statementOutcome}
 use Rattle.definition.specs.Calls.{Call, enters, steps, runs, runsUnpacked, carries, abandons, reads, writes, writesAll, lends, after, ifAccepted, ifCompleted, unlessEnded, stepsAs, runSteps, runStepsAfter, stepsOfRun, leavings, leavingsAfter, smallSteps}
 use Rattle.definition.specs.Log.{Log, Kind, entry, leaving, other, statementKind, kindOf}
@@ -251,7 +251,7 @@ module _ (file : List ℕ) (K : StateProperty) (Step : StepProperty) (S : Induct
       guarded (Preserved (entry 0 (c .state .pc)) c l) _ _ λ h. absurd (omega (arith, ltb-true (length (P .functions)) (length (P .functions)) (h .1 .0)))
 
   call-preserves : (x : Call) → Ready file x → (c : Config) (l : Log) → K c l → Preserving x c l (smallSteps P x c) (after P x c)
-  unfolding smallSteps after statement carryOn carryOnConditions rawWrite writeAll settingConditions kindOf
+  unfolding smallSteps after statement carryOn carryOnConditions rawWrite writeAll pairsConditions kindOf
   call-preserves (enters f) ready c l k = if-accepted (enters f) c l (hostEnter P f c) (λ c₁ e. e) k (entry-preserves f c l k)
   call-preserves steps ready c l k = if-completed c l (sound P c) (step P c) refl k (step-preserves c l k)
   call-preserves (runs target limit) ready c l k = runs-preserve target limit c l k

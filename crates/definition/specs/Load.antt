@@ -1,4 +1,4 @@
--- THE LOAD. Document 01's refusals 1 to 12, in the table's order, and 02's 13 after them; what an accepted load leaves; and the program of a file.
+-- THE LOAD. Document 02's 36, document 01's refusals 1 to 12, in the table's order, and 02's 13 after them; what an accepted load leaves; and the program of a file.
 use Prim.Native.Nat.{ℕ, _+_, _*_}
 use mathlib.Core.List.{List, [], _∷_, _++_}
 use mathlib.Core.Bool.{Bool, true, not, _&&_}
@@ -7,11 +7,12 @@ use lib.ListN.{length, drop}
 use lib.Dec.{leb, ltb, eqb}
 use Rattle.definition.specs.declared.Lump.{Lump}
 use Rattle.definition.specs.declared.FileRecord.{FileRecord}
+use Rattle.definition.specs.declared.Settings.{Settings}
 use Rattle.definition.specs.declared.Statement.{Statement}
 use Rattle.definition.specs.declared.Definition.{Definition}
 use Rattle.definition.specs.declared.FunctionDef.{FunctionDef}
 use Rattle.definition.specs.Checks.{Condition, Conditions, _otherwise_, Checked, guard}
-use Rattle.definition.specs.File.{version, checkNumber, opcodeCount, greatestType, saveFlag, leastCells, mostEntities, savedStore, versionOf, checkNumberOf, fileOf, lengthFits, lumpsFit, cellsFit, entityFits}
+use Rattle.definition.specs.File.{version, opcodeCount, greatestType, saveFlag, leastCells, mostEntities, savedStore, versionOf, checkNumberOf, fileOf, lengthFits, lumpsFit, cellsFit, entityFits, settingsFit}
 use Rattle.definition.specs.File.{Contents, contentsAt, contentsOf, unpackedSize, unpackedStatements, withStatements, builtinKnown}
 use Rattle.definition.specs.Cells.{typeOf}
 use Rattle.definition.specs.Statements.{placeOf, fetchConditions, doesAt}
@@ -46,12 +47,12 @@ each conditions (x ∷ xs) = conditions x ++ each conditions xs
 
 -- ---- the load
 
--- the row "header"
-unfoldable pub headerConditions : List ℕ → Conditions
-headerConditions file =
+-- the row "header", for files of this check number
+unfoldable pub headerConditions : ℕ → List ℕ → Conditions
+headerConditions check file =
     (lengthFits (fileOf file) otherwise 1)
     ∷ (eqb (versionOf file) version otherwise 2)
-    ∷ (eqb (checkNumberOf file) checkNumber otherwise 3)
+    ∷ (eqb (checkNumberOf file) check otherwise 3)
     ∷ (lumpsFit (fileOf file) otherwise 4)
     ∷ []
 
@@ -75,19 +76,24 @@ cellConditions least r lent store =
 abbrev pub entityConditions : FileRecord → ℕ → ℕ → Conditions
 entityConditions r n lent = (entitiesFit n (r .entityfields) lent otherwise 13) ∷ []
 
--- beside n entities, so many lent cells, a saved store of so many, and so many lent entity cells
-abbrev pub loadConditions : ℕ → List ℕ → ℕ → ℕ → ℕ → ℕ → Conditions
-loadConditions least file n lent store entities =
-    headerConditions file
+-- of a file of this check number, beside n entities, so many lent cells, a saved store of so many, and so many lent entity cells
+abbrev pub fileConditions : ℕ → ℕ → List ℕ → ℕ → ℕ → ℕ → ℕ → Conditions
+fileConditions least check file n lent store entities =
+    headerConditions check file
     ++ recordConditions (fileOf file .strings .count) (contentsOf file)
     ++ cellConditions least (fileOf file) lent store
     ++ entityConditions (fileOf file) n entities
 
+-- R-11: "Settings out of range are refused 36, before the file is looked at"
+abbrev pub loadConditions : Settings → List ℕ → ℕ → ℕ → ℕ → ℕ → Conditions
+loadConditions s file n lent store entities =
+    (settingsFit s otherwise 36) ∷ fileConditions leastCells (s .«check_number») file n lent store entities
+
 -- "A load fills the lent cells from 0 and leaves those past the file's count"; the entity cells "are untouched, by a load too"
-unfoldable pub loaded : List ℕ → ℕ → List ℕ → List ℕ → List ℕ → Config
-loaded file n cells saved entities =
+unfoldable pub loaded : Settings → List ℕ → ℕ → List ℕ → List ℕ → List ℕ → Config
+loaded s file n cells saved entities =
     record {
-      state = startState (fileOf file) n;
+      state = startState s (fileOf file) n;
       cells = contentsOf file .globals ++ drop (fileOf file .globals .count) cells;
       saved = saved;
       entities = entities;
@@ -97,11 +103,11 @@ loaded file n cells saved entities =
 abbrev pub entitiesGiven : ℤ → ℕ
 entitiesGiven n = placeOf (mostEntities + 1) n
 
-unfoldable pub load : List ℕ → ℤ → List ℕ → List ℕ → List ℕ → Checked Config
-load file n cells saved entities =
+unfoldable pub load : Settings → List ℕ → ℤ → List ℕ → List ℕ → List ℕ → Checked Config
+load s file n cells saved entities =
     guard
-    (loadConditions leastCells file (entitiesGiven n) (length cells) (length saved) (length entities))
-    (loaded file (entitiesGiven n) cells saved entities)
+    (loadConditions s file (entitiesGiven n) (length cells) (length saved) (length entities))
+    (loaded s file (entitiesGiven n) cells saved entities)
 
 -- ---- the program of a file
 

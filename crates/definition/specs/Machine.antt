@@ -8,13 +8,14 @@ use lib.ListN.{length, getD, set, drop, replicate}
 use lib.Seq.{paste}
 use lib.Dec.{leb, ltb, eqb}
 use Rattle.definition.specs.declared.FileRecord.{FileRecord}
+use Rattle.definition.specs.declared.Settings.{Settings}
 use Rattle.definition.specs.declared.FunctionDef.{FunctionDef}
 use Rattle.definition.specs.declared.StackFrame.{StackFrame}
 use Rattle.definition.specs.declared.Handover.{Handover}
 use Rattle.definition.specs.declared.RunAnswer.{RunAnswer}
 use Rattle.definition.specs.declared.RunAnswer.the-variants.{Ended, Spent, Refused, HandedOver}
 use Rattle.definition.specs.Checks.{Condition, Conditions, _otherwise_, Checked, refused, accepted, guard}
-use Rattle.definition.specs.File.{savedStore, mostEntities, greatestDepth, mostArguments, greatestLimit, negative, noFunction, isBuiltin}
+use Rattle.definition.specs.File.{mostEntities, greatestDepth, mostArguments, negative, noFunction, isBuiltin}
 use Rattle.definition.specs.Statements.{Entities, Does, next, puts, calls, returns, refuses, handsOver}
 
 -- ---- the program
@@ -59,6 +60,8 @@ functionOf P f = getD (P .functions) f noFunction
 
 pub record State : Type 0 where
   pub file : FileRecord
+  -- R-11: "settings given at load and held in the state"
+  pub settings : Settings
   pub pc : ℤ
   pub function : ℕ
   pub depth : ℕ
@@ -80,22 +83,13 @@ entitiesOf c = record { count = c .state .entityCount; cells = c .entities }
 abbrev pub countOf : Config → ℕ
 countOf c = c .state .file .globals .count
 
-pub record Limits : Type 0 where
-  pub depth : ℕ
-  pub saved : ℕ
-  pub run : ℕ
-
--- the greatest depth, saved count and run limit; R-11 makes them settings that a load records
-unfoldable pub limits : FileRecord → Limits
-limits r = record { depth = greatestDepth; saved = savedStore; run = greatestLimit }
-
 abbrev pub zeroFrame : StackFrame
 zeroFrame = record { «instr_id» = pos 0; «func_id» = 0 }
 
 -- "Position, function and depths start at 0. Frames start as zeros"
-abbrev pub startState : FileRecord → ℕ → State
-startState r n =
-    record { file = r; pc = pos 0; function = 0; depth = 0; saved = 0; entityCount = n; frames = replicate greatestDepth zeroFrame }
+abbrev pub startState : Settings → FileRecord → ℕ → State
+startState s r n =
+    record { file = r; settings = s; pc = pos 0; function = 0; depth = 0; saved = 0; entityCount = n; frames = replicate greatestDepth zeroFrame }
 
 -- R-3: "More than 600 entities, or lent entity cells too few for them": n entities of so many cells, beside so many lent ones
 unfoldable pub entitiesFit : ℕ → ℕ → ℕ → Bool
@@ -136,13 +130,13 @@ copiesPresent count (m ∷ ms) = ltb (m .from) count && ltb (m .to) count && cop
 -- ---- entry
 
 -- the row "entry": "20; 22: depth is 31; 23: locals negative or saved over 2,048; 15: local cells; 24: argument count outside 0 to 8; 15: argument
--- cells; 21: builtin"
+-- cells; 21: builtin"; R-11: "Refusals 3, 22, 23, 13 and 28 use" the settings
 unfoldable pub entryConditions : Program → ℕ → Config → Conditions
 entryConditions P f c =
     let d = functionOf P f in
     (ltb f (length (P .functions)) otherwise 20)
-    ∷ (ltb (c .state .depth) (limits (c .state .file) .depth) otherwise 22)
-    ∷ (not (negative (d .locals)) && leb (c .state .saved + d .locals) (limits (c .state .file) .saved) otherwise 23)
+    ∷ (ltb (c .state .depth) (c .state .settings .depth) otherwise 22)
+    ∷ (not (negative (d .locals)) && leb (c .state .saved + d .locals) (c .state .settings .saved) otherwise 23)
     ∷ (present (d .start) (d .locals) (countOf c) otherwise 15)
     ∷ (leb (d .argc) mostArguments otherwise 24)
     ∷ (copiesPresent (countOf c) (argumentsOf d) otherwise 15)
@@ -158,6 +152,7 @@ entered P f back c =
       state =
           record {
             file = c .state .file;
+            settings = c .state .settings;
             pc = pos (d .first);
             function = f;
             depth = c .state .depth + 1;
@@ -195,6 +190,7 @@ left P c =
       state =
           record {
             file = c .state .file;
+            settings = c .state .settings;
             pc = frame .«instr_id»;
             function = frame .«func_id»;
             depth = c .state .depth - 1;
@@ -238,6 +234,7 @@ advanced c p cells entities =
       state =
           record {
             file = c .state .file;
+            settings = c .state .settings;
             pc = p;
             function = c .state .function;
             depth = c .state .depth;

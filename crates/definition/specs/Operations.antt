@@ -9,9 +9,9 @@ use lib.Dec.{leb, ltb, eqb}
 use Rattle.definition.specs.declared.StackFrame.{StackFrame}
 use Rattle.definition.specs.declared.RunAnswer.the-variants.{Refused}
 use Rattle.definition.specs.Checks.{Condition, Conditions, _otherwise_, judge, Checked, refused, accepted, guard}
-use Rattle.definition.specs.File.{savedStore, mostEntities, negative, between}
+use Rattle.definition.specs.File.{savedStore, mostEntities, negative, between, settingsFit}
 use Rattle.definition.specs.Statements.{Does, next, puts, calls, returns, refuses, handsOver, placeOf}
-use Rattle.definition.specs.Machine.{Program, functionOf, State, Config, entitiesOf, countOf, limits, entitiesFit, zeroFrame, withCells, advanced}
+use Rattle.definition.specs.Machine.{Program, functionOf, State, Config, entitiesOf, countOf, entitiesFit, zeroFrame, withCells, advanced}
 use Rattle.definition.specs.Machine.{entryConditions, entered, leaveConditions, left, Stepped, refusedStep, step, Ran, runFor}
 
 -- ---- check 13
@@ -38,15 +38,17 @@ unfoldable pub localsOf : Program → List ℕ → ℕ
 localsOf P [] = 0
 localsOf P (f ∷ fs) = functionOf P f .locals + localsOf P fs
 
--- the row "any operation on a state"
+-- the row "any operation on a state"; R-11: the depth and the saved count are those of the settings, and "Settings out of range are refused .. 13 in a
+-- state". The check number that a state holds isn't compared with the bytes again
 unfoldable pub sound : Program → Config → Bool
 sound P c =
     P .recorded (c .state .file) (length (c .cells))
     && leb savedStore (length (c .saved))
     && entitiesFit (c .state .entityCount) (c .state .file .entityfields) (length (c .entities))
-    && leb (c .state .depth) (limits (c .state .file) .depth)
+    && settingsFit (c .state .settings)
+    && leb (c .state .depth) (c .state .settings .depth)
     && allPresent P (enteredFunctions (c .state))
-    && leb (c .state .saved) (limits (c .state .file) .saved)
+    && leb (c .state .saved) (c .state .settings .saved)
     && eqb (c .state .saved) (localsOf P (enteredFunctions (c .state)))
 
 -- ---- the numbers that a host gives are signed
@@ -78,12 +80,12 @@ stepIf false s = refusedStep 13
 unfoldable pub statement : Program → Config → Stepped
 statement P c = stepIf (sound P c) (step P c)
 
--- "28: limit outside 1 to 99,999; 29: target below 0, or not below the depth"; R-12: 37 "after 13 and before 28"
+-- "28: limit outside 1 to 99,999" (R-11: to the greatest run limit of the settings); "29: target below 0, or not below the depth"; R-12: 37 "after 13 and before 28"
 unfoldable pub runConditions : Program → ℤ → ℤ → Config → Conditions
 runConditions P target limit c =
     (sound P c otherwise 13)
     ∷ (P .room otherwise 37)
-    ∷ (permitted limit (limits (c .state .file) .run) otherwise 28)
+    ∷ (permitted limit (c .state .settings .limit) otherwise 28)
     ∷ (below target (c .state .depth) otherwise 29)
     ∷ []
 
@@ -162,8 +164,8 @@ pairConditions count (a ∷ []) = []
 pairConditions count (a ∷ v ∷ numbers) = (below a count otherwise 15) ∷ (below v 4294967296 otherwise 15) ∷ pairConditions count numbers
 
 -- "15 for more than 64 pairs or an unpaired number"
-unfoldable pub settingConditions : ℕ → List ℤ → Conditions
-settingConditions count numbers =
+unfoldable pub pairsConditions : ℕ → List ℤ → Conditions
+pairsConditions count numbers =
     (eqb (length numbers % 2) 0 otherwise 15) ∷ (leb (length numbers) (2 * mostPairs) otherwise 15) ∷ pairConditions count numbers
 
 -- in their order, so that "of two pairs with one address the later holds"
@@ -173,7 +175,7 @@ pairsWritten (a ∷ []) cells = cells
 pairsWritten (a ∷ v ∷ numbers) cells = pairsWritten numbers (set cells (natural a) (natural v))
 
 abbrev pub writeAllConditions : Program → List ℤ → Config → Conditions
-writeAllConditions P numbers c = (sound P c otherwise 13) ∷ settingConditions (countOf c) numbers
+writeAllConditions P numbers c = (sound P c otherwise 13) ∷ pairsConditions (countOf c) numbers
 
 -- "written in one operation, all or none"
 unfoldable pub writeAll : Program → List ℤ → Config → Checked Config

@@ -5,8 +5,8 @@ use mathlib.Core.Path.{_≡_}
 use mathlib.Core.List.{List, [], _∷_}
 use lib.IntN.{ℤ}
 use lib.ListN.{length}
+use Rattle.definition.specs.declared.Settings.{Settings}
 use Rattle.definition.specs.Checks.{accepted}
-use Rattle.definition.specs.File.{savedStore, greatestDepth}
 use Rattle.definition.specs.Machine.{Config}
 use Rattle.definition.specs.Load.{load}
 use Rattle.definition.specs.Calls.{Call}
@@ -20,12 +20,13 @@ localsNoted file [] = 0
 localsNoted file (n ∷ l) = functionIn file (n .entered) .locals + localsNoted file l
 
 -- the machine's two depths are those of the log: "the call depth is the number of functions entered and not yet left, at most 31, and the saved cells
--- number the sum of their local counts, at most 2,048"
-pub record DepthsMatch (file : List ℕ) (c : Config) (l : Log) : Type 0 where
+-- number the sum of their local counts, at most 2,048"; R-11: "The bounds promised on depth and saved cells are those of the settings" that the load was
+-- given
+pub record DepthsMatch (s : Settings) (file : List ℕ) (c : Config) (l : Log) : Type 0 where
   pub depth-is : c .state .depth ≡ length l
-  pub depth-most : c .state .depth ≤ greatestDepth
+  pub depth-most : c .state .depth ≤ s .depth
   pub saved-is : c .state .saved ≡ localsNoted file l
-  pub saved-most : c .state .saved ≤ savedStore
+  pub saved-most : c .state .saved ≤ s .saved
 
 -- c′, in which the function `left` has just been left, has what the note says was there at the entry: "position, current function and local cells now
 -- equal the note's"; and the note is of that function
@@ -43,16 +44,16 @@ LeavingRestores file leaving c (n ∷ l) c′ = Restored file (c .state .functio
 LeavingRestores file other c l c′ = Unit {0}
 
 -- what demand 3 asks of every small step
-pub record StepCorrect (file : List ℕ) (k : Kind) (c : Config) (l : Log) (c′ : Config) : Type 0 where
+pub record StepCorrect (s : Settings) (file : List ℕ) (k : Kind) (c : Config) (l : Log) (c′ : Config) : Type 0 where
   pub restores : LeavingRestores file k c l c′
-  pub depths : DepthsMatch file c′ (logAfter file k c l)
+  pub depths : DepthsMatch s file c′ (logAfter file k c l)
 
--- for every file, every accepted load of it with any number of entities, and every list of calls after that, from an empty log: every small step is correct, and between the calls
--- the depths match. R-12: "Every guarantee about returns is then stated for both, and for lists that mix them, on that condition wherever the second runs"
+-- for every file, every accepted load of it under any settings and with any number of entities, and every list of calls after that, from an empty log:
+-- every small step is correct, and between the calls the depths match. R-12: "Every guarantee about returns is then stated for both, and for lists that mix them, on that condition wherever the second runs"
 unfoldable pub Demand3 : Type 0
 Demand3 =
-    (file : List ℕ) (n : ℤ) (cells saved entities : List ℕ) (c : Config)
-    → load file n cells saved entities ≡ accepted c
+    (s : Settings) (file : List ℕ) (n : ℤ) (cells saved entities : List ℕ) (c : Config)
+    → load s file n cells saved entities ≡ accepted c
     → (calls : List Call)
     → AllReady file calls
-    → Always file (StepCorrect file) (DepthsMatch file) c [] calls
+    → Always file (StepCorrect s file) (DepthsMatch s file) c [] calls

@@ -11,9 +11,10 @@ use lib.Seq.{paste, length-paste, getD-set-same, getD-set-other}
 use lib.Dec.{leb, ltb}
 use Rattle.definition.specs.declared.FunctionDef.{FunctionDef}
 use Rattle.definition.specs.declared.StackFrame.{StackFrame}
+use Rattle.definition.specs.declared.Settings.{Settings}
 use Rattle.definition.specs.Checks.{Condition, Conditions, Checked, accepted, guard}
 use Rattle.definition.specs.File.{leastCells, savedStore, greatestDepth, negative, contentsOf, fileOf}
-use Rattle.definition.specs.Machine.{Program, functionOf, Config, countOf, limits, zeroFrame, present, copied, successive, argumentsOf, withCells, withEntities, advanced}
+use Rattle.definition.specs.Machine.{Program, functionOf, Config, countOf, zeroFrame, present, copied, successive, argumentsOf, withCells, withEntities, advanced}
 use Rattle.definition.specs.Machine.{entryConditions, entered, leaveConditions, left, returnConditions, returned}
 use Rattle.definition.specs.Load.{cellConditions, entitiesGiven, loaded, load, programWith, programOf}
 use Rattle.definition.specs.Calls.{Call}
@@ -25,7 +26,7 @@ use Rattle.definition.specs.Parts.{part, part-below, part-pasted, Presen
 use Rattle.definition.specs.StatementLaws.{Keeps}
 use Rattle.definition.specs.Invariant.{Preserves, Inductive, always}
 use Rattle.definition.specs.RecordLaws.{length-globals}
-use Rattle.definition.specs.LoadLaws.{load-rows}
+use Rattle.definition.specs.LoadLaws.{settings-fit, load-rows}
 
 -- ---- the invariant
 
@@ -45,8 +46,11 @@ FramesMatch file current frames store (n ∷ l) =
     × (part store (localsNoted file l) (localsIn file (n .entered)) ≡ n .cells)
     × FramesMatch file (n .current) frames store l
 
-record StackMatches (file : List ℕ) (c : Config) (l : Log) : Type 0 where
-  depths : DepthsMatch file c l
+record StackMatches (s : Settings) (file : List ℕ) (c : Config) (l : Log) : Type 0 where
+  depths : DepthsMatch s file c l
+  held : c .state .settings ≡ s
+  depth-bound : s .depth ≤ greatestDepth
+  saved-bound : s .saved ≤ savedStore
   room : greatestDepth ≤ length (c .state .frames)
   store : savedStore ≤ length (c .saved)
   enough : countOf c ≤ length (c .cells)
@@ -75,9 +79,9 @@ frames-same file current frames frames′ store store′ (n ∷ l) hf hs (own, f
 abbrev note : List ℕ → ℕ → ℤ → Config → Note
 note file f back c = record { entered = f; position = back; current = c .state .function; cells = localCells file f (c .cells) }
 
-module _ (file : List ℕ) (f : ℕ) (back : ℤ) (c : Config) (l : Log) (k : StackMatches file c l)
-    (shallow : c .state .depth < greatestDepth)
-    (fits : c .state .saved + localsIn file f ≤ savedStore)
+module _ (s : Settings) (file : List ℕ) (f : ℕ) (back : ℤ) (c : Config) (l : Log) (k : StackMatches s file c l)
+    (shallow : c .state .depth < s .depth)
+    (fits : c .state .saved + localsIn file f ≤ s .saved)
     (there : Present (functionIn file f .start) (localsIn file f) (length (c .cells))) where
   source : localsIn file f ≤ length (drop (functionIn file f .start) (c .cells))
   source = present-source (c .cells) (functionIn file f .start) (localsIn file f) there
@@ -85,7 +89,7 @@ module _ (file : List ℕ) (f : ℕ) (back : ℤ) (c : Config) (l : Log) (k : St
   abbrev after-entry : Config
   after-entry = entered (programOf file) f back c
 
-  entered-matches : StackMatches file after-entry (note file f back c ∷ l)
+  entered-matches : StackMatches s file after-entry (note file f back c ∷ l)
   unfolding entered programWith localsNoted
   entered-matches =
       record {
@@ -96,25 +100,28 @@ module _ (file : List ℕ) (f : ℕ) (back : ℤ) (c : Config) (l : Log) (k : St
               saved-is = omega (arith, k .depths .saved-is);
               saved-most = fits;
             };
+        held = k .held;
+        depth-bound = k .depth-bound;
+        saved-bound = k .saved-bound;
         room = omega (arith, k .room, length-set (c .state .frames) (c .state .depth) (frameOf (note file f back c)));
         store =
             omega (
               arith,
               k .store,
-              length-paste (c .saved) (c .state .saved) (drop (functionIn file f .start) (c .cells)) (localsIn file f) (omega (arith, k .store)) source,
+              length-paste (c .saved) (c .state .saved) (drop (functionIn file f .start) (c .cells)) (localsIn file f) (omega (arith, k .store, k .saved-bound)) source,
             );
         enough = omega (arith, k .enough, length-copied (argumentsOf (functionIn file f)) (c .cells));
         frames = (
           refl,
           rw (← (k .depths .depth-is))
-              (getD-set-same (c .state .frames) (c .state .depth) (frameOf (note file f back c)) zeroFrame (omega (arith, k .room))),
+              (getD-set-same (c .state .frames) (c .state .depth) (frameOf (note file f back c)) zeroFrame (omega (arith, k .room, k .depth-bound))),
           rw (← (k .depths .saved-is))
-              (part-pasted (c .saved) (c .state .saved) (drop (functionIn file f .start) (c .cells)) (localsIn file f) (omega (arith, k .store)) source),
+              (part-pasted (c .saved) (c .state .saved) (drop (functionIn file f .start) (c .cells)) (localsIn file f) (omega (arith, k .store, k .saved-bound)) source),
           frames-same file (c .state .function) (c .state .frames) _ (c .saved) _ l
               (λ i h.
               getD-set-other (c .state .frames) (c .state .depth) i (frameOf (note file f back c)) zeroFrame (omega (arith, k .depths .depth-is)))
               (λ a n h.
-              part-below (c .saved) (c .state .saved) (drop (functionIn file f .start) (c .cells)) (localsIn file f) a n (omega (arith, k .store))
+              part-below (c .saved) (c .state .saved) (drop (functionIn file f .start) (c .cells)) (localsIn file f) a n (omega (arith, k .store, k .saved-bound))
               (omega (arith, k .depths .saved-is)))
               (k .frames),
         );
@@ -122,7 +129,7 @@ module _ (file : List ℕ) (f : ℕ) (back : ℤ) (c : Config) (l : Log) (k : St
 
 -- ---- leaving
 
-module _ (file : List ℕ) (c : Config) (n : Note) (l : Log) (k : StackMatches file c (n ∷ l))
+module _ (s : Settings) (file : List ℕ) (c : Config) (n : Note) (l : Log) (k : StackMatches s file c (n ∷ l))
     (there : Present (functionIn file (c .state .function) .start) (localsIn file (c .state .function)) (length (c .cells))) where
   abbrev d : FunctionDef
   d = functionIn file (c .state .function)
@@ -140,7 +147,7 @@ module _ (file : List ℕ) (c : Config) (n : Note) (l : Log) (k : StackMatches f
   has-saved : d .locals ≤ length (drop (c .state .saved - d .locals) (c .saved))
   unfolding localsNoted
   has-saved =
-      omega (arith, k .depths .saved-is, own-count, k .depths .saved-most, k .store, length-drop (c .state .saved - d .locals) (c .saved))
+      omega (arith, k .depths .saved-is, own-count, k .depths .saved-most, k .store, k .saved-bound, length-drop (c .state .saved - d .locals) (c .saved))
 
   frame-is : getD (c .state .frames) (c .state .depth - 1) zeroFrame ≡ frameOf n
   frame-is = rw one-less (k .frames .1)
@@ -157,7 +164,7 @@ module _ (file : List ℕ) (c : Config) (n : Note) (l : Log) (k : StackMatches f
             ∙ rw (below, ← own-count) (k .frames .2);
       }
 
-  left-matches : StackMatches file (left (programOf file) c) l
+  left-matches : StackMatches s file (left (programOf file) c) l
   unfolding left programWith localsNoted
   left-matches =
       record {
@@ -168,6 +175,9 @@ module _ (file : List ℕ) (c : Config) (n : Note) (l : Log) (k : StackMatches f
               saved-is = below;
               saved-most = omega (arith, k .depths .saved-most);
             };
+        held = k .held;
+        depth-bound = k .depth-bound;
+        saved-bound = k .saved-bound;
         room = omega (arith, k .room, length-set (c .state .frames) (c .state .depth - 1) zeroFrame);
         store = k .store;
         enough =
@@ -186,9 +196,9 @@ module _ (file : List ℕ) (c : Config) (n : Note) (l : Log) (k : StackMatches f
 
 -- ---- what changes only the position, the cells and the entity cells preserves it
 
-advanced-matches : (file : List ℕ) (c : Config) (l : Log) (p : ℤ) (cells entities : List ℕ) → length cells ≡ length (c .cells) → StackMatches file c l
-    → StackMatches file (advanced c p cells entities) l
-advanced-matches file c l p cells entities e k =
+advanced-matches : (s : Settings) (file : List ℕ) (c : Config) (l : Log) (p : ℤ) (cells entities : List ℕ) → length cells ≡ length (c .cells) → StackMatches s file c l
+    → StackMatches s file (advanced c p cells entities) l
+advanced-matches s file c l p cells entities e k =
     record {
       depths =
           record {
@@ -197,6 +207,9 @@ advanced-matches file c l p cells entities e k =
             saved-is = k .depths .saved-is;
             saved-most = k .depths .saved-most;
           };
+      held = k .held;
+      depth-bound = k .depth-bound;
+      saved-bound = k .saved-bound;
       room = k .room;
       store = k .store;
       enough = omega (arith, e, k .enough);
@@ -205,65 +218,72 @@ advanced-matches file c l p cells entities e k =
 
 -- ---- the small steps
 
-abbrev Preserved : List ℕ → Kind → Config → Log → Config → Type 0
-Preserved file κ c l c′ = Preserves file (StackMatches file) (StepCorrect file) κ c l c′
+abbrev Preserved : Settings → List ℕ → Kind → Config → Log → Config → Type 0
+Preserved s file κ c l c′ = Preserves file (StackMatches s file) (StepCorrect s file) κ c l c′
 
-other-preserves : (file : List ℕ) (c : Config) (l : Log) (c′ : Config) → StackMatches file c′ l → Preserved file other c l c′
-other-preserves file c l c′ k = (record { restores = tt; depths = k .depths }, k)
+other-preserves : (s : Settings) (file : List ℕ) (c : Config) (l : Log) (c′ : Config) → StackMatches s file c′ l → Preserved s file other c l c′
+other-preserves s file c l c′ k = (record { restores = tt; depths = k .depths }, k)
 
-enter-preserves : (file : List ℕ) (c : Config) (l : Log) (f : ℕ) (back : ℤ) → StackMatches file c l → All (entryConditions (programOf file) f c)
-    → Preserved file (entry f back) c l (entered (programOf file) f back c)
-unfolding entryConditions limits programWith
-enter-preserves file c l f back k h =
+enter-preserves : (s : Settings) (file : List ℕ) (c : Config) (l : Log) (f : ℕ) (back : ℤ) → StackMatches s file c l → All (entryConditions (programOf file) f c)
+    → Preserved s file (entry f back) c l (entered (programOf file) f back c)
+unfolding entryConditions programWith
+enter-preserves s file c l f back k h =
     let d = functionIn file f in
     let k′ =
-    entered-matches file f back c l k
-    (ltb-true (c .state .depth) greatestDepth (h .1 .0))
-    (leb-true (c .state .saved + d .locals) savedStore (and-right (not (negative (d .locals))) (leb (c .state .saved + d .locals) savedStore) (h .1 .1 .0)))
+    entered-matches s file f back c l k
+    (subst (λ (t : Settings). c .state .depth < t .depth) (k .held) (ltb-true (c .state .depth) (c .state .settings .depth) (h .1 .0)))
+    (subst (λ (t : Settings). c .state .saved + d .locals ≤ t .saved) (k .held)
+    (leb-true (c .state .saved + d .locals) (c .state .settings .saved)
+    (and-right (not (negative (d .locals))) (leb (c .state .saved + d .locals) (c .state .settings .saved)) (h .1 .1 .0))))
     (present-more (d .start) (d .locals) (countOf c) (length (c .cells)) (k .enough) (present-true (d .start) (d .locals) (countOf c) (h .1 .1 .1 .0)))
     in
     (record { restores = tt; depths = k′ .depths }, k′)
 
 -- from what the statement before it left of the cells: a Return copies first
-leave-preserves : (file : List ℕ) (c : Config) (cells : List ℕ) (l : Log) → length cells ≡ length (c .cells) → StackMatches file c l → All (leaveConditions (programOf file) c)
-    → Preserved file leaving c l (left (programOf file) (withCells c cells))
+leave-preserves : (s : Settings) (file : List ℕ) (c : Config) (cells : List ℕ) (l : Log) → length cells ≡ length (c .cells) → StackMatches s file c l → All (leaveConditions (programOf file) c)
+    → Preserved s file leaving c l (left (programOf file) (withCells c cells))
 unfolding leaveConditions programWith
-leave-preserves file c cells [] e k h = absurd (omega (arith, ltb-true 0 (c .state .depth) (h .0), k .depths .depth-is))
-leave-preserves file c cells (n ∷ l) e k h =
+leave-preserves s file c cells [] e k h = absurd (omega (arith, ltb-true 0 (c .state .depth) (h .0), k .depths .depth-is))
+leave-preserves s file c cells (n ∷ l) e k h =
     let d = functionIn file (c .state .function) in
-    let kc : StackMatches file (withCells c cells) (n ∷ l) = advanced-matches file c (n ∷ l) (c .state .pc) cells (c .entities) e k in
+    let kc : StackMatches s file (withCells c cells) (n ∷ l) = advanced-matches s file c (n ∷ l) (c .state .pc) cells (c .entities) e k in
     let there : Present (d .start) (d .locals) (length cells) =
     present-more (d .start) (d .locals) (countOf c) (length cells) (omega (arith, k .enough, e))
     (present-true (d .start) (d .locals) (countOf c) (h .1 .1 .0))
     in
-    let k′ = left-matches file (withCells c cells) n l kc there in
-    (record { restores = left-restores file (withCells c cells) n l kc there; depths = k′ .depths }, k′)
+    let k′ = left-matches s file (withCells c cells) n l kc there in
+    (record { restores = left-restores s file (withCells c cells) n l kc there; depths = k′ .depths }, k′)
 
-matches-inductive : (file : List ℕ) → Inductive file (StackMatches file) (StepCorrect file)
-matches-inductive file =
+matches-inductive : (s : Settings) (file : List ℕ) → Inductive file (StackMatches s file) (StepCorrect s file)
+matches-inductive s file =
     record {
       plain = λ c l p cells entities k keeps _.
-          other-preserves file c l (advanced c p cells entities) (advanced-matches file c l p cells entities (keeps .same-length) k);
+          other-preserves s file c l (advanced c p cells entities) (advanced-matches s file c l p cells entities (keeps .same-length) k);
       writing = λ c l cells k keeps.
-          other-preserves file c l (withCells c cells) (advanced-matches file c l (c .state .pc) cells (c .entities) (keeps .same-length) k);
+          other-preserves s file c l (withCells c cells) (advanced-matches s file c l (c .state .pc) cells (c .entities) (keeps .same-length) k);
       lending = λ c l entities k.
-          other-preserves file c l (withEntities c entities) (advanced-matches file c l (c .state .pc) (c .cells) entities refl k);
-      entering = enter-preserves file;
+          other-preserves s file c l (withEntities c entities) (advanced-matches s file c l (c .state .pc) (c .cells) entities refl k);
+      entering = enter-preserves s file;
       returning = λ c l a k h.
-          leave-preserves file c (copied (successive 3 a 1) (c .cells)) l (length-copied (successive 3 a 1) (c .cells)) k (h .1);
-      leave-one = λ c l k h. leave-preserves file c (c .cells) l refl k h;
+          leave-preserves s file c (copied (successive 3 a 1) (c .cells)) l (length-copied (successive 3 a 1) (c .cells)) k (h .1);
+      leave-one = λ c l k h. leave-preserves s file c (c .cells) l refl k h;
     }
 
 -- ---- the load
 
-loaded-matches : (file : List ℕ) (n : ℤ) (cells saved entities : List ℕ) → WhenAccepted (λ (c : Config). StackMatches file c []) (load file n cells saved entities)
+loaded-matches : (s : Settings) (file : List ℕ) (n : ℤ) (cells saved entities : List ℕ) → WhenAccepted (λ (c : Config). StackMatches s file c []) (load s file n cells saved entities)
 unfolding load loaded localsNoted cellConditions
-loaded-matches file n cells saved entities =
-    guarded (λ (c : Config). StackMatches file c []) _ _ λ h.
+loaded-matches s file n cells saved entities =
+    guarded (λ (c : Config). StackMatches s file c []) _ _ λ h.
     let r = fileOf file in
-    let twelve = load-rows leastCells file (entitiesGiven n) (length cells) (length saved) (length entities) h .cells .1 .1 .0 in
+    let rows = load-rows leastCells (s .«check_number») file (entitiesGiven n) (length cells) (length saved) (length entities) (h .1) in
+    let range = settings-fit s (h .0) in
+    let twelve = rows .cells .1 .1 .0 in
     record {
       depths = record { depth-is = refl; depth-most = omega arith; saved-is = refl; saved-most = omega arith };
+      held = refl;
+      depth-bound = range .depth-most;
+      saved-bound = range .saved-most;
       room = omega (arith, length-replicate greatestDepth zeroFrame);
       store = leb-true savedStore (length saved) (and-right (leb (r .globals .count) (length cells)) (leb savedStore (length saved)) twelve);
       enough = omega (arith, length-append (contentsOf file .globals) (drop (r .globals .count) cells), length-globals file);
@@ -272,6 +292,6 @@ loaded-matches file n cells saved entities =
 
 pub demand3 : Demand3
 unfolding Demand3
-demand3 file n cells saved entities c accepts calls ready =
-    always file (StackMatches file) (StepCorrect file) (matches-inductive file) (DepthsMatch file) (λ c′ l k. k .depths) c [] calls ready
-    (subst (WhenAccepted (λ (c′ : Config). StackMatches file c′ [])) accepts (loaded-matches file n cells saved entities))
+demand3 s file n cells saved entities c accepts calls ready =
+    always file (StackMatches s file) (StepCorrect s file) (matches-inductive s file) (DepthsMatch s file) (λ c′ l k. k .depths) c [] calls ready
+    (subst (WhenAccepted (λ (c′ : Config). StackMatches s file c′ [])) accepts (loaded-matches s file n cells saved entities))

@@ -15,11 +15,11 @@ use Rattle.definition.specs.declared.FileRecord.{FileRecord}
 use Rattle.definition.specs.declared.StackFrame.{StackFrame}
 use Rattle.definition.specs.Checks.{judge, Checked, refused, accepted, guard}
 use Rattle.definition.specs.Floats.{roundingOf}
-use Rattle.definition.specs.File.{byteAt, u16At, u32At, fileOf, lumpsFit, records, Contents, contentsAt, builtinNumber, noFunction}
+use Rattle.definition.specs.File.{byteAt, u16At, u32At, fileOf, lumpsFit, records, Contents, contentsAt, builtinNumber, noFunction, settingsFit, standard}
 use Rattle.definition.specs.Cells.{float, entity, lookup, scalar, passes, signed, cellOf, cellAccess, vectorAccess, access, readAccess, fieldCellAccess, fieldAccess}
 use Rattle.definition.specs.Statements.{shapeOf, floatsEffect, vectorResult, vectorsEffect, vectorsToFloatEffect, negatesVEffect, storesEffect, storesVEffect, branchesDo, callOf, callDoes}
 use Rattle.definition.specs.Statements.{fetchConditions, execute, doesAt, valueMoved, loadsEffect, addressesEffect, storesPEffect}
-use Rattle.definition.specs.Machine.{Program, Config, limits, zeroFrame, entitiesFit, present, copied, successive, arguments, copiesPresent}
+use Rattle.definition.specs.Machine.{Program, Config, zeroFrame, entitiesFit, present, copied, successive, arguments, copiesPresent}
 use Rattle.definition.specs.Machine.{entryConditions, entered, leaveConditions, left, Stepped, completed, refusedStep, handedStep, stepAs, step, runFor}
 use Rattle.definition.specs.Load.{each, headerConditions, recordConditions, cellConditions, loaded, load, sameFile, recordedIn, programWith, programOf}
 use Rattle.definition.specs.Operations.{frameFunctions, enteredFunctions, allPresent, localsOf, sound}
@@ -295,6 +295,7 @@ madeUp file function depth saved frames rest P c =
       state =
           record {
             file = file;
+            settings = c .state .settings;
             pc = c .state .pc;
             function = function;
             depth = depth;
@@ -315,7 +316,7 @@ lending cells saved rest P c = rest P (record { state = c .state; cells = take c
 abbrev fromThen : List ℕ → List ℕ → Scenario → Seen
 fromThen file then scenario =
     let P = programOf then in
-    andThen (load file (pos 0) (replicate (fileOf file .globals .count + 2) 0xffffffff) (replicate 2048 0xeeeeeeee) []) (scenario P)
+    andThen (load standard file (pos 0) (replicate (fileOf file .globals .count + 2) 0xffffffff) (replicate 2048 0xeeeeeeee) []) (scenario P)
 
 -- of the file with these contents
 abbrev pub from : Contents → Scenario → Seen
@@ -323,7 +324,7 @@ from k = let file = assembled k in fromThen file file
 
 -- a load of these bytes, which is lent so many cells and a saved store of so many
 abbrev loading : List ℕ → ℕ → ℕ → Seen
-loading file cells saved = andThen (load file (pos 0) (replicate cells 0) (replicate saved 0) []) (state (programOf file))
+loading file cells saved = andThen (load standard file (pos 0) (replicate cells 0) (replicate saved 0) []) (state (programOf file))
 
 -- ---- what several rows share
 
@@ -678,7 +679,7 @@ unfolding judge guard
     lookup scalar passes signed cellOf cellAccess vectorAccess access readAccess
     shapeOf floatsEffect vectorResult vectorsEffect vectorsToFloatEffect negatesVEffect storesEffect storesVEffect branchesDo roundingOf callOf callDoes fetchConditions execute doesAt
     fieldCellAccess fieldAccess valueMoved loadsEffect addressesEffect storesPEffect
-    entitiesFit limits present copied successive arguments copiesPresent entryConditions entered leaveConditions left stepAs step runFor
+    entitiesFit settingsFit present copied successive arguments copiesPresent entryConditions entered leaveConditions left stepAs step runFor
     each headerConditions recordConditions cellConditions loaded load sameFile recordedIn programWith
     frameFunctions enteredFunctions allPresent localsOf sound hostEnter statement runConditions run carryOnConditions carryOn leftTimes leavingsConditions abandonConditions abandon rawRead rawWrite
 computing = tt

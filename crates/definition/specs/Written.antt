@@ -162,16 +162,19 @@ placed bytes output = record { output = bytes ++ drop (length bytes) output; len
 
 -- ---- the operation, on a state
 
--- "The writer works from the file's own cells and not from the running ones"
-abbrev pub image : List ℕ → List ℕ
-image file = written checkNumber (contentsOf file)
+-- "The writer works from the file's own cells and not from the running ones"; R-11: "R-6 writes the check number held"
+abbrev pub image : ℕ → List ℕ → List ℕ
+image check file = written check (contentsOf file)
+
+abbrev checkHeld : Config → ℕ
+checkHeld c = c .state .settings .«check_number»
 
 -- 13 as in any operation on a state, then 34
 unfoldable pub writeConditions : List ℕ → ℕ → Config → Conditions
-writeConditions file room c = (sound (programOf file) c otherwise 13) ∷ roomConditions (image file) room
+writeConditions file room c = (sound (programOf file) c otherwise 13) ∷ roomConditions (image (checkHeld c) file) room
 
 unfoldable pub writeFile : List ℕ → List ℕ → Config → Checked Image
-writeFile file output c = guard (writeConditions file (length output) c) (placed (image file) output)
+writeFile file output c = guard (writeConditions file (length output) c) (placed (image (checkHeld c) file) output)
 
 -- what is answered, and the output buffer after it: "refused 34 and nothing is written"
 pub record WriteOutcome : Type 0 where

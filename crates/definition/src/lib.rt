@@ -63,6 +63,9 @@ pub const MOST_ARGUMENTS: usize = 8;
 // "28: limit outside 1 to 99,999"
 pub const GREATEST_LIMIT: usize = 99_999;
 
+// Document 02, R-11: "Check number (0 to 65,535)"
+pub const GREATEST_CHECK_NUMBER: usize = 65_535;
+
 // Document 02, R-9: "Up to 64 pairs"
 pub const MOST_PAIRS: usize = 64;
 
@@ -86,6 +89,16 @@ pub struct FileRecord {
     pub strings: Lump,
     pub globals: Lump,
     pub entityfields: usize,
+}
+
+// Document 02, R-11, what a venue sets at load: "Check number (0 to 65,535), greatest depth (1 to 31), greatest saved count (0 to 2,048) and greatest run
+// limit (1 to 99,999)". A host's numbers are signed; the bits of a negative one are above every bound.
+#[repr(C)]
+pub struct Settings {
+    pub check_number: usize,
+    pub depth: usize,
+    pub saved: usize,
+    pub limit: usize,
 }
 
 // A statement record. Signed 16 bits each.

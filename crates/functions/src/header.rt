@@ -2,14 +2,18 @@
 ghost use mathlib.Core.Path.{_≡_};
 ghost use Prim.Native.Nat.{_+_, _≤_, _<_};
 ghost use lib.ListN.{length};
-ghost use Rattle.definition.specs.File.{leastCells, lumpAt, fileOf, lengthFits, lumpFits, lumpsFit, cellsFit, entityFits};
+ghost use Rattle.definition.specs.File.{leastCells, lumpAt, fileOf, lengthFits, lumpFits, lumpsFit, cellsFit, entityFits, settingsFit, standard};
 ghost use Rattle.definition.specs.Load.{sameLump, sameFile, recordedIn};
 ghost use Rattle.definition.specs.Machine.{entitiesFit};
 use crate::reads;
 use definition::CELL_SIZE;
+use definition::CHECK_NUMBER;
 use definition::DEFINITION_SIZE;
 use definition::FUNCTION_SIZE;
 use definition::FileRecord;
+use definition::GREATEST_CHECK_NUMBER;
+use definition::GREATEST_DEPTH;
+use definition::GREATEST_LIMIT;
 use definition::HEADER_LENGTH;
 use definition::LEAST_CELLS;
 use definition::LEAST_ENTITY_CELLS;
@@ -17,7 +21,9 @@ use definition::LONGEST_FILE;
 use definition::Lump;
 use definition::MOST_CELLS;
 use definition::MOST_ENTITIES;
+use definition::SAVED_STORE;
 use definition::STATEMENT_SIZE;
+use definition::Settings;
 
 fn lump_at(file: &[u8], at: usize) -> Lump
     requires { ⌜ at + 8 ≤ length (now file) ⌝ }
@@ -95,6 +101,28 @@ pub fn entity_fits(r: FileRecord) -> bool
     ensures { λ b. ⌜ b ≡ entityFits r ⌝ }
 {
     (LEAST_ENTITY_CELLS <= r.entityfields) & !(2147483648 <= r.entityfields)
+}
+
+// Settings in range (document 02, R-11).
+pub fn settings_fit(s: Settings) -> bool
+    ensures { λ r. ⌜ r ≡ settingsFit s ⌝ }
+{
+    (s.check_number <= GREATEST_CHECK_NUMBER)
+        & ((1 <= s.depth) & (s.depth <= GREATEST_DEPTH))
+        & (s.saved <= SAVED_STORE)
+        & ((1 <= s.limit) & (s.limit <= GREATEST_LIMIT))
+}
+
+// Those of document 01.
+pub fn standard() -> Settings
+    ensures { λ r. ⌜ r ≡ standard ⌝ }
+{
+    Settings {
+        check_number: CHECK_NUMBER as usize,
+        depth: GREATEST_DEPTH,
+        saved: SAVED_STORE,
+        limit: GREATEST_LIMIT,
+    }
 }
 
 // So many entities of so many cells each have room in the lent entity cells (document 02, R-3). The product can't wrap: where it is made the number is

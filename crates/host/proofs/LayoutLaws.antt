@@ -13,7 +13,7 @@ pub frames-start : replicate 31 zeroFrame ≡ numberedFrames 0
 unfolding numberedFrames
 frames-start = refl
 
-pub frames-on : (i : ℕ) (frames : List StackFrame) (p : ℤ) → frames ≡ numberedFrames i → p ≡ pos (20 + 2 * i) → set frames i (record { «instr_id» = p; «func_id» = 21 + 2 * i }) ≡ numberedFrames (i + 1)
+pub frames-on : (i : ℕ) (frames : List StackFrame) (p : ℤ) → frames ≡ numberedFrames i → p ≡ pos (24 + 2 * i) → set frames i (record { «instr_id» = p; «func_id» = 25 + 2 * i }) ≡ numberedFrames (i + 1)
 unfolding numberedFrames
 frames-on i frames p h e = let b : i + 1 ≡ suc i = omega arith in rw (b, h, e)
 

@@ -5,6 +5,7 @@ use lib.IntN.{ℤ, pos}
 use lib.ListN.{set, replicate}
 use Rattle.definition.specs.declared.Lump.{Lump}
 use Rattle.definition.specs.declared.FileRecord.{FileRecord}
+use Rattle.definition.specs.declared.Settings.{Settings}
 use Rattle.definition.specs.declared.StackFrame.{StackFrame}
 use Rattle.definition.specs.Machine.{zeroFrame}
 use Rattle.progs.specs.declared.ExecutionContext.{ExecutionContext}
@@ -28,8 +29,11 @@ numberedFile n =
       entityfields = n + 13;
     }
 
+abbrev pub numberedSettings : Settings
+numberedSettings = record { «check_number» = 15; depth = 16; saved = 17; limit = 18 }
+
 abbrev pub numberedFrame : ℕ → StackFrame
-numberedFrame i = record { «instr_id» = pos (20 + 2 * i); «func_id» = 21 + 2 * i }
+numberedFrame i = record { «instr_id» = pos (24 + 2 * i); «func_id» = 25 + 2 * i }
 
 -- the first k of the 31 frames have their numbers
 unfoldable pub numberedFrames : ℕ → List StackFrame
@@ -40,42 +44,43 @@ abbrev pub numberedContext : ExecutionContext
 numberedContext =
     record {
       file = numberedFile 1;
-      pc = pos 15;
-      «current_function» = 16;
-      depth = 17;
-      saved = 18;
-      «entity_count» = 19;
+      settings = numberedSettings;
+      pc = pos 19;
+      «current_function» = 20;
+      depth = 21;
+      saved = 22;
+      «entity_count» = 23;
       frames = numberedFrames 31;
     }
 
 abbrev pub numberedStatement : StatementReply
 numberedStatement =
-    record { found = 101; refusal = 102; statement = record { opcode = 103; arg1 = 104; arg2 = 105; arg3 = 106 } }
+    record { found = 105; refusal = 106; statement = record { opcode = 107; arg1 = 108; arg2 = 109; arg3 = 110 } }
 
 abbrev pub numberedFunction : FunctionReply
 numberedFunction =
     record {
-      found = 107;
-      refusal = 108;
+      found = 111;
+      refusal = 112;
       function =
           record {
-            first = 109;
-            start = 110;
-            locals = 111;
-            name = 112;
-            srcfile = 113;
-            argc = 114;
-            argsz = 115 ∷ 116 ∷ 117 ∷ 118 ∷ 119 ∷ 120 ∷ 121 ∷ 122 ∷ [];
+            first = 113;
+            start = 114;
+            locals = 115;
+            name = 116;
+            srcfile = 117;
+            argc = 118;
+            argsz = 119 ∷ 120 ∷ 121 ∷ 122 ∷ 123 ∷ 124 ∷ 125 ∷ 126 ∷ [];
           };
     }
 
 abbrev pub numberedStructs : Structs
 numberedStructs =
     record {
-      reply = record { context = numberedContext; word = 82; detail = 83; count = 84 };
-      header = record { found = 85; refusal = 86; recorded = numberedFile 87 };
+      reply = record { context = numberedContext; word = 86; detail = 87; count = 88 };
+      header = record { found = 89; refusal = 90; recorded = numberedFile 91 };
       statement = numberedStatement;
       function = numberedFunction;
-      definition = record { found = 123; refusal = 124; definition = record { kind = 125; offset = 126; name = 127 } };
-      written = record { length = 128; refusal = 129 };
+      definition = record { found = 127; refusal = 128; definition = record { kind = 129; offset = 130; name = 131 } };
+      written = record { length = 132; refusal = 133 };
     }

@@ -2,6 +2,7 @@
 use Prim.Native.Nat.{ℕ}
 use mathlib.Core.List.{List}
 use lib.IntN.{ℤ}
+use Rattle.definition.specs.declared.Settings.{Settings}
 use Rattle.definition.specs.Load.{load}
 use Rattle.definition.specs.Answers.{Outcome, loadOutcome}
 use Rattle.call_list.specs.Encoding.{AfterCall, answerReply}
@@ -9,5 +10,5 @@ use Rattle.call_list.specs.Encoding.{AfterCall, answerReply}
 abbrev pub replied : Outcome → AfterCall
 replied o = record { reply = answerReply (o .answer); config = o .config }
 
-abbrev pub afterLoad : List ℕ → ℤ → List ℕ → List ℕ → List ℕ → AfterCall
-afterLoad file n cells saved entities = replied (loadOutcome cells saved entities (load file n cells saved entities))
+abbrev pub afterLoad : Settings → List ℕ → ℤ → List ℕ → List ℕ → List ℕ → AfterCall
+afterLoad s file n cells saved entities = replied (loadOutcome cells saved entities (load s file n cells saved entities))

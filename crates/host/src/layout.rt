@@ -1,7 +1,7 @@
 // Where the fields of the structs lie. A host declares the structs again, and sees by a number of its own in each field whether its places are these.
 ghost use mathlib.Core.Path.{_≡_};
 ghost use Prim.Native.Nat.{_≤_};
-ghost use Rattle.host.specs.Layout.{numberedFile, numberedContext, numberedStatement, numberedFunction, numberedStructs};
+ghost use Rattle.host.specs.Layout.{numberedFile, numberedSettings, numberedContext, numberedStatement, numberedFunction, numberedStructs};
 use crate::display::WriteReply;
 use crate::records::DefinitionReply;
 use crate::records::FunctionReply;
@@ -13,6 +13,7 @@ use definition::FileRecord;
 use definition::FunctionDef;
 use definition::GREATEST_DEPTH;
 use definition::Lump;
+use definition::Settings;
 use definition::StackFrame;
 use definition::Statement;
 use progs::ExecutionContext;
@@ -29,7 +30,7 @@ pub struct Structs {
 }
 
 fn numbered_file(n: usize) -> FileRecord
-    requires { ⌜ n ≤ 87 ⌝ }
+    requires { ⌜ n ≤ 91 ⌝ }
     ensures { λ r. ⌜ r ≡ numberedFile n ⌝ }
 {
     FileRecord {
@@ -62,6 +63,17 @@ fn numbered_file(n: usize) -> FileRecord
     }
 }
 
+fn numbered_settings() -> Settings
+    ensures { λ r. ⌜ r ≡ numberedSettings ⌝ }
+{
+    Settings {
+        check_number: 15,
+        depth: 16,
+        saved: 17,
+        limit: 18,
+    }
+}
+
 fn numbered_context() -> ExecutionContext
     ensures { λ r. ⌜ r ≡ numberedContext ⌝ }
 {
@@ -73,20 +85,22 @@ fn numbered_context() -> ExecutionContext
     let mut i: usize = 0;
     while i < GREATEST_DEPTH {
         let frame = StackFrame {
-            instr_id: (20 + 2 * i) as i64,
-            func_id: 21 + 2 * i,
+            instr_id: (24 + 2 * i) as i64,
+            func_id: 25 + 2 * i,
         };
         frames[i] = frame;
         i += 1;
     }
     let file = numbered_file(1);
+    let settings = numbered_settings();
     ExecutionContext {
         file,
-        pc: 15,
-        current_function: 16,
-        depth: 17,
-        saved: 18,
-        entity_count: 19,
+        settings,
+        pc: 19,
+        current_function: 20,
+        depth: 21,
+        saved: 22,
+        entity_count: 23,
         frames,
     }
 }
@@ -95,13 +109,13 @@ fn numbered_statement() -> StatementReply
     ensures { λ r. ⌜ r ≡ numberedStatement ⌝ }
 {
     StatementReply {
-        found: 101,
-        refusal: 102,
+        found: 105,
+        refusal: 106,
         statement: Statement {
-            opcode: 103,
-            arg1: 104,
-            arg2: 105,
-            arg3: 106,
+            opcode: 107,
+            arg1: 108,
+            arg2: 109,
+            arg3: 110,
         },
     }
 }
@@ -109,17 +123,17 @@ fn numbered_statement() -> StatementReply
 fn numbered_function() -> FunctionReply
     ensures { λ r. ⌜ r ≡ numberedFunction ⌝ }
 {
-    let argsz = [115, 116, 117, 118, 119, 120, 121, 122];
+    let argsz = [119, 120, 121, 122, 123, 124, 125, 126];
     FunctionReply {
-        found: 107,
-        refusal: 108,
+        found: 111,
+        refusal: 112,
         function: FunctionDef {
-            first: 109,
-            start: 110,
-            locals: 111,
-            name: 112,
-            srcfile: 113,
-            argc: 114,
+            first: 113,
+            start: 114,
+            locals: 115,
+            name: 116,
+            srcfile: 117,
+            argc: 118,
             argsz,
         },
     }
@@ -130,35 +144,35 @@ pub extern "C" fn host_layout() -> Structs
     ensures { λ r. ⌜ r ≡ numberedStructs ⌝ }
 {
     let context = numbered_context();
-    let recorded = numbered_file(87);
+    let recorded = numbered_file(91);
     let statement = numbered_statement();
     let function = numbered_function();
     Structs {
         reply: Replied {
             context,
-            word: 82,
-            detail: 83,
-            count: 84,
+            word: 86,
+            detail: 87,
+            count: 88,
         },
         header: HeaderReply {
-            found: 85,
-            refusal: 86,
+            found: 89,
+            refusal: 90,
             recorded,
         },
         statement,
         function,
         definition: DefinitionReply {
-            found: 123,
-            refusal: 124,
+            found: 127,
+            refusal: 128,
             definition: Definition {
-                kind: 125,
-                offset: 126,
-                name: 127,
+                kind: 129,
+                offset: 130,
+                name: 131,
             },
         },
         written: WriteReply {
-            length: 128,
-            refusal: 129,
+            length: 132,
+            refusal: 133,
         },
     }
 }

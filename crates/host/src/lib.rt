@@ -10,6 +10,7 @@ ghost use Rattle.host.specs.Loading.{afterLoad};
 ghost use Rattle.host.specs.Writing.{writingOf, afterWriting};
 use call_list::Replied;
 use definition::ReadAnswer;
+use definition::Settings;
 use definition::WriteAnswer;
 use progs::ExecutionContext;
 use progs::load;
@@ -22,15 +23,16 @@ mod records;
 // A refused load gives a context of zeros, which every operation refuses 13.
 #[no_mangle]
 pub extern "C" fn host_load(
+    settings: Settings,
     file: &[u8],
     number: i64,
     cells: &mut [u32],
     store: &[u32],
     entities: &[u32],
 ) -> Replied
-    ensures { λ r. ⌜ repliedOf r (now (cells .exit)) (now (store .entry)) (now (entities .entry)) ≡ afterLoad (now (file .entry)) number (now (cells .entry)) (now (store .entry)) (now (entities .entry)) ⌝ }
+    ensures { λ r. ⌜ repliedOf r (now (cells .exit)) (now (store .entry)) (now (entities .entry)) ≡ afterLoad settings (now (file .entry)) number (now (cells .entry)) (now (store .entry)) (now (entities .entry)) ⌝ }
 {
-    let loaded = load::load(file, number, cells, store, entities);
+    let loaded = load::load(settings, file, number, cells, store, entities);
     call_list::reply_answer(loaded)
 }
 

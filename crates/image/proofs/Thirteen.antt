@@ -6,7 +6,7 @@ use mathlib.Core.Bool.{true, false}
 use Rattle.definition.specs.declared.FileRecord.{FileRecord}
 use Rattle.definition.specs.declared.WriteAnswer.the-variants.{Refused}
 use Rattle.definition.specs.Checks.{judge, guard}
-use Rattle.definition.specs.File.{checkNumber, fileOf, contentsAt}
+use Rattle.definition.specs.File.{fileOf, contentsAt}
 use Rattle.definition.specs.Machine.{Config}
 use Rattle.definition.specs.Load.{programOf}
 use Rattle.definition.specs.Operations.{sound}
@@ -19,7 +19,7 @@ module _ (file output : List ℕ) (c : Config) where
   refused-13 e = rw e refl
 
   -- after it, what is written is the program where the record of the file has its lumps
-  pub past-13 : (r : FileRecord) (o : WriteOutcome) → sound (programOf file) c ≡ true → r ≡ fileOf file → o ≡ writing (written checkNumber (contentsAt r file)) output
+  pub past-13 : (r : FileRecord) (o : WriteOutcome) → sound (programOf file) c ≡ true → r ≡ fileOf file → o ≡ writing (written (c .state .settings .«check_number») (contentsAt r file)) output
       → o ≡ writeOutcome output (writeFile file output c)
   unfolding writing writeFile writeConditions guard judge
   past-13 r o e same h = h ∙ rw (e, same) refl

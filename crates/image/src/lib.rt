@@ -3,7 +3,6 @@ ghost use mathlib.Core.Path.{_≡_};
 ghost use Rattle.definition.specs.Written.{writeFile, writeOutcome};
 ghost use Rattle.progs.specs.Contexts.{config};
 ghost use Rattle.writer.specs.Outcomes.{outcomeOf};
-use definition::CHECK_NUMBER;
 use definition::WriteAnswer;
 use progs::ExecutionContext;
 
@@ -21,5 +20,6 @@ pub fn write_file(
     if !context.check_state(file, cells, store, entities) {
         return WriteAnswer::Refused(13);
     }
-    writer::write_program(output, CHECK_NUMBER, file, context.file, 0)
+    let settings = context.settings;
+    writer::write_program(output, settings.check_number as u32, file, context.file, 0)
 }

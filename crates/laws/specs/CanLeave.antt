@@ -9,10 +9,11 @@ use borrow.Author.Tests.{ltb-true, leb-true, le-leb, lt-ltb}
 use lib.IntN.{ℤ, pos}
 use lib.ListN.{length, getD, set, length-set}
 use lib.Dec.{leb, ltb}
+use Rattle.definition.specs.declared.Settings.{Settings}
 use Rattle.definition.specs.declared.StackFrame.{StackFrame}
 use Rattle.definition.specs.Checks.{Condition, Conditions, Checked, refused, accepted, guard}
 use Rattle.definition.specs.File.{greatestDepth, fileOf}
-use Rattle.definition.specs.Machine.{Program, functionOf, State, Config, countOf, limits, zeroFrame, present, copied, successive, argumentsOf, withCells, advanced}
+use Rattle.definition.specs.Machine.{Program, functionOf, State, Config, countOf, zeroFrame, present, copied, successive, argumentsOf, withCells, advanced}
 use Rattle.definition.specs.Machine.{entryConditions, entered, leaveConditions, left, returnConditions, returned}
 use Rattle.definition.specs.Load.{load, loaded, programOf}
 use Rattle.definition.specs.Operations.{enteredAt, enteredFunctions, sound, natural, leftTimes, leavingsConditions, leavingsTo, abandonConditions, abandon}
@@ -25,7 +26,7 @@ use Rattle.definition.specs.Parts.{length-copied}
 use Rattle.definition.specs.StatementLaws.{Keeps}
 use Rattle.definition.specs.Invariant.{Preserves, Inductive, always, roomIn}
 use Rattle.laws.specs.Entities.{Suffice, LendEnough, while-enough}
-use Rattle.laws.specs.Sound.{StackConsistent, Consistent, consistent-sound, entered-more, entered-less, suffice, advanced-consistent, entered-consistent, left-consistent, returned-consistent, loaded-consistent, load-suffices, AnyStep}
+use Rattle.laws.specs.Sound.{StackConsistent, depth-bound, Consistent, consistent-sound, entered-more, entered-less, suffice, advanced-consistent, entered-consistent, left-consistent, returned-consistent, loaded-consistent, load-suffices, AnyStep}
 
 -- the local cells of these functions are below the count
 abbrev Ranges : Program → ℕ → List ℕ → Type 0
@@ -46,13 +47,13 @@ module _ (file : List ℕ) where
   advanced-ranges c p cells entities e k = record { consistent = advanced-consistent file c p cells entities e (k .consistent); ranges = k .ranges }
 
   entered-ranges : (c : Config) (f : ℕ) (back : ℤ) → RangesPresent file c → All (entryConditions P f c) → RangesPresent file (entered P f back c)
-  unfolding entryConditions entered limits enteredFunctions
+  unfolding entryConditions entered enteredFunctions
   entered-ranges c f back k h =
       let s = c .state in
-      let shallow : s .depth < greatestDepth = ltb-true (s .depth) greatestDepth (h .1 .0) in
+      let shallow : s .depth < s .settings .depth = ltb-true (s .depth) (s .settings .depth) (h .1 .0) in
       let frame : StackFrame = record { «instr_id» = back; «func_id» = s .function } in
       let e : enteredAt (s .depth + 1) f (set (s .frames) (s .depth) frame) ≡ f ∷ enteredAt (s .depth) (s .function) (s .frames) =
-      rw native.Mathlib.Numerals.add-one (entered-more (s .depth) f (s .frames) frame (omega (arith, k .consistent .stack .room)))
+      rw native.Mathlib.Numerals.add-one (entered-more (s .depth) f (s .frames) frame (omega (arith, k .consistent .stack .room, depth-bound P s (k .consistent .stack))))
       in
       record { consistent = entered-consistent file c f back (k .consistent) h; ranges = rw e (h .1 .1 .1 .0, k .ranges) }
 
@@ -112,9 +113,9 @@ module _ (file : List ℕ) where
         (consistent-sound file c (k .consistent) lent, (lt-ltb t (c .state .depth + 1) (omega arith), leavings-accepted (c .state .depth - t) c k (omega arith))),
   )
 
-  loaded-ranges : (n : ℤ) (cells saved entities : List ℕ) → WhenAccepted (RangesPresent file) (load file n cells saved entities)
+  loaded-ranges : (s : Settings) (n : ℤ) (cells saved entities : List ℕ) → WhenAccepted (RangesPresent file) (load s file n cells saved entities)
   unfolding load loaded enteredFunctions
-  loaded-ranges n cells saved entities = with-none (load file n cells saved entities) (loaded-consistent file n cells saved entities) (guarded (λ (c : Config). c .state .depth ≡ 0) _ _ λ h. refl)
+  loaded-ranges s n cells saved entities = with-none (load s file n cells saved entities) (loaded-consistent s file n cells saved entities) (guarded (λ (c : Config). c .state .depth ≡ 0) _ _ λ h. refl)
     where
       with-none : (x : Checked Config) → WhenAccepted (Consistent file) x → WhenAccepted (λ (c : Config). c .state .depth ≡ 0) x → WhenAccepted (RangesPresent file) x
       with-none (refused n) s z = tt
@@ -126,17 +127,17 @@ pub record CanLeave (file : List ℕ) (c : Config) (l : Log) : Type 0 where
   pub leaves : 0 < c .state .depth → All (leaveConditions (programOf file) c)
   pub abandons-to : Suffice file c → (target : ℕ) → target ≤ c .state .depth → (c′ : Config) × (abandon (programOf file) (pos target) c ≡ accepted c′)
 
-pub always-can-leave : (file : List ℕ) (n : ℤ) (cells saved entities : List ℕ) (c : Config) → load file n cells saved entities ≡ accepted c → (calls : List Call) → AllReady file calls → Always file AnyStep (CanLeave file) c [] calls
-always-can-leave file n cells saved entities c accepts calls ready =
+pub always-can-leave : (s : Settings) (file : List ℕ) (n : ℤ) (cells saved entities : List ℕ) (c : Config) → load s file n cells saved entities ≡ accepted c → (calls : List Call) → AllReady file calls → Always file AnyStep (CanLeave file) c [] calls
+always-can-leave s file n cells saved entities c accepts calls ready =
     always file (λ c′ l. RangesPresent file c′) AnyStep (ranges-inductive file) (CanLeave file)
     (λ c′ l k. record { leaves = can-leave file c′ k; abandons-to = λ lent t h. abandons file c′ k lent t h })
     c [] calls ready
-    (subst (WhenAccepted (RangesPresent file)) accepts (loaded-ranges file n cells saved entities))
+    (subst (WhenAccepted (RangesPresent file)) accepts (loaded-ranges file s n cells saved entities))
 
 -- so in a list in which every lending is of entity cells enough, or in one without lendings, an abandonment is accepted at any time
-pub always-abandons : (file : List ℕ) (n : ℤ) (cells saved entities : List ℕ) (c : Config) → load file n cells saved entities ≡ accepted c
+pub always-abandons : (s : Settings) (file : List ℕ) (n : ℤ) (cells saved entities : List ℕ) (c : Config) → load s file n cells saved entities ≡ accepted c
     → (calls : List Call) → AllReady file calls → LendEnough (roomIn file c) calls
     → Always file AnyStep (λ c′ l. (target : ℕ) → target ≤ c′ .state .depth → (c″ : Config) × (abandon (programOf file) (pos target) c′ ≡ accepted c″)) c [] calls
-always-abandons file n cells saved entities c accepts calls ready lent =
+always-abandons s file n cells saved entities c accepts calls ready lent =
     while-enough file AnyStep (CanLeave file) _ (λ c′ l k enough. k .abandons-to enough)
-    c [] calls ready (load-suffices file n cells saved entities c accepts) lent (always-can-leave file n cells saved entities c accepts calls ready)
+    c [] calls ready (load-suffices s file n cells saved entities c accepts) lent (always-can-leave s file n cells saved entities c accepts calls ready)

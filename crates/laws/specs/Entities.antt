@@ -14,6 +14,7 @@ use lib.ListN.{length, getD, set, take, drop, length-set}
 use lib.Seq.{getD-set-same, getD-set-other, take-set-le, drop-set-lt}
 use lib.Dec.{eqb, leb, ltb}
 use borrow.Author.Tests.{ltb-true, leb-true, eqb-true}
+use Rattle.definition.specs.declared.Settings.{Settings}
 use Rattle.definition.specs.declared.Statement.{Statement}
 use Rattle.definition.specs.declared.FunctionDef.{FunctionDef}
 use Rattle.definition.specs.declared.Handover.{Handover}
@@ -92,10 +93,10 @@ kept-same c (refused n) h = same c
 kept-same c (accepted c′) h = h
 
 -- a load, accepted or refused, leaves the lent entity cells as they were
-pub load-untouched : (file : List ℕ) (n : ℤ) (cells saved entities : List ℕ)
-    → loadOutcome cells saved entities (load file n cells saved entities) .config .entities ≡ entities
+pub load-untouched : (s : Settings) (file : List ℕ) (n : ℤ) (cells saved entities : List ℕ)
+    → loadOutcome cells saved entities (load s file n cells saved entities) .config .entities ≡ entities
 unfolding load loaded
-load-untouched file n cells saved entities = go (load file n cells saved entities) (guarded (λ (c : Config). c .entities ≡ entities) _ _ λ h. refl)
+load-untouched s file n cells saved entities = go (load s file n cells saved entities) (guarded (λ (c : Config). c .entities ≡ entities) _ _ λ h. refl)
   where
     go : (x : Checked Config) → WhenAccepted (λ (c : Config). c .entities ≡ entities) x → loadOutcome cells saved entities x .config .entities ≡ entities
     go (refused n) h = refl
@@ -640,7 +641,7 @@ transfers-keep file c l ks ready = always file (λ c′ l′. Unit {0}) Transfer
 
 -- "The return guarantee then also covers runs that write entities", "though between calls the host may change any": demand 3 holds of a list in which others
 -- are lent after any call
-pub returns-over-lendings : (file : List ℕ) (n : ℤ) (cells saved entities : List ℕ) (c : Config) → load file n cells saved entities ≡ accepted c
-    → (ks : List Call) (lent : List ℕ) (more : List Call) → AllReady file (ks ++ (lends lent ∷ more)) → Always file (StepCorrect file) (DepthsMatch file) c [] (ks ++ (lends lent ∷ more))
+pub returns-over-lendings : (s : Settings) (file : List ℕ) (n : ℤ) (cells saved entities : List ℕ) (c : Config) → load s file n cells saved entities ≡ accepted c
+    → (ks : List Call) (lent : List ℕ) (more : List Call) → AllReady file (ks ++ (lends lent ∷ more)) → Always file (StepCorrect s file) (DepthsMatch s file) c [] (ks ++ (lends lent ∷ more))
 unfolding Demand3
-returns-over-lendings file n cells saved entities c accepts ks lent more ready = demand3 file n cells saved entities c accepts (ks ++ (lends lent ∷ more)) ready
+returns-over-lendings s file n cells saved entities c accepts ks lent more ready = demand3 s file n cells saved entities c accepts (ks ++ (lends lent ∷ more)) ready

@@ -9,6 +9,7 @@ use borrow.Author.Tests.{ltb-true}
 use lib.IntN.{ℤ, pos, negsuc, _+ℤ_}
 use lib.ListN.{length, getD, set}
 use lib.Dec.{ltb}
+use Rattle.definition.specs.declared.Settings.{Settings}
 use Rattle.definition.specs.declared.RunAnswer.the-variants.{Refused}
 use Rattle.definition.specs.Checks.{Condition, Conditions, _otherwise_, judge, Checked, refused, accepted, guard}
 use Rattle.definition.specs.File.{leastCells}
@@ -34,11 +35,11 @@ exactly cs a =
       refuses-only = refused-first cs a;
     }
 
-pub load-exactly : (file : List ℕ) (n : ℤ) (cells saved entities : List ℕ)
-    → Exactly (loadConditions leastCells file (entitiesGiven n) (length cells) (length saved) (length entities)) (loaded file (entitiesGiven n) cells saved entities)
-    (load file n cells saved entities)
+pub load-exactly : (s : Settings) (file : List ℕ) (n : ℤ) (cells saved entities : List ℕ)
+    → Exactly (loadConditions s file (entitiesGiven n) (length cells) (length saved) (length entities)) (loaded s file (entitiesGiven n) cells saved entities)
+    (load s file n cells saved entities)
 unfolding load
-load-exactly file n cells saved entities = exactly _ _
+load-exactly s file n cells saved entities = exactly _ _
 
 pub entry-exactly : (P : Program) (f : ℤ) (c : Config)
     → Exactly ((sound P c otherwise 13) ∷ entryConditions P (placeOf (length (P .functions)) f) c) (entered P (placeOf (length (P .functions)) f) (c .state .pc) c) (hostEnter P f c)

@@ -10,10 +10,11 @@ use lib.IntN.{ℤ, pos}
 use lib.ListN.{length, getD, set, replicate, length-set, length-replicate}
 use lib.Dec.{eqb}
 use lib.Seq.{getD-set-same, getD-set-other}
+use Rattle.definition.specs.declared.Settings.{Settings}
 use Rattle.definition.specs.declared.StackFrame.{StackFrame}
 use Rattle.definition.specs.Checks.{Condition, Conditions, accepted}
 use Rattle.definition.specs.File.{greatestDepth}
-use Rattle.definition.specs.Machine.{Program, Config, zeroFrame, limits, copied, successive, withCells}
+use Rattle.definition.specs.Machine.{Program, Config, zeroFrame, copied, successive, withCells}
 use Rattle.definition.specs.Machine.{entryConditions, entered, left}
 use Rattle.definition.specs.Load.{load, programOf}
 use Rattle.definition.specs.Calls.{Call}
@@ -22,7 +23,7 @@ use Rattle.definition.specs.Log.{Log, Kind, entry, leaving, other}
 use Rattle.definition.specs.Trace.{StepProperty, Always}
 use Rattle.definition.specs.CheckLaws.{All}
 use Rattle.definition.specs.Invariant.{Preserves, Inductive, always}
-use Rattle.laws.specs.Starts.{load-starts}
+use Rattle.laws.specs.Starts.{load-starts, load-sizes}
 
 abbrev pub frameAt : Config → ℕ → StackFrame
 frameAt c i = getD (c .state .frames) i zeroFrame
@@ -69,27 +70,34 @@ pub leaving-touches : (P : Program) (c : Config) → Only (c .state .depth - 1) 
 unfolding left
 leaving-touches P c = (λ j ne. getD-set-other (c .state .frames) (c .state .depth - 1) j zeroFrame zeroFrame ne, set-zero (c .state .frames) (c .state .depth - 1))
 
+-- the invariant: beside that, the greatest depth that is set is at most 31, which the settings of a load are
+record ZeroAndBound (c : Config) : Type 0 where
+  number : length (c .state .frames) ≡ greatestDepth
+  zeros : (i : ℕ) → c .state .depth ≤ i → frameAt c i ≡ record { «instr_id» = pos 0; «func_id» = 0 }
+  bound : c .state .settings .depth ≤ greatestDepth
+
 module _ (file : List ℕ) where
   abbrev P : Program
   P = programOf file
 
   abbrev Preserved : Kind → Config → Log → Config → Type 0
-  Preserved κ c l c′ = Preserves file (λ c l. ZeroAbove c) FramesBy κ c l c′
+  Preserved κ c l c′ = Preserves file (λ c l. ZeroAndBound c) FramesBy κ c l c′
 
-  entered-frames : (c : Config) (l : Log) (f : ℕ) (back : ℤ) → ZeroAbove c → All (entryConditions P f c) → Preserved (entry f back) c l (entered P f back c)
-  unfolding entryConditions entered limits
+  entered-frames : (c : Config) (l : Log) (f : ℕ) (back : ℤ) → ZeroAndBound c → All (entryConditions P f c) → Preserved (entry f back) c l (entered P f back c)
+  unfolding entryConditions entered
   entered-frames c l f back k h =
       let s = c .state in
       let frame : StackFrame = record { «instr_id» = back; «func_id» = s .function } in
-      let shallow : s .depth < greatestDepth = ltb-true (s .depth) greatestDepth (h .1 .0) in (
-        (entry-touches P f back c, getD-set-same (s .frames) (s .depth) frame zeroFrame (omega (arith, k .number))),
+      let shallow : s .depth < s .settings .depth = ltb-true (s .depth) (s .settings .depth) (h .1 .0) in (
+        (entry-touches P f back c, getD-set-same (s .frames) (s .depth) frame zeroFrame (omega (arith, k .number, k .bound))),
         record {
           number = length-set (s .frames) (s .depth) frame ∙ k .number;
           zeros = λ i le. entry-touches P f back c i (λ e. omega arith) ∙ k .zeros i (omega arith);
+          bound = k .bound;
         },
       )
 
-  left-frames : (c : Config) (l : Log) → ZeroAbove c → Preserved leaving c l (left P c)
+  left-frames : (c : Config) (l : Log) → ZeroAndBound c → Preserved leaving c l (left P c)
   unfolding left
   left-frames c l k =
       let s = c .state in (
@@ -97,26 +105,28 @@ module _ (file : List ℕ) where
         record {
           number = length-set (s .frames) (s .depth - 1) zeroFrame ∙ k .number;
           zeros = λ i le. set-keeps-zero (s .frames) i (s .depth - 1) (λ ne. k .zeros i (omega arith));
+          bound = k .bound;
         },
       )
 
-  frames-inductive : Inductive file (λ c l. ZeroAbove c) FramesBy
+  frames-inductive : Inductive file (λ c l. ZeroAndBound c) FramesBy
   frames-inductive =
       record {
-        plain = λ c l p cells entities k keeps puts. (refl, record { number = k .number; zeros = k .zeros });
-        writing = λ c l cells k keeps. (refl, record { number = k .number; zeros = k .zeros });
-        lending = λ c l entities k. (refl, record { number = k .number; zeros = k .zeros });
+        plain = λ c l p cells entities k keeps puts. (refl, record { number = k .number; zeros = k .zeros; bound = k .bound });
+        writing = λ c l cells k keeps. (refl, record { number = k .number; zeros = k .zeros; bound = k .bound });
+        lending = λ c l entities k. (refl, record { number = k .number; zeros = k .zeros; bound = k .bound });
         entering = entered-frames;
-        returning = λ c l a k h. left-frames (withCells c (copied (successive 3 a 1) (c .cells))) l (record { number = k .number; zeros = k .zeros });
+        returning = λ c l a k h. left-frames (withCells c (copied (successive 3 a 1) (c .cells))) l (record { number = k .number; zeros = k .zeros; bound = k .bound });
         leave-one = λ c l k h. left-frames c l k;
       }
 
-pub frames-by : (file : List ℕ) (n : ℤ) (cells saved entities : List ℕ) (c : Config) → load file n cells saved entities ≡ accepted c → (calls : List Call) → AllReady file calls
+pub frames-by : (s : Settings) (file : List ℕ) (n : ℤ) (cells saved entities : List ℕ) (c : Config) → load s file n cells saved entities ≡ accepted c → (calls : List Call) → AllReady file calls
     → Always file FramesBy (λ c′ l. ZeroAbove c′) c [] calls
-frames-by file n cells saved entities c accepts calls ready =
-    let started = load-starts file n cells saved entities c accepts in
-    always file (λ c′ l. ZeroAbove c′) FramesBy (frames-inductive file) (λ c′ l. ZeroAbove c′) (λ c′ l k. k) c [] calls ready
+frames-by s file n cells saved entities c accepts calls ready =
+    let started = load-starts s file n cells saved entities c accepts in
+    always file (λ c′ l. ZeroAndBound c′) FramesBy (frames-inductive file) (λ c′ l. ZeroAbove c′) (λ c′ l k. record { number = k .number; zeros = k .zeros }) c [] calls ready
     (record {
       number = ap length (started .frames) ∙ length-replicate greatestDepth zeroFrame;
       zeros = λ i le. ap (λ (fs : List StackFrame). getD fs i zeroFrame) (started .frames) ∙ all-zeros greatestDepth i;
+      bound = rw (started .settings) (load-sizes s file n cells saved entities c accepts .settings .depth-most);
     })

@@ -9,12 +9,14 @@ use lib.ListN.{length}
 use Rattle.definition.specs.declared.Statement.{Statement}
 use Rattle.definition.specs.declared.Definition.{Definition}
 use Rattle.definition.specs.declared.FunctionDef.{FunctionDef}
-use Rattle.definition.specs.Checks.{Conditions, accepted}
-use Rattle.definition.specs.File.{negative, versionOf, checkNumberOf, fileOf, lumpsFit, leastCells, contentsOf, builtinKnown}
+use Rattle.definition.specs.declared.Settings.{Settings}
+use Rattle.definition.specs.Checks.{Conditions, _otherwise_, accepted}
+use Rattle.definition.specs.File.{negative, versionOf, checkNumberOf, fileOf, lumpsFit, leastCells, contentsOf, builtinKnown, settingsFit}
 use Rattle.definition.specs.Cells.{typeOf}
 use Rattle.definition.specs.Load.{functionConditions, statementConditions, globaldefConditions, fielddefConditions, each, headerConditions, recordConditions, cellConditions, entityConditions, loadConditions, loaded, load}
 use Rattle.definition.specs.Machine.{entitiesFit}
 use Rattle.definition.specs.CheckLaws.{All, all-both, and-both, guard-accepts}
+use Rattle.definition.specs.LoadLaws.{InRange, in-range-fits}
 
 -- of each record of a list
 abbrev pub Every : {A : Type 0} → (A → Type 0) → List A → Type 0
@@ -33,12 +35,13 @@ GlobaldefIs strings d = (d .name < strings) × (typeOf d ≤ 7)
 abbrev pub FielddefIs : ℕ → Definition → Type 0
 FielddefIs strings d = (d .name < strings) × (d .kind < 32768) × (typeOf d ≤ 7)
 
--- with n entities, beside so many lent cells, a saved store of so many, and so many lent entity cells
-pub record Loadable (file : List ℕ) (n lent store entities : ℕ) : Type 0 where
+-- under these settings, with n entities, beside so many lent cells, a saved store of so many, and so many lent entity cells
+pub record Loadable (s : Settings) (file : List ℕ) (n lent store entities : ℕ) : Type 0 where
+  pub settings : InRange s
   pub shortest : 60 ≤ length file
   pub longest : length file ≤ 1048576
   pub version : versionOf file ≡ 6
-  pub check-number : checkNumberOf file ≡ 5927
+  pub check-number : checkNumberOf file ≡ s .«check_number»
   pub lumps : lumpsFit (fileOf file) ≡ true
   pub functions : Every (FunctionIs (fileOf file .strings .count)) (contentsOf file .functions)
   pub statements : Every StatementIs (contentsOf file .statements)
@@ -58,8 +61,8 @@ unfolding each
 every-each Q conditions holds [] h = tt
 every-each Q conditions holds (x ∷ xs) h = all-both (conditions x) (each conditions xs) (holds x (h .0)) (every-each Q conditions holds xs (h .1))
 
-module _ (file : List ℕ) (n : ℕ) (cells saved entities : List ℕ) (h : Loadable file n (length cells) (length saved) (length entities)) where
-  header : All (headerConditions file)
+module _ (s : Settings) (file : List ℕ) (n : ℕ) (cells saved entities : List ℕ) (h : Loadable s file n (length cells) (length saved) (length entities)) where
+  header : All (headerConditions (s .«check_number») file)
   unfolding headerConditions fileOf
   header = (
     and-both _ _ (le-leb 60 (length file) (h .shortest)) (le-leb (length file) 1048576 (h .longest)),
@@ -96,12 +99,12 @@ module _ (file : List ℕ) (n : ℕ) (cells saved entities : List ℕ) (h : Load
   unfolding entitiesFit
   entities-fit = (and-both _ _ (le-leb n 600 (h .few)) (le-leb _ _ (h .entities-enough)), tt)
 
-  pub loadable : load file (pos n) cells saved entities ≡ accepted (loaded file n cells saved entities)
+  pub loadable : load s file (pos n) cells saved entities ≡ accepted (loaded s file n cells saved entities)
   unfolding load
   loadable =
-      let hs = headerConditions file in
+      let hs = headerConditions (s .«check_number») file in
       let rs = recordConditions (fileOf file .strings .count) (contentsOf file) in
       let cs = cellConditions leastCells (fileOf file) (length cells) (length saved) in
       let es = entityConditions (fileOf file) n (length entities) in
-      guard-accepts (hs ++ rs ++ cs ++ es) (loaded file n cells saved entities)
-      (all-both (hs ++ rs ++ cs) es (all-both (hs ++ rs) cs (all-both hs rs header recorded) lent-fit) entities-fit)
+      guard-accepts ((settingsFit s otherwise 36) ∷ hs ++ rs ++ cs ++ es) (loaded s file n cells saved entities)
+      (in-range-fits s (h .settings), all-both (hs ++ rs ++ cs) es (all-both (hs ++ rs) cs (all-both hs rs header recorded) lent-fit) entities-fit)

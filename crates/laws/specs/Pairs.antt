@@ -11,7 +11,7 @@ use lib.Seq.{getD-set-same, getD-set-other}
 use lib.Dec.{eqb}
 use Rattle.definition.specs.Checks.{judge, refused, guard}
 use Rattle.definition.specs.Machine.{Program, Config, countOf, withCells}
-use Rattle.definition.specs.Operations.{sound, natural, below, rawConditions, rawWrite, pairConditions, settingConditions, pairsWritten, writeAllConditions, writeAll}
+use Rattle.definition.specs.Operations.{sound, natural, below, rawConditions, rawWrite, pairConditions, pairsConditions, pairsWritten, writeAllConditions, writeAll}
 use Rattle.definition.specs.Answers.{kept}
 use Rattle.definition.specs.Calls.{writes, writesAll, after}
 use Rattle.definition.specs.CheckLaws.{All, guard-accepts}
@@ -19,17 +19,17 @@ use Rattle.definition.specs.PlaceLaws.{below-natural}
 
 -- "For a single pair it equals the raw host write": of every address and every value of a cell
 pub one-pair : (P : Program) (a : ℤ) (v : ℕ) (c : Config) → v < 4294967296 → writeAll P (a ∷ pos v ∷ []) c ≡ rawWrite P a v c
-unfolding writeAll settingConditions pairConditions pairsWritten rawWrite guard judge
+unfolding writeAll pairsConditions pairConditions pairsWritten rawWrite guard judge
 one-pair P a v c h = rw (lt-ltb v 4294967296 h)
 
 -- "15 for more than 64 pairs or an unpaired number", whatever the numbers are
 module _ (P : Program) (numbers : List ℤ) (c : Config) (passes : sound P c ≡ true) where
   pub unpaired : length numbers % 2 ≡ 1 → writeAll P numbers c ≡ refused 15
-  unfolding writeAll settingConditions guard judge
+  unfolding writeAll pairsConditions guard judge
   unpaired odd = rw (passes, odd)
 
   pub more-than-64 : length numbers % 2 ≡ 0 → 128 < length numbers → writeAll P numbers c ≡ refused 15
-  unfolding writeAll settingConditions guard judge
+  unfolding writeAll pairsConditions guard judge
   more-than-64 even over = rw (passes, even, lt-leb (length numbers) 128 over)
 
 -- ---- "in one operation": what raw writes, pair after pair, leave where none of them is refused
@@ -59,7 +59,7 @@ module _ (P : Program) where
       in-turn numbers c′ (still-sound c (natural a) (natural v) s) (h .1 .1) ∙ ap (oneByOne P numbers) (sym (write-accepted c a (natural v) s (h .0)))
 
   pub one-by-one : (numbers : List ℤ) (c : Config) → All (writeAllConditions P numbers c) → after P (writesAll numbers) c ≡ oneByOne P numbers c
-  unfolding after writeAll settingConditions
+  unfolding after writeAll pairsConditions
   one-by-one numbers c h =
       ap (kept c) (guard-accepts (writeAllConditions P numbers c) (withCells c (pairsWritten numbers (c .cells))) h) ∙ in-turn numbers c (h .0) (h .1 .1 .1)
 

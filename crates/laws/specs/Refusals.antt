@@ -12,10 +12,10 @@ use Rattle.definition.specs.declared.Definition.{Definition}
 use Rattle.definition.specs.declared.FunctionDef.{FunctionDef}
 use Rattle.definition.specs.declared.Handover.the-variants.{Builtin, Opcode}
 use Rattle.definition.specs.Checks.{judge, refused, accepted}
-use Rattle.definition.specs.File.{builtinNumber}
+use Rattle.definition.specs.File.{builtinNumber, settingsFit, standard}
 use Rattle.definition.specs.Cells.{cellOf}
 use Rattle.definition.specs.Statements.{Does, next, calls, returns, refuses, handsOver, callOf}
-use Rattle.definition.specs.Machine.{Fetch, Program, State, Config, entitiesFit, limits, zeroFrame, present, copied, successive, arguments, copiesPresent}
+use Rattle.definition.specs.Machine.{Fetch, Program, State, Config, entitiesFit, zeroFrame, present, copied, successive, arguments, copiesPresent}
 use Rattle.definition.specs.Machine.{entryConditions, entered, leaveConditions, returnConditions, Stepped, completed, refusedStep, handedStep}
 use Rattle.definition.specs.Load.{each, recordConditions}
 use Rattle.definition.specs.Operations.{frameFunctions, enteredFunctions, allPresent, localsOf, sound, runConditions}
@@ -128,6 +128,7 @@ at depth saved =
       state =
           record {
             file = cellsAlone 64;
+            settings = standard;
             pc = pos 7;
             function = 0;
             depth = depth;
@@ -257,6 +258,6 @@ abbrev pub rows : List Row
 rows = records ++ entries ++ copies ++ called ++ leavings ++ runs ++ answers
 
 pub refusals-stand : T (all rows)
-unfolding judge builtinNumber cellOf callOf limits present copied successive arguments copiesPresent entryConditions entered leaveConditions
+unfolding judge builtinNumber cellOf callOf settingsFit present copied successive arguments copiesPresent entryConditions entered leaveConditions
     each recordConditions entitiesFit frameFunctions enteredFunctions allPresent localsOf sound runConditions
 refusals-stand = tt

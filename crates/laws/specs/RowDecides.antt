@@ -8,14 +8,15 @@ use mathlib.Core.List.{List, [], _∷_, _++_}
 use mathlib.Core.Bool.{true}
 use lib.IntN.{ℤ, pos, _+ℤ_}
 use lib.ListN.{length, getD, set}
+use Rattle.definition.specs.declared.Settings.{Settings}
 use Rattle.definition.specs.declared.FileRecord.{FileRecord}
 use Rattle.definition.specs.declared.RunAnswer.the-variants.{Refused}
 use Rattle.definition.specs.Checks.{Condition, Conditions, _otherwise_, judge, Checked, accepted, guard}
-use Rattle.definition.specs.File.{greatestLimit, fileOf}
+use Rattle.definition.specs.File.{fileOf}
 use Rattle.definition.specs.Statements.{placeOf}
-use Rattle.definition.specs.Machine.{Program, Config, entitiesOf, countOf, limits, withCells, advanced, entryConditions, entered, step, Ran, runFor}
+use Rattle.definition.specs.Machine.{Program, Config, entitiesOf, countOf, withCells, advanced, entryConditions, entered, step, Ran, runFor}
 use Rattle.definition.specs.Load.{load, programWith, programOf}
-use Rattle.definition.specs.Operations.{sound, natural, below, permitted, isHandedOver, hostEnter, statement, runConditions, run, carryOnConditions, carryOn, rawRead, rawWrite, settingConditions, pairsWritten, writeAll}
+use Rattle.definition.specs.Operations.{sound, natural, below, permitted, isHandedOver, hostEnter, statement, runConditions, run, carryOnConditions, carryOn, rawRead, rawWrite, pairsConditions, pairsWritten, writeAll}
 use Rattle.definition.specs.Written.{roomConditions, placed, image, writeConditions, writeFile}
 use Rattle.definition.specs.Calls.{Call}
 use Rattle.definition.specs.Unpacked.{AllReady}
@@ -35,9 +36,9 @@ module _ (file : List ℕ) (c : Config) where
   abbrev P : Program
   P = programOf file
 
-  -- "28: limit outside 1 to 99,999; 29: target below 0, or not below the depth"
+  -- "28: limit outside 1 to 99,999" (R-11: to the greatest run limit of the settings); "29: target below 0, or not below the depth"
   abbrev pub runRow : ℤ → ℤ → Conditions
-  runRow target limit = (permitted limit greatestLimit otherwise 28) ∷ (below target (c .state .depth) otherwise 29) ∷ []
+  runRow target limit = (permitted limit (c .state .settings .limit) otherwise 28) ∷ (below target (c .state .depth) otherwise 29) ∷ []
 
   -- "15: cell negative or not below the count"
   abbrev pub rawRow : ℤ → Conditions
@@ -58,9 +59,9 @@ module _ (file : List ℕ) (c : Config) where
     pub carries : Exactly carryOnRow (advanced c (c .state .pc +ℤ pos 1) (c .cells) (c .entities)) (carryOn P c)
     pub reads : (a : ℤ) → Exactly (rawRow a) (getD (c .cells) (natural a) 0) (rawRead P a c)
     pub writes : (a : ℤ) (v : ℕ) → Exactly (rawRow a) (withCells c (set (c .cells) (natural a) v)) (rawWrite P a v c)
-    pub writes-all : (numbers : List ℤ) → Exactly (settingConditions (fileOf file .globals .count) numbers) (withCells c (pairsWritten numbers (c .cells))) (writeAll P numbers c)
+    pub writes-all : (numbers : List ℤ) → Exactly (pairsConditions (fileOf file .globals .count) numbers) (withCells c (pairsWritten numbers (c .cells))) (writeAll P numbers c)
     -- R-6: 34 alone, so in the middle of a run too the same file is written
-    pub writes-file : (output : List ℕ) → Exactly (roomConditions (image file) (length output)) (placed (image file) output) (writeFile file output c)
+    pub writes-file : (output : List ℕ) → Exactly (roomConditions (image (c .state .settings .«check_number») file) (length output)) (placed (image (c .state .settings .«check_number») file) output) (writeFile file output c)
 
   module _ (k : Consistent file c) (lent : Suffice file c) where
     passes : sound P c ≡ true
@@ -71,7 +72,7 @@ module _ (file : List ℕ) (c : Config) where
     without-13 cs a = rw passes (exactly cs a)
 
     run-decides : (target limit : ℤ) → RunExactly (runRow target limit) c (runFor P (natural limit) (natural target) c) (run P target limit c)
-    unfolding run runConditions limits programWith
+    unfolding run runConditions programWith
     run-decides target limit =
         record {
           begins = λ h. rw (judge-all (runConditions P target limit c) (passes, (refl, h)));
@@ -92,21 +93,21 @@ module _ (file : List ℕ) (c : Config) where
           carries = without-13 _ _;
           reads = λ a. by-count (λ n. (below a n otherwise 15) ∷ []) _ _ (without-13 _ _);
           writes = λ a v. by-count (λ n. (below a n otherwise 15) ∷ []) _ _ (without-13 _ _);
-          writes-all = λ numbers. by-count (λ n. settingConditions n numbers) _ _ (without-13 _ _);
+          writes-all = λ numbers. by-count (λ n. pairsConditions n numbers) _ _ (without-13 _ _);
           writes-file = λ output. without-13 _ _;
         }
 
-pub row-always-decides : (file : List ℕ) (n : ℤ) (cells saved entities : List ℕ) (c : Config) → load file n cells saved entities ≡ accepted c
+pub row-always-decides : (s : Settings) (file : List ℕ) (n : ℤ) (cells saved entities : List ℕ) (c : Config) → load s file n cells saved entities ≡ accepted c
     → (calls : List Call) → AllReady file calls
     → Always file AnyStep (λ c′ l. Suffice file c′ → RowDecides file c′) c [] calls
-row-always-decides file n cells saved entities c accepts calls ready =
+row-always-decides s file n cells saved entities c accepts calls ready =
     always file (λ c′ l. Consistent file c′) AnyStep (consistent-inductive file) (λ c′ l. Suffice file c′ → RowDecides file c′) (λ c′ l k lent. decides file c′ k lent)
-    c [] calls ready (subst (WhenAccepted (Consistent file)) accepts (loaded-consistent file n cells saved entities))
+    c [] calls ready (subst (WhenAccepted (Consistent file)) accepts (loaded-consistent s file n cells saved entities))
 
 -- so in a list in which every lending is of entity cells enough, or in one without lendings, it always decides
-pub row-decides-lent : (file : List ℕ) (n : ℤ) (cells saved entities : List ℕ) (c : Config) → load file n cells saved entities ≡ accepted c
+pub row-decides-lent : (s : Settings) (file : List ℕ) (n : ℤ) (cells saved entities : List ℕ) (c : Config) → load s file n cells saved entities ≡ accepted c
     → (calls : List Call) → AllReady file calls → LendEnough (roomIn file c) calls
     → Always file AnyStep (λ c′ l. RowDecides file c′) c [] calls
-row-decides-lent file n cells saved entities c accepts calls ready lent =
+row-decides-lent s file n cells saved entities c accepts calls ready lent =
     while-enough file AnyStep (λ c′ l. Suffice file c′ → RowDecides file c′) (λ c′ l. RowDecides file c′) (λ c′ l decides enough. decides enough)
-    c [] calls ready (load-suffices file n cells saved entities c accepts) lent (row-always-decides file n cells saved entities c accepts calls ready)
+    c [] calls ready (load-suffices s file n cells saved entities c accepts) lent (row-always-decides s file n cells saved entities c accepts calls ready)

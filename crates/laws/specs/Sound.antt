@@ -10,13 +10,14 @@ use lib.IntN.{ℤ, pos, _+ℤ_}
 use lib.ListN.{length, drop, getD, set, length-set, length-drop, length-replicate, length-append}
 use lib.Seq.{paste, length-paste, getD-set-same, getD-set-other}
 use lib.Dec.{leb, ltb, eqb, eqb-refl}
+use Rattle.definition.specs.declared.Settings.{Settings}
 use Rattle.definition.specs.declared.Lump.{Lump}
 use Rattle.definition.specs.declared.FileRecord.{FileRecord}
 use Rattle.definition.specs.declared.FunctionDef.{FunctionDef}
 use Rattle.definition.specs.declared.StackFrame.{StackFrame}
 use Rattle.definition.specs.Checks.{Condition, Conditions, Checked, refused, accepted, guard}
-use Rattle.definition.specs.File.{leastCells, savedStore, mostEntities, greatestDepth, negative, fileOf, contentsOf, lengthFits, lumpsFit, cellsFit, entityFits, contentsAt}
-use Rattle.definition.specs.Machine.{Program, functionOf, State, Config, countOf, limits, zeroFrame, startState, entitiesFit, present, copied, successive, argumentsOf, withCells, advanced}
+use Rattle.definition.specs.File.{leastCells, savedStore, mostEntities, greatestDepth, negative, fileOf, contentsOf, lengthFits, lumpsFit, cellsFit, entityFits, contentsAt, settingsFit}
+use Rattle.definition.specs.Machine.{Program, functionOf, State, Config, countOf, zeroFrame, startState, entitiesFit, present, copied, successive, argumentsOf, withCells, advanced}
 use Rattle.definition.specs.Machine.{entryConditions, entered, leaveConditions, left, returnConditions, returned}
 use Rattle.definition.specs.Load.{headerConditions, recordConditions, cellConditions, loadConditions, loaded, entitiesGiven, load, sameLump, sameFile, recordedIn, programWith, programOf}
 use Rattle.definition.specs.Operations.{frameFunctions, enteredAt, enteredFunctions, allPresent, localsOf, sound}
@@ -27,7 +28,7 @@ use Rattle.definition.specs.Trace.{StepProperty, StateProperty, Always}
 use Rattle.definition.specs.CheckLaws.{All, and-left, and-right, and-both, WhenAccepted, guarded}
 use Rattle.definition.specs.Parts.{Present, present-true, present-more, present-source, length-pasted, length-copied}
 use Rattle.definition.specs.RecordLaws.{length-globals}
-use Rattle.definition.specs.LoadLaws.{load-rows}
+use Rattle.definition.specs.LoadLaws.{settings-fit, load-rows}
 use Rattle.definition.specs.StatementLaws.{Keeps}
 use Rattle.definition.specs.Invariant.{Preserves, Inductive, always, roomIn}
 use Rattle.laws.specs.Starts.{load-starts}
@@ -59,10 +60,18 @@ entered-less (suc k) f frames = rw (frames-set k (suc k) frames zeroFrame (omega
 
 pub record StackConsistent (P : Program) (s : State) : Type 0 where
   pub room : greatestDepth ≤ length (s .frames)
-  pub depth-most : s .depth ≤ greatestDepth
+  pub fit : settingsFit (s .settings) ≡ true
+  pub depth-most : s .depth ≤ s .settings .depth
   pub all : allPresent P (enteredFunctions s) ≡ true
   pub sum : s .saved ≡ localsOf P (enteredFunctions s)
-  pub saved-most : s .saved ≤ savedStore
+  pub saved-most : s .saved ≤ s .settings .saved
+
+-- the greatest depth and saved count of the settings are at most 01's
+pub depth-bound : (P : Program) (s : State) → StackConsistent P s → s .settings .depth ≤ greatestDepth
+depth-bound P s k = settings-fit (s .settings) (k .fit) .depth-most
+
+pub saved-bound : (P : Program) (s : State) → StackConsistent P s → s .settings .saved ≤ savedStore
+saved-bound P s k = settings-fit (s .settings) (k .fit) .saved-most
 
 -- and of the file and the buffers: the inductive invariant
 pub record Consistent (file : List ℕ) (c : Config) : Type 0 where
@@ -107,15 +116,16 @@ consistent-entities file c k lent =
     rw (k .recorded, le-leb (c .state .entityCount) mostEntities (k .few)) (le-leb _ _ lent)
 
 pub consistent-sound : (file : List ℕ) (c : Config) → Consistent file c → Suffice file c → sound (programOf file) c ≡ true
-unfolding sound limits programWith
+unfolding sound programWith
 consistent-sound file c k lent =
     rw (
       consistent-recorded file c k,
       le-leb savedStore (length (c .saved)) (k .long),
       consistent-entities file c k lent,
-      le-leb (c .state .depth) greatestDepth (k .stack .depth-most),
+      k .stack .fit,
+      le-leb (c .state .depth) (c .state .settings .depth) (k .stack .depth-most),
       k .stack .all,
-      le-leb (c .state .saved) savedStore (k .stack .saved-most),
+      le-leb (c .state .saved) (c .state .settings .saved) (k .stack .saved-most),
       eq-eqb (c .state .saved) (localsOf (programOf file) (enteredFunctions (c .state))) (k .stack .sum),
     )
 
@@ -130,6 +140,7 @@ advanced-consistent file c p cells entities e k =
       stack =
           record {
             room = k .stack .room;
+            fit = k .stack .fit;
             depth-most = k .stack .depth-most;
             all = k .stack .all;
             sum = k .stack .sum;
@@ -144,28 +155,29 @@ advanced-consistent file c p cells entities e k =
 
 pub entered-consistent : (file : List ℕ) (c : Config) (f : ℕ) (back : ℤ) → Consistent file c → All (entryConditions (programOf file) f c)
     → Consistent file (entered (programOf file) f back c)
-unfolding entryConditions entered limits enteredFunctions allPresent localsOf
+unfolding entryConditions entered enteredFunctions allPresent localsOf
 entered-consistent file c f back k h =
     let P = programOf file in
     let d = functionOf P f in
     let s = c .state in
-    let shallow : s .depth < greatestDepth = ltb-true (s .depth) greatestDepth (h .1 .0) in
-    let positive : not (negative (d .locals)) ≡ true = and-left (not (negative (d .locals))) (leb (s .saved + d .locals) savedStore) (h .1 .1 .0) in
-    let fits : s .saved + d .locals ≤ savedStore = leb-true _ _ (and-right (not (negative (d .locals))) (leb (s .saved + d .locals) savedStore) (h .1 .1 .0)) in
+    let shallow : s .depth < s .settings .depth = ltb-true (s .depth) (s .settings .depth) (h .1 .0) in
+    let positive : not (negative (d .locals)) ≡ true = and-left (not (negative (d .locals))) (leb (s .saved + d .locals) (s .settings .saved)) (h .1 .1 .0) in
+    let fits : s .saved + d .locals ≤ s .settings .saved = leb-true _ _ (and-right (not (negative (d .locals))) (leb (s .saved + d .locals) (s .settings .saved)) (h .1 .1 .0)) in
     let there : Present (d .start) (d .locals) (length (c .cells)) =
     present-more _ _ (countOf c) _ (k .enough) (present-true (d .start) (d .locals) (countOf c) (h .1 .1 .1 .0))
     in
     let frame : StackFrame = record { «instr_id» = back; «func_id» = s .function } in
     let e : enteredAt (s .depth + 1) f (set (s .frames) (s .depth) frame) ≡ f ∷ enteredAt (s .depth) (s .function) (s .frames) =
-    rw native.Mathlib.Numerals.add-one (entered-more (s .depth) f (s .frames) frame (omega (arith, k .stack .room)))
+    rw native.Mathlib.Numerals.add-one (entered-more (s .depth) f (s .frames) frame (omega (arith, k .stack .room, depth-bound P s (k .stack))))
     in
     let same : length (paste (c .saved) (s .saved) (drop (d .start) (c .cells)) (d .locals)) ≡ length (c .saved) =
-    length-paste (c .saved) (s .saved) (drop (d .start) (c .cells)) (d .locals) (omega (arith, k .long)) (present-source (c .cells) (d .start) (d .locals) there)
+    length-paste (c .saved) (s .saved) (drop (d .start) (c .cells)) (d .locals) (omega (arith, k .long, saved-bound P s (k .stack))) (present-source (c .cells) (d .start) (d .locals) there)
     in
     record {
       stack =
           record {
             room = omega (arith, k .stack .room, length-set (s .frames) (s .depth) frame);
+            fit = k .stack .fit;
             depth-most = omega arith;
             all = rw (e, h .0, positive) (k .stack .all);
             sum = rw e (omega (arith, k .stack .sum));
@@ -206,12 +218,13 @@ left-consistent file c k h =
     in
     let alls : allPresent P (s .function ∷ rest) ≡ true = (rw e at (k .stack .all)) in
     let source : d .locals ≤ length (drop (s .saved - d .locals) (c .saved)) =
-    omega (arith, fewer, k .stack .saved-most, k .long, length-drop (s .saved - d .locals) (c .saved))
+    omega (arith, fewer, k .stack .saved-most, saved-bound P s (k .stack), k .long, length-drop (s .saved - d .locals) (c .saved))
     in
     record {
       stack =
           record {
             room = omega (arith, k .stack .room, length-set (s .frames) (s .depth - 1) zeroFrame);
+            fit = k .stack .fit;
             depth-most = omega (arith, k .stack .depth-most);
             all = and-right (ltb (s .function) (length (P .functions)) && not (negative (d .locals))) (allPresent P rest) alls;
             sum = omega (arith, k .stack .sum, ap (localsOf P) e);
@@ -247,15 +260,23 @@ consistent-inductive file =
 
 -- ---- the load
 
-pub loaded-consistent : (file : List ℕ) (n : ℤ) (cells saved entities : List ℕ) → WhenAccepted (Consistent file) (load file n cells saved entities)
+pub loaded-consistent : (s : Settings) (file : List ℕ) (n : ℤ) (cells saved entities : List ℕ) → WhenAccepted (Consistent file) (load s file n cells saved entities)
 unfolding load loaded headerConditions cellConditions entitiesFit enteredFunctions allPresent localsOf
-loaded-consistent file n cells saved entities =
+loaded-consistent s file n cells saved entities =
     guarded (Consistent file) _ _ λ h.
     let r = fileOf file in
     let k = contentsOf file in
-    let rows = load-rows leastCells file (entitiesGiven n) (length cells) (length saved) (length entities) h in
+    let rows = load-rows leastCells (s .«check_number») file (entitiesGiven n) (length cells) (length saved) (length entities) (h .1) in
     record {
-      stack = record { room = omega (arith, length-replicate greatestDepth zeroFrame); depth-most = omega arith; all = refl; sum = refl; saved-most = omega arith };
+      stack =
+          record {
+            room = omega (arith, length-replicate greatestDepth zeroFrame);
+            fit = h .0;
+            depth-most = omega arith;
+            all = refl;
+            sum = refl;
+            saved-most = omega arith;
+          };
       long = leb-true savedStore (length saved) (and-right (leb (r .globals .count) (length cells)) (leb savedStore (length saved)) (rows .cells .1 .1 .0));
       recorded = refl;
       enough = omega (arith, length-append (k .globals) (drop (r .globals .count) cells), length-globals file);
@@ -273,23 +294,23 @@ pub record AsLoaded (file : List ℕ) (c : Config) (l : Log) : Type 0 where
   -- what the load records stays
   pub recorded : c .state .file ≡ fileOf file
 
-pub never-13 : (file : List ℕ) (n : ℤ) (cells saved entities : List ℕ) (c : Config) → load file n cells saved entities ≡ accepted c → (calls : List Call) → AllReady file calls
+pub never-13 : (s : Settings) (file : List ℕ) (n : ℤ) (cells saved entities : List ℕ) (c : Config) → load s file n cells saved entities ≡ accepted c → (calls : List Call) → AllReady file calls
     → Always file AnyStep (AsLoaded file) c [] calls
-never-13 file n cells saved entities c accepts calls ready =
+never-13 s file n cells saved entities c accepts calls ready =
     always file (λ c′ l. Consistent file c′) AnyStep (consistent-inductive file) (AsLoaded file)
     (λ c′ l k. record { passes = consistent-sound file c′ k; recorded = k .recorded })
-    c [] calls ready (subst (WhenAccepted (Consistent file)) accepts (loaded-consistent file n cells saved entities))
+    c [] calls ready (subst (WhenAccepted (Consistent file)) accepts (loaded-consistent s file n cells saved entities))
 
-loaded-suffices : (file : List ℕ) (n : ℤ) (cells saved entities : List ℕ) → WhenAccepted (Suffice file) (load file n cells saved entities)
+loaded-suffices : (s : Settings) (file : List ℕ) (n : ℤ) (cells saved entities : List ℕ) → WhenAccepted (Suffice file) (load s file n cells saved entities)
 unfolding load loaded entitiesFit contentsAt
-loaded-suffices file n cells saved entities =
+loaded-suffices s file n cells saved entities =
     guarded (Suffice file) _ _ λ h.
-    let rows = load-rows leastCells file (entitiesGiven n) (length cells) (length saved) (length entities) h in
+    let rows = load-rows leastCells (s .«check_number») file (entitiesGiven n) (length cells) (length saved) (length entities) (h .1) in
     leb-true _ _ (and-right (leb (entitiesGiven n) mostEntities) (leb (entitiesGiven n * fileOf file .entityfields) (length entities)) (rows .fields .0))
 
 -- the lent entity cells of an accepted load suffice
-pub load-suffices : (file : List ℕ) (n : ℤ) (cells saved entities : List ℕ) (c : Config) → load file n cells saved entities ≡ accepted c → Suffice file c
-load-suffices file n cells saved entities c accepts = subst (WhenAccepted (Suffice file)) accepts (loaded-suffices file n cells saved entities)
+pub load-suffices : (s : Settings) (file : List ℕ) (n : ℤ) (cells saved entities : List ℕ) (c : Config) → load s file n cells saved entities ≡ accepted c → Suffice file c
+load-suffices s file n cells saved entities c accepts = subst (WhenAccepted (Suffice file)) accepts (loaded-suffices s file n cells saved entities)
 
 -- "their number given at load and kept in the state"
 number-inductive : (file : List ℕ) (n : ℤ) → Inductive file (λ c l. pos (c .state .entityCount) ≡ n) AnyStep
@@ -304,16 +325,35 @@ number-inductive file n =
       leave-one = λ c l k h. (tt, k);
     }
 
-pub number-kept : (file : List ℕ) (n : ℤ) (cells saved entities : List ℕ) (c : Config) → load file n cells saved entities ≡ accepted c → (calls : List Call) → AllReady file calls
+pub number-kept : (s : Settings) (file : List ℕ) (n : ℤ) (cells saved entities : List ℕ) (c : Config) → load s file n cells saved entities ≡ accepted c → (calls : List Call) → AllReady file calls
     → Always file AnyStep (λ c′ l. pos (c′ .state .entityCount) ≡ n) c [] calls
-number-kept file n cells saved entities c accepts calls ready =
+number-kept s file n cells saved entities c accepts calls ready =
     let same-number : StateProperty = λ c′ l. pos (c′ .state .entityCount) ≡ n in
-    always file same-number AnyStep (number-inductive file n) same-number (λ c′ l k. k) c [] calls ready (load-starts file n cells saved entities c accepts .entity-count)
+    always file same-number AnyStep (number-inductive file n) same-number (λ c′ l k. k) c [] calls ready (load-starts s file n cells saved entities c accepts .entity-count)
+
+-- R-11: "settings given at load and held in the state"
+settings-inductive : (s : Settings) (file : List ℕ) → Inductive file (λ c l. c .state .settings ≡ s) AnyStep
+unfolding entered left
+settings-inductive s file =
+    record {
+      plain = λ c l p cells entities k keeps puts. (tt, k);
+      writing = λ c l cells k keeps. (tt, k);
+      lending = λ c l entities k. (tt, k);
+      entering = λ c l f back k h. (tt, k);
+      returning = λ c l a k h. (tt, k);
+      leave-one = λ c l k h. (tt, k);
+    }
+
+pub settings-held : (s : Settings) (file : List ℕ) (n : ℤ) (cells saved entities : List ℕ) (c : Config) → load s file n cells saved entities ≡ accepted c → (calls : List Call) → AllReady file calls
+    → Always file AnyStep (λ c′ l. c′ .state .settings ≡ s) c [] calls
+settings-held s file n cells saved entities c accepts calls ready =
+    let held : StateProperty = λ c′ l. c′ .state .settings ≡ s in
+    always file held AnyStep (settings-inductive s file) held (λ c′ l k. k) c [] calls ready (load-starts s file n cells saved entities c accepts .settings)
 
 -- so 13 refuses no call of a list in which every lending is of entity cells enough, nor of one without lendings
-pub never-13-lent : (file : List ℕ) (n : ℤ) (cells saved entities : List ℕ) (c : Config) → load file n cells saved entities ≡ accepted c
+pub never-13-lent : (s : Settings) (file : List ℕ) (n : ℤ) (cells saved entities : List ℕ) (c : Config) → load s file n cells saved entities ≡ accepted c
     → (calls : List Call) → AllReady file calls → LendEnough (roomIn file c) calls
     → Always file AnyStep (λ c′ l. sound (programOf file) c′ ≡ true) c [] calls
-never-13-lent file n cells saved entities c accepts calls ready lent =
+never-13-lent s file n cells saved entities c accepts calls ready lent =
     while-enough file AnyStep (AsLoaded file) (λ c′ l. sound (programOf file) c′ ≡ true) (λ c′ l k enough. k .passes enough)
-    c [] calls ready (load-suffices file n cells saved entities c accepts) lent (never-13 file n cells saved entities c accepts calls ready)
+    c [] calls ready (load-suffices s file n cells saved entities c accepts) lent (never-13 s file n cells saved entities c accepts calls ready)

@@ -10,18 +10,21 @@ use lib.IntN.{ℤ, pos, negsuc}
 use lib.ListN.{length, take, drop, replicate}
 use lib.Seq.{take-at, drop-at}
 use lib.Dec.{leb}
+use Rattle.definition.specs.declared.Settings.{Settings}
 use Rattle.definition.specs.Checks.{Condition, Conditions, judge, refused, accepted, guard}
-use Rattle.definition.specs.File.{fileOf, contentsOf, lengthFits, leastCells, cellsFit}
+use Rattle.definition.specs.File.{fileOf, contentsOf, lengthFits, leastCells, cellsFit, settingsFit}
 use Rattle.definition.specs.Machine.{Config, entitiesFit}
 use Rattle.definition.specs.Load.{headerConditions, recordConditions, cellConditions, loaded, entitiesGiven, load}
-use Rattle.definition.specs.CheckLaws.{All, and-left, and-right, WhenAccepted, guarded}
+use Rattle.definition.specs.CheckLaws.{All, no-true, and-left, and-right, WhenAccepted, guarded}
 use Rattle.definition.specs.RecordLaws.{length-globals}
-use Rattle.definition.specs.LoadLaws.{load-rows}
+use Rattle.definition.specs.LoadLaws.{InRange, settings-fit, in-range-fits, load-rows}
 
 -- "A load fills the lent cells from 0 and leaves those past the file's count. Position, function and depths start at 0. Frames start as zeros"; R-3: the
--- entities' "number given at load and kept in the state", and the entity cells "are untouched, by a load too"
-pub record Started (file : List ℕ) (n : ℤ) (cells saved entities : List ℕ) (c : Config) : Type 0 where
+-- entities' "number given at load and kept in the state", and the entity cells "are untouched, by a load too"; R-11: the "settings given at load and held in
+-- the state"
+pub record Started (s : Settings) (file : List ℕ) (n : ℤ) (cells saved entities : List ℕ) (c : Config) : Type 0 where
   pub recorded : c .state .file ≡ fileOf file
+  pub settings : c .state .settings ≡ s
   pub position : c .state .pc ≡ pos 0
   pub function : c .state .function ≡ 0
   pub depth : c .state .depth ≡ 0
@@ -38,14 +41,15 @@ given : (n : ℤ) → entitiesGiven n ≤ 600 → pos (entitiesGiven n) ≡ n
 given (pos i) h = refl
 given (negsuc i) h = absurd (omega arith)
 
-when-accepted-starts : (file : List ℕ) (n : ℤ) (cells saved entities : List ℕ) → WhenAccepted (Started file n cells saved entities) (load file n cells saved entities)
+when-accepted-starts : (s : Settings) (file : List ℕ) (n : ℤ) (cells saved entities : List ℕ) → WhenAccepted (Started s file n cells saved entities) (load s file n cells saved entities)
 unfolding load loaded entitiesFit
-when-accepted-starts file n cells saved entities =
-    guarded (Started file n cells saved entities) _ _ λ h.
+when-accepted-starts s file n cells saved entities =
+    guarded (Started s file n cells saved entities) _ _ λ h.
     let count = fileOf file .globals .count in
-    let rows = load-rows leastCells file (entitiesGiven n) (length cells) (length saved) (length entities) h in
+    let rows = load-rows leastCells (s .«check_number») file (entitiesGiven n) (length cells) (length saved) (length entities) (h .1) in
     record {
       recorded = refl;
+      settings = refl;
       position = refl;
       function = refl;
       depth = refl;
@@ -58,19 +62,24 @@ when-accepted-starts file n cells saved entities =
       entity-cells = refl;
     }
 
-pub load-starts : (file : List ℕ) (n : ℤ) (cells saved entities : List ℕ) (c : Config) → load file n cells saved entities ≡ accepted c → Started file n cells saved entities c
-load-starts file n cells saved entities c accepts = subst (WhenAccepted (Started file n cells saved entities)) accepts (when-accepted-starts file n cells saved entities)
+pub load-starts : (s : Settings) (file : List ℕ) (n : ℤ) (cells saved entities : List ℕ) (c : Config) → load s file n cells saved entities ≡ accepted c → Started s file n cells saved entities c
+load-starts s file n cells saved entities c accepts = subst (WhenAccepted (Started s file n cells saved entities)) accepts (when-accepted-starts s file n cells saved entities)
 
 -- ---- sizes
 
--- "1: length under 60 or over 1,048,576"
-pub too-short : (file : List ℕ) (n : ℤ) (cells saved entities : List ℕ) → length file < 60 → load file n cells saved entities ≡ refused 1
-unfolding load guard judge headerConditions fileOf
-too-short file n cells saved entities h = rw (lt-leb 60 (length file) h)
+-- R-11: "Settings out of range are refused 36, before the file is looked at"
+pub out-of-range : (s : Settings) (file : List ℕ) (n : ℤ) (cells saved entities : List ℕ) → (InRange s → ⊥) → load s file n cells saved entities ≡ refused 36
+unfolding load guard judge
+out-of-range s file n cells saved entities h = rw (no-true (settingsFit s) (λ fits. h (settings-fit s fits)))
 
-pub too-long : (file : List ℕ) (n : ℤ) (cells saved entities : List ℕ) → 1048576 < length file → load file n cells saved entities ≡ refused 1
+-- "1: length under 60 or over 1,048,576"
+pub too-short : (s : Settings) (file : List ℕ) (n : ℤ) (cells saved entities : List ℕ) → InRange s → length file < 60 → load s file n cells saved entities ≡ refused 1
 unfolding load guard judge headerConditions fileOf
-too-long file n cells saved entities h = rw (le-leb 60 (length file) (omega arith), lt-leb (length file) 1048576 h)
+too-short s file n cells saved entities range h = rw (in-range-fits s range, lt-leb 60 (length file) h)
+
+pub too-long : (s : Settings) (file : List ℕ) (n : ℤ) (cells saved entities : List ℕ) → InRange s → 1048576 < length file → load s file n cells saved entities ≡ refused 1
+unfolding load guard judge headerConditions fileOf
+too-long s file n cells saved entities range h = rw (in-range-fits s range, le-leb 60 (length file) (omega arith), lt-leb (length file) 1048576 h)
 
 -- and no other length is refused 1
 pub length-fits : (file : List ℕ) → 60 ≤ length file → length file ≤ 1048576 → lengthFits (fileOf file) ≡ true
@@ -87,7 +96,8 @@ unfolding entitiesFit
 too-many-entities n size lent h = rw (lt-leb n 600 h)
 
 -- the sizes of what an accepted load was given
-pub record Sizes (file : List ℕ) (n : ℤ) (cells saved entities : List ℕ) : Type 0 where
+pub record Sizes (s : Settings) (file : List ℕ) (n : ℤ) (cells saved entities : List ℕ) : Type 0 where
+  pub settings : InRange s
   pub length-least : 60 ≤ length file
   pub length-most : length file ≤ 1048576
   pub cells-least : 64 ≤ fileOf file .globals .count
@@ -98,14 +108,15 @@ pub record Sizes (file : List ℕ) (n : ℤ) (cells saved entities : List ℕ) :
   pub entities-most : entitiesGiven n ≤ 600
   pub entities-lent : entitiesGiven n * fileOf file .entityfields ≤ length entities
 
-when-accepted-sizes : (file : List ℕ) (n : ℤ) (cells saved entities : List ℕ) → WhenAccepted (λ (c : Config). Sizes file n cells saved entities) (load file n cells saved entities)
+when-accepted-sizes : (s : Settings) (file : List ℕ) (n : ℤ) (cells saved entities : List ℕ) → WhenAccepted (λ (c : Config). Sizes s file n cells saved entities) (load s file n cells saved entities)
 unfolding load headerConditions cellConditions entitiesFit fileOf
-when-accepted-sizes file n cells saved entities =
-    guarded (λ (c : Config). Sizes file n cells saved entities) _ _ λ h.
+when-accepted-sizes s file n cells saved entities =
+    guarded (λ (c : Config). Sizes s file n cells saved entities) _ _ λ h.
     let r = fileOf file in
     let count = r .globals .count in
-    let rows = load-rows leastCells file (entitiesGiven n) (length cells) (length saved) (length entities) h in
+    let rows = load-rows leastCells (s .«check_number») file (entitiesGiven n) (length cells) (length saved) (length entities) (h .1) in
     record {
+      settings = settings-fit s (h .0);
       length-least = leb-true 60 (length file) (and-left (leb 60 (length file)) (leb (length file) 1048576) (rows .header .0));
       length-most = leb-true (length file) 1048576 (and-right (leb 60 (length file)) (leb (length file) 1048576) (rows .header .0));
       cells-least = leb-true 64 count (and-left (leb 64 count) (leb count 32768) (rows .cells .0));
@@ -117,5 +128,5 @@ when-accepted-sizes file n cells saved entities =
       entities-lent = leb-true _ _ (and-right (leb (entitiesGiven n) 600) (leb (entitiesGiven n * r .entityfields) (length entities)) (rows .fields .0));
     }
 
-pub load-sizes : (file : List ℕ) (n : ℤ) (cells saved entities : List ℕ) (c : Config) → load file n cells saved entities ≡ accepted c → Sizes file n cells saved entities
-load-sizes file n cells saved entities c accepts = subst (WhenAccepted (λ (c : Config). Sizes file n cells saved entities)) accepts (when-accepted-sizes file n cells saved entities)
+pub load-sizes : (s : Settings) (file : List ℕ) (n : ℤ) (cells saved entities : List ℕ) (c : Config) → load s file n cells saved entities ≡ accepted c → Sizes s file n cells saved entities
+load-sizes s file n cells saved entities c accepts = subst (WhenAccepted (λ (c : Config). Sizes s file n cells saved entities)) accepts (when-accepted-sizes s file n cells saved entities)

@@ -15,7 +15,7 @@ use Rattle.definition.specs.File.{Contents}
 use Rattle.definition.specs.Cells.{string, cellOf, Typing, typingOf, access}
 use Rattle.definition.specs.Strings.{upToZero, textOf, sameText, textAccess}
 use Rattle.definition.specs.Statements.{Entities, Does, effectDoes, stringsEffect, negatesSEffect, sameStrings, execute, shapeOf}
-use Rattle.definition.specs.CheckLaws.{and-left, and-right, or-cases, judge-append}
+use Rattle.definition.specs.CheckLaws.{no-true, and-left, and-right, or-cases, judge-append}
 use Rattle.laws.specs.Loadable.{Every}
 
 -- ---- the text of a number
@@ -98,10 +98,6 @@ or-left false b e = cc
 or-right : (a b : Bool) → b ≡ true → (a || b) ≡ true
 or-right true b e = refl
 or-right false b e = e
-
-no-true : (b : Bool) → (b ≡ true → ⊥) → b ≡ false
-no-true true h = absurd (h refl)
-no-true false h = refl
 
 -- ---- EqS, NeS and NotS
 

@@ -8,11 +8,12 @@ use borrow.Author.Tests.{leb-true, eqb-true, le-leb, eq-eqb}
 use lib.ListN.{length}
 use lib.Dec.{leb, eqb}
 use Rattle.definition.specs.declared.FileRecord.{FileRecord}
-use Rattle.definition.specs.File.{negative, fileOf, lengthFits, lumpsFit, cellsFit, entityFits}
+use Rattle.definition.specs.File.{negative, fileOf, lengthFits, lumpsFit, cellsFit, entityFits, settingsFit}
 use Rattle.definition.specs.Load.{sameFile, recordedIn}
-use Rattle.definition.specs.Machine.{Program, Config, limits, entitiesFit}
+use Rattle.definition.specs.Machine.{Program, Config, entitiesFit}
 use Rattle.definition.specs.Operations.{enteredFunctions, allPresent, localsOf, sound}
 use Rattle.definition.specs.CheckLaws.{and-left, and-right}
+use Rattle.definition.specs.LoadLaws.{InRange, settings-fit, in-range-fits}
 
 pub record Thirteen (P : Program) (c : Config) : Type 0 where
   -- "file length, header lumps or cells per entity .. as the state records"; "lent cells" not "fewer than the file's"
@@ -21,40 +22,45 @@ pub record Thirteen (P : Program) (c : Config) : Type 0 where
   -- R-3: "More than 600 entities, or lent entity cells too few for them"
   pub entities : c .state .entityCount ≤ 600
   pub entity-cells : c .state .entityCount * c .state .file .entityfields ≤ length (c .entities)
-  pub depth : c .state .depth ≤ 31
+  -- R-11: "Settings out of range are refused .. 13 in a state"; the bounds are those of the settings
+  pub settings : InRange (c .state .settings)
+  pub depth : c .state .depth ≤ c .state .settings .depth
   pub present : allPresent P (enteredFunctions (c .state)) ≡ true
-  pub most : c .state .saved ≤ 2048
+  pub most : c .state .saved ≤ c .state .settings .saved
   pub sum : c .state .saved ≡ localsOf P (enteredFunctions (c .state))
 
 pub thirteen-passes : (P : Program) (c : Config) → Thirteen P c → sound P c ≡ true
-unfolding sound limits entitiesFit
+unfolding sound entitiesFit
 thirteen-passes P c t =
     rw (
       t .recorded,
       le-leb 2048 (length (c .saved)) (t .store),
       le-leb (c .state .entityCount) 600 (t .entities),
       le-leb (c .state .entityCount * c .state .file .entityfields) (length (c .entities)) (t .entity-cells),
-      le-leb (c .state .depth) 31 (t .depth),
+      in-range-fits (c .state .settings) (t .settings),
+      le-leb (c .state .depth) (c .state .settings .depth) (t .depth),
       t .present,
-      le-leb (c .state .saved) 2048 (t .most),
+      le-leb (c .state .saved) (c .state .settings .saved) (t .most),
       eq-eqb (c .state .saved) (localsOf P (enteredFunctions (c .state))) (t .sum),
     )
 
 pub thirteen-only : (P : Program) (c : Config) → sound P c ≡ true → Thirteen P c
-unfolding sound limits entitiesFit
+unfolding sound entitiesFit
 thirteen-only P c h =
     let a : Bool = P .recorded (c .state .file) (length (c .cells)) in
     let b : Bool = leb 2048 (length (c .saved)) in
     let few : Bool = leb (c .state .entityCount) 600 in
     let lent : Bool = leb (c .state .entityCount * c .state .file .entityfields) (length (c .entities)) in
-    let d : Bool = leb (c .state .depth) 31 in
+    let v : Bool = settingsFit (c .state .settings) in
+    let d : Bool = leb (c .state .depth) (c .state .settings .depth) in
     let e : Bool = allPresent P (enteredFunctions (c .state)) in
-    let f : Bool = leb (c .state .saved) 2048 in
+    let f : Bool = leb (c .state .saved) (c .state .settings .saved) in
     let g : Bool = eqb (c .state .saved) (localsOf P (enteredFunctions (c .state))) in
-    let h5 : (a && b && (few && lent) && d && e && f) ≡ true = and-left (a && b && (few && lent) && d && e && f) g h in
-    let h4 : (a && b && (few && lent) && d && e) ≡ true = and-left (a && b && (few && lent) && d && e) f h5 in
-    let h3 : (a && b && (few && lent) && d) ≡ true = and-left (a && b && (few && lent) && d) e h4 in
-    let h2 : (a && b && (few && lent)) ≡ true = and-left (a && b && (few && lent)) d h3 in
+    let h6 : (a && b && (few && lent) && v && d && e && f) ≡ true = and-left (a && b && (few && lent) && v && d && e && f) g h in
+    let h5 : (a && b && (few && lent) && v && d && e) ≡ true = and-left (a && b && (few && lent) && v && d && e) f h6 in
+    let h4 : (a && b && (few && lent) && v && d) ≡ true = and-left (a && b && (few && lent) && v && d) e h5 in
+    let h3 : (a && b && (few && lent) && v) ≡ true = and-left (a && b && (few && lent) && v) d h4 in
+    let h2 : (a && b && (few && lent)) ≡ true = and-left (a && b && (few && lent)) v h3 in
     let h1 : (a && b) ≡ true = and-left (a && b) (few && lent) h2 in
     let fit : (few && lent) ≡ true = and-right (a && b) (few && lent) h2 in
     record {
@@ -62,10 +68,11 @@ thirteen-only P c h =
       store = leb-true 2048 (length (c .saved)) (and-right a b h1);
       entities = leb-true (c .state .entityCount) 600 (and-left few lent fit);
       entity-cells = leb-true (c .state .entityCount * c .state .file .entityfields) (length (c .entities)) (and-right few lent fit);
-      depth = leb-true (c .state .depth) 31 (and-right (a && b && (few && lent)) d h3);
-      present = and-right (a && b && (few && lent) && d) e h4;
-      most = leb-true (c .state .saved) 2048 (and-right (a && b && (few && lent) && d && e) f h5);
-      sum = eqb-true (c .state .saved) (localsOf P (enteredFunctions (c .state))) (and-right (a && b && (few && lent) && d && e && f) g h);
+      settings = settings-fit (c .state .settings) (and-right (a && b && (few && lent)) v h3);
+      depth = leb-true (c .state .depth) (c .state .settings .depth) (and-right (a && b && (few && lent) && v) d h4);
+      present = and-right (a && b && (few && lent) && v && d) e h5;
+      most = leb-true (c .state .saved) (c .state .settings .saved) (and-right (a && b && (few && lent) && v && d && e) f h6);
+      sum = eqb-true (c .state .saved) (localsOf P (enteredFunctions (c .state))) (and-right (a && b && (few && lent) && v && d && e && f) g h);
     }
 
 -- ---- the first clause, for the program of a file

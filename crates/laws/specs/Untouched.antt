@@ -11,9 +11,10 @@ use lib.IntN.{ℤ}
 use lib.ListN.{length, take, drop, getD, set, length-set, length-drop, length-append}
 use lib.Seq.{paste, length-paste, drop-paste, take-at, drop-at, length-take-le, take-set-le, drop-set-lt, drop-drop}
 use lib.Dec.{leb, ltb}
+use Rattle.definition.specs.declared.Settings.{Settings}
 use Rattle.definition.specs.Checks.{Condition, Conditions, Checked, refused, accepted, guard}
 use Rattle.definition.specs.File.{leastCells, mostCells, savedStore, negative, fileOf, contentsOf, lengthFits, lumpsFit, cellsFit, entityFits}
-use Rattle.definition.specs.Machine.{Program, functionOf, Config, countOf, limits, present, Copy, copied, successive, argumentsOf, copiesPresent, withCells, withEntities, advanced}
+use Rattle.definition.specs.Machine.{Program, functionOf, Config, countOf, present, Copy, copied, successive, argumentsOf, copiesPresent, withCells, withEntities, advanced}
 use Rattle.definition.specs.Machine.{entryConditions, entered, leaveConditions, left, returnConditions, returned}
 use Rattle.definition.specs.Load.{headerConditions, recordConditions, cellConditions, loadConditions, loaded, entitiesGiven, load, programOf}
 use Rattle.definition.specs.Calls.{Call}
@@ -26,7 +27,7 @@ use Rattle.definition.specs.RecordLaws.{length-globals}
 use Rattle.definition.specs.LoadLaws.{load-rows}
 use Rattle.definition.specs.StatementLaws.{Keeps, keeps-all}
 use Rattle.definition.specs.Invariant.{Preserves, Inductive, always}
-use Rattle.laws.specs.Sound.{StackConsistent, Consistent, advanced-consistent, entered-consistent, left-consistent, returned-consistent, loaded-consistent}
+use Rattle.laws.specs.Sound.{StackConsistent, saved-bound, Consistent, advanced-consistent, entered-consistent, left-consistent, returned-consistent, loaded-consistent}
 
 -- the saved store after a small step: an entry writes the range that it saves, and nothing else writes
 abbrev pub SavedBy : List ℕ → Kind → Config → Config → Type 0
@@ -83,12 +84,12 @@ module _ (file lent : List ℕ) where
   )
 
   entered-touches : (c : Config) (l : Log) (f : ℕ) (back : ℤ) → SinceLoad file lent c → All (entryConditions P f c) → Preserved (entry f back) c l (entered P f back c)
-  unfolding entryConditions entered limits
+  unfolding entryConditions entered
   entered-touches c l f back k h =
       let d = functionOf P f in
       let s = c .state in
-      let fits : s .saved + d .locals ≤ savedStore = leb-true _ _ (and-right (not (negative (d .locals))) (leb (s .saved + d .locals) savedStore) (h .1 .1 .0)) in
-      let room : s .saved + d .locals ≤ length (c .saved) = omega (arith, k .consistent .long) in
+      let fits : s .saved + d .locals ≤ s .settings .saved = leb-true _ _ (and-right (not (negative (d .locals))) (leb (s .saved + d .locals) (s .settings .saved)) (h .1 .1 .0)) in
+      let room : s .saved + d .locals ≤ length (c .saved) = omega (arith, k .consistent .long, saved-bound P s (k .consistent .stack)) in
       let there : Present (d .start) (d .locals) (length (c .cells)) =
       present-more _ _ (countOf c) _ (k .consistent .enough) (present-true (d .start) (d .locals) (countOf c) (h .1 .1 .1 .0))
       in
@@ -113,7 +114,7 @@ module _ (file lent : List ℕ) where
       let fewer : d .locals ≤ s .saved = leb-true (d .locals) (s .saved) (h .1 .0) in
       let there : Present (d .start) (d .locals) count = present-more _ _ (countOf c) _ (omega (arith, count-is c k)) (present-true (d .start) (d .locals) (countOf c) (h .1 .1 .0)) in
       let from : List ℕ = drop (s .saved - d .locals) (c .saved) in
-      let source : d .locals ≤ length from = omega (arith, fewer, k .stack .saved-most, k .long, length-drop (s .saved - d .locals) (c .saved)) in
+      let source : d .locals ≤ length from = omega (arith, fewer, k .stack .saved-most, saved-bound P s (k .stack), k .long, length-drop (s .saved - d .locals) (c .saved)) in
       let all : count ≤ length cells = omega (arith, enough c k, e) in
       record {
         same-length = length-pasted cells (d .start) from (d .locals) (present-more _ _ count _ all there) source;
@@ -133,7 +134,7 @@ module _ (file lent : List ℕ) where
       let from : List ℕ = drop (s .saved - d .locals) (c .saved) in
       pasted-only (c .cells) (d .start) from (d .locals)
       (present-more _ _ (countOf c) _ (k .enough) (present-true (d .start) (d .locals) (countOf c) (h .1 .1 .0)))
-      (omega (arith, fewer, k .stack .saved-most, k .long, length-drop (s .saved - d .locals) (c .saved)))
+      (omega (arith, fewer, k .stack .saved-most, saved-bound P s (k .stack), k .long, length-drop (s .saved - d .locals) (c .saved)))
 
   least : (c : Config) → Consistent file c → leastCells ≤ count
   least c k =
@@ -214,14 +215,14 @@ returned-only P a c =
     }
 
 -- a load fills the lent cells from 0 and leaves those past the file's count
-loaded-keeps : (file : List ℕ) (n : ℤ) (cells saved entities : List ℕ) → WhenAccepted (λ (c : Config). Keeps (fileOf file .globals .count) cells (c .cells)) (load file n cells saved entities)
+loaded-keeps : (s : Settings) (file : List ℕ) (n : ℤ) (cells saved entities : List ℕ) → WhenAccepted (λ (c : Config). Keeps (fileOf file .globals .count) cells (c .cells)) (load s file n cells saved entities)
 unfolding load loaded cellConditions
-loaded-keeps file n cells saved entities =
+loaded-keeps s file n cells saved entities =
     guarded (λ (c : Config). Keeps (fileOf file .globals .count) cells (c .cells)) _ _ λ h.
     let r = fileOf file in
     let count = r .globals .count in
     let k = contentsOf file in
-    let rows = load-rows leastCells file (entitiesGiven n) (length cells) (length saved) (length entities) h in
+    let rows = load-rows leastCells (s .«check_number») file (entitiesGiven n) (length cells) (length saved) (length entities) (h .1) in
     let lent : count ≤ length cells = leb-true count (length cells) (and-left (leb count (length cells)) (leb savedStore (length saved)) (rows .cells .1 .1 .0)) in
     record {
       same-length = omega (arith, lent, length-append (k .globals) (drop count cells), length-globals file, length-drop count cells);
@@ -234,10 +235,10 @@ since-load file cells (refused n) s k = tt
 since-load file cells (accepted c) s k = record { consistent = s; kept = k }
 
 -- of the cells lent to the load: their number, and those from the file's count on, stay
-pub untouched : (file : List ℕ) (n : ℤ) (cells saved entities : List ℕ) (c : Config) → load file n cells saved entities ≡ accepted c → (calls : List Call) → AllReady file calls
+pub untouched : (s : Settings) (file : List ℕ) (n : ℤ) (cells saved entities : List ℕ) (c : Config) → load s file n cells saved entities ≡ accepted c → (calls : List Call) → AllReady file calls
     → Always file (Touches file) (λ c′ l. Keeps (fileOf file .globals .count) cells (c′ .cells)) c [] calls
-untouched file n cells saved entities c accepts calls ready =
+untouched s file n cells saved entities c accepts calls ready =
     always file (λ c′ l. SinceLoad file cells c′) (Touches file) (touches-inductive file cells) (λ c′ l. Keeps (fileOf file .globals .count) cells (c′ .cells))
     (λ c′ l k. k .kept)
     c [] calls ready
-    (subst (WhenAccepted (SinceLoad file cells)) accepts (since-load file cells (load file n cells saved entities) (loaded-consistent file n cells saved entities) (loaded-keeps file n cells saved entities)))
+    (subst (WhenAccepted (SinceLoad file cells)) accepts (since-load file cells (load s file n cells saved entities) (loaded-consistent s file n cells saved entities) (loaded-keeps s file n cells saved entities)))

@@ -9,14 +9,16 @@ use borrow.Author.Tests.{le-leb, lt-ltb}
 use lib.IntN.{ℤ, pos, _+ℤ_}
 use lib.ListN.{length, getD}
 use Rattle.definition.specs.declared.FunctionDef.{FunctionDef}
+use Rattle.definition.specs.declared.Settings.{Settings}
 use Rattle.definition.specs.declared.RunAnswer.the-variants.{Ended}
 use Rattle.definition.specs.Checks.{accepted}
-use Rattle.definition.specs.File.{Contents, fileOf, contentsOf}
+use Rattle.definition.specs.File.{checkNumber, Contents, fileOf, contentsOf}
 use Rattle.definition.specs.Statements.{Entities, next, returns, doesAt}
-use Rattle.definition.specs.Machine.{Program, Config, entitiesOf, countOf, limits, present, copiesPresent, arguments, entryConditions, entered, leaveConditions, left, returned, advanced, completed, step, Ran, oneMore, runFor}
+use Rattle.definition.specs.Machine.{Program, Config, entitiesOf, countOf, present, copiesPresent, arguments, entryConditions, entered, leaveConditions, left, returned, advanced, completed, step, Ran, oneMore, runFor}
 use Rattle.definition.specs.Load.{programWith, programOf, loaded, load}
 use Rattle.definition.specs.Operations.{sound, hostEnter, runConditions, run}
 use Rattle.definition.specs.Written.{layout}
+use Rattle.definition.specs.LoadLaws.{InRange}
 use Rattle.definition.specs.CheckLaws.{All, WhenAccepted}
 use Rattle.laws.specs.Entities.{Suffice}
 use Rattle.laws.specs.Exactly.{entry-exactly, run-exactly, step-exactly}
@@ -98,25 +100,26 @@ module _ (seed n : ℕ) where
       rw (more, run-goes-on P (suc (m + extra)) 0 c (next-one i h c r) (completes i h c r) (rw (r .depth) refl))
       (record { answer = rest .answer; statements = omega (arith, rest .statements) })
 
-  module _ (few : n ≤ 1000) (number : ℕ) (cells saved entities : List ℕ) (lent : Lent number cells saved entities) where
+  -- R-11: "under check number 5927 and a run limit above n", whatever the other settings are
+  module _ (s : Settings) (range : InRange s) (five : s .«check_number» ≡ checkNumber) (few : n ≤ 1000) (number : ℕ) (cells saved entities : List ℕ) (lent : Lent number cells saved entities) where
     abbrev start : Config
-    start = loaded file number cells saved entities
+    start = loaded s file number cells saved entities
 
     abbrev inside : Config
     inside = entered P 1 (pos 0) start
 
-    loads : load file (pos number) cells saved entities ≡ accepted start
-    loads = always-loads seed n few number cells saved entities lent
+    loads : load s file (pos number) cells saved entities ≡ accepted start
+    loads = always-loads seed n s range five few number cells saved entities lent
 
     consistent : Consistent file start
-    consistent = subst (WhenAccepted (Consistent file)) loads (loaded-consistent file (pos number) cells saved entities)
+    consistent = subst (WhenAccepted (Consistent file)) loads (loaded-consistent s file (pos number) cells saved entities)
 
     suffice : Suffice file start
-    suffice = load-suffices file (pos number) cells saved entities start loads
+    suffice = load-suffices s file (pos number) cells saved entities start loads
 
     can-enter : All (entryConditions P 1 start)
-    unfolding entryConditions loaded limits present copiesPresent arguments
-    can-enter = rw functions-are (refl, (refl, (refl, (refl, (refl, (refl, (refl, tt)))))))
+    unfolding entryConditions loaded present copiesPresent arguments
+    can-enter = rw (functions-are, lt-ltb 0 (s .depth) (range .depth-least), le-leb 0 (s .saved) (omega arith)) (refl, (refl, (refl, (refl, (refl, (refl, (refl, tt)))))))
 
     -- "entered directly after"
     pub enters : hostEnter P (pos 1) start ≡ accepted inside
@@ -132,9 +135,9 @@ module _ (seed n : ℕ) where
     running = record { at = ap pos (rw functions-are refl); depth = refl; function = refl; file-is = refl }
 
     -- "run to depth 0 with a permitted limit above n"
-    pub always-ends : (limit : ℕ) → n < limit → limit ≤ 99999 → EndedAfter (n + 1) (run P (pos 0) (pos limit) inside)
-    unfolding runConditions entered loaded limits programWith
+    pub always-ends : (limit : ℕ) → n < limit → limit ≤ s .limit → EndedAfter (n + 1) (run P (pos 0) (pos limit) inside)
+    unfolding runConditions entered loaded programWith
     always-ends limit above permitted =
-        let begins = run-exactly P (pos 0) (pos limit) inside .0 (sound-inside, (refl, (rw (le-leb 1 limit (omega arith), le-leb limit 99999 permitted) refl, (refl, tt)))) in
+        let begins = run-exactly P (pos 0) (pos limit) inside .0 (sound-inside, (refl, (rw (le-leb 1 limit (omega arith), le-leb limit (s .limit) permitted) refl, (refl, tt)))) in
         let enough : limit ≡ suc (n + (limit - suc n)) = omega arith in
         rw (begins, enough) (ends-after n 0 (limit - suc n) (omega arith) inside running)

@@ -8,9 +8,11 @@ use lib.IntN.{pos}
 use lib.ListN.{length}
 use Rattle.definition.specs.declared.FileRecord.{FileRecord}
 use Rattle.definition.specs.declared.Statement.{Statement}
+use Rattle.definition.specs.declared.Settings.{Settings}
 use Rattle.definition.specs.Checks.{accepted}
 use Rattle.definition.specs.File.{checkNumber, fileOf, lumpsFit, Contents, contentsOf}
 use Rattle.definition.specs.Load.{loaded, load}
+use Rattle.definition.specs.LoadLaws.{InRange}
 use Rattle.definition.specs.Written.{layout, written, image}
 use Rattle.laws.specs.Loadable.{Every, StatementIs, Loadable, loadable}
 use Rattle.writing_laws.specs.Written.{version-written, check-written, file-written, contents-written}
@@ -36,7 +38,7 @@ module _ (seed n : ℕ) where
   says = contents-written checkNumber (contentsFor seed n) (eight-for seed n)
 
   -- "the bytes are in R-6's form": written by R-6 it is the same, byte for byte
-  pub written-same : image (bytesFor seed n) ≡ bytesFor seed n
+  pub written-same : image checkNumber (bytesFor seed n) ≡ bytesFor seed n
   written-same = ap (written checkNumber) says
 
   pub recorded : fileOf (bytesFor seed n) ≡ layoutFor n
@@ -46,16 +48,18 @@ module _ (seed n : ℕ) where
   unfolding layout
   short h = omega arith
 
-  module _ (few : n ≤ 1000) (number : ℕ) (cells saved entities : List ℕ) (lent : Lent number cells saved entities) where
-    can-load : Loadable (bytesFor seed n) number (length cells) (length saved) (length entities)
+  -- R-11: "The load files of R-10 keep their promise under check number 5927"
+  module _ (s : Settings) (range : InRange s) (five : s .«check_number» ≡ checkNumber) (few : n ≤ 1000) (number : ℕ) (cells saved entities : List ℕ) (lent : Lent number cells saved entities) where
+    can-load : Loadable s (bytesFor seed n) number (length cells) (length saved) (length entities)
     unfolding layout contentsFor
     can-load =
         let size = length-file seed n in
         record {
+          settings = range;
           shortest = omega arith;
           longest = omega (arith, short few);
           version = version-written checkNumber (contentsFor seed n) (eight-for seed n);
-          check-number = check-written checkNumber (contentsFor seed n) (eight-for seed n);
+          check-number = check-written checkNumber (contentsFor seed n) (eight-for seed n) ∙ sym five;
           lumps = rw recorded (layout-fits (n + 2) 0 0 2 1 64 105 (short few));
           functions = rw (says, recorded) ((refl, omega arith, omega arith), ((refl, omega arith, omega arith), tt));
           statements = rw says (omega arith, known-drawn (drawn drawnStatement 4 n (after 36 seed)) (all-arithmetic n (after 36 seed)));
@@ -71,5 +75,5 @@ module _ (seed n : ℕ) where
           entities-enough = rw recorded (lent .entity-cells);
         }
 
-    pub always-loads : load (bytesFor seed n) (pos number) cells saved entities ≡ accepted (loaded (bytesFor seed n) number cells saved entities)
-    always-loads = loadable (bytesFor seed n) number cells saved entities can-load
+    pub always-loads : load s (bytesFor seed n) (pos number) cells saved entities ≡ accepted (loaded s (bytesFor seed n) number cells saved entities)
+    always-loads = loadable s (bytesFor seed n) number cells saved entities can-load

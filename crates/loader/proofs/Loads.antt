@@ -9,7 +9,7 @@ use lib.ListN.{length}
 use Rattle.definition.specs.declared.FileRecord.{FileRecord}
 use Rattle.definition.specs.Checks.{judge}
 use Rattle.definition.specs.File.{fileOf}
-use Rattle.definition.specs.Load.{headerConditions, cellConditions, loadConditions}
+use Rattle.definition.specs.Load.{headerConditions, cellConditions, fileConditions}
 use Rattle.definition.specs.CheckLaws.{and-left, and-right, judge-passed}
 use Rattle.definition.specs.LoadLaws.{load-rows}
 use Rattle.functions.specs.Laws.{AllFit, all-fit, entity-size}
@@ -21,12 +21,12 @@ pub record Loads (file : List ℕ) (lent : ℕ) (r : FileRecord) : Type 0 where
   pub cells-most : r .globals .count ≤ 32768
   pub size : r .entityfields < 2147483648
 
-pub loads : (least : ℕ) (file : List ℕ) (n lent store entities : ℕ) (r : FileRecord) → judge (loadConditions least file n lent store entities) ≡ 0 → r ≡ fileOf file
+pub loads : (least check : ℕ) (file : List ℕ) (n lent store entities : ℕ) (r : FileRecord) → judge (fileConditions least check file n lent store entities) ≡ 0 → r ≡ fileOf file
     → Loads file lent r
 unfolding fileOf headerConditions cellConditions
-loads least file n lent store entities r z e =
+loads least check file n lent store entities r z e =
     let f = fileOf file in
-    let rows = load-rows least file n lent store entities (judge-passed (loadConditions least file n lent store entities) z) in
+    let rows = load-rows least check file n lent store entities (judge-passed (fileConditions least check file n lent store entities) z) in
     let count = f .globals .count in
     let bytes : 60 ≤ length file = leb-true _ _ (and-left (leb 60 (length file)) (leb (length file) 1048576) (rows .header .0)) in
     let fits : count ≤ lent = leb-true _ _ (and-left (leb count lent) (leb 2048 store) (rows .cells .1 .1 .0)) in

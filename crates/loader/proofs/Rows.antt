@@ -10,7 +10,7 @@ use Rattle.definition.specs.declared.FileRecord.{FileRecord}
 use Rattle.definition.specs.Checks.{Conditions, _otherwise_, judge}
 use Rattle.definition.specs.File.{fileOf, contentsAt, contentsOf, lumpsFit}
 use Rattle.definition.specs.Machine.{entitiesFit}
-use Rattle.definition.specs.Load.{headerConditions, recordConditions, cellConditions, loadConditions}
+use Rattle.definition.specs.Load.{headerConditions, recordConditions, cellConditions, fileConditions}
 use Rattle.definition.specs.CheckLaws.{All, and-left, judge-passed}
 use Rattle.functions.specs.Laws.{AllFit, entity-size}
 use Rattle.functions.specs.Parts.{partOf}
@@ -46,10 +46,10 @@ pub record Passed (file : List ℕ) : Type 0 where
   pub header : 60 ≤ length file
   pub lumps : lumpsFit (fileOf file) ≡ true
 
-pub header-passed : (file : List ℕ) (h : ℕ) → h ≡ 0 → h ≡ judge (headerConditions file) → Passed file
+pub header-passed : (check : ℕ) (file : List ℕ) (h : ℕ) → h ≡ 0 → h ≡ judge (headerConditions check file) → Passed file
 unfolding headerConditions fileOf
-header-passed file h z e =
-    let all : All (headerConditions file) = judge-passed (headerConditions file) (sym e ∙ z) in
+header-passed check file h z e =
+    let all : All (headerConditions check file) = judge-passed (headerConditions check file) (sym e ∙ z) in
     record { header = leb-true 60 (length file) (and-left (leb 60 (length file)) (leb (length file) 1048576) (all .0)); lumps = all .1 .1 .1 .0 }
 
 -- after 11 the cells per entity are below 2^31
@@ -57,26 +57,26 @@ pub size-below : (least : ℕ) (r : FileRecord) (lent store c : ℕ) → c ≡ 0
 unfolding cellConditions
 size-below least r lent store c z e = entity-size r (judge-passed (cellConditions least r lent store) (sym e ∙ z) .1 .0) .most
 
-module _ (file : List ℕ) (least number lent store entities : ℕ) (h : ℕ) (is-header : h ≡ judge (headerConditions file)) where
-  pub header-refuses : (h ≡ 0 → ⊥) → h ≡ judge (loadConditions least file number lent store entities)
+module _ (file : List ℕ) (least check number lent store entities : ℕ) (h : ℕ) (is-header : h ≡ judge (headerConditions check file)) where
+  pub header-refuses : (h ≡ 0 → ⊥) → h ≡ judge (fileConditions least check file number lent store entities)
   header-refuses n = judge-stop _ _ h n (first-of-three _ _ _ h n is-header)
 
   module _ (z : h ≡ 0) (r : FileRecord) (is : r ≡ fileOf file) (n : ℕ) (is-records : n ≡ judge (recordConditions (r .strings .count) (contentsAt r file))) where
     as-file : n ≡ judge (recordConditions (fileOf file .strings .count) (contentsOf file))
     as-file = is-records ∙ ap (λ (x : FileRecord). judge (recordConditions (x .strings .count) (contentsAt x file))) is
 
-    pub records-refuse : (n ≡ 0 → ⊥) → n ≡ judge (loadConditions least file number lent store entities)
+    pub records-refuse : (n ≡ 0 → ⊥) → n ≡ judge (fileConditions least check file number lent store entities)
     records-refuse m = judge-stop _ _ n m (second-of-three _ _ _ h n z is-header m as-file)
 
     module _ (m : n ≡ 0) (c : ℕ) (is-cells : c ≡ judge (cellConditions least r lent store)) where
-      rows : c ≡ judge (headerConditions file ++ recordConditions (fileOf file .strings .count) (contentsOf file) ++ cellConditions least (fileOf file) lent store)
+      rows : c ≡ judge (headerConditions check file ++ recordConditions (fileOf file .strings .count) (contentsOf file) ++ cellConditions least (fileOf file) lent store)
       rows = last-of-three _ _ _ h n c z is-header m as-file (is-cells ∙ ap (λ (x : FileRecord). judge (cellConditions least x lent store)) is)
 
-      pub cells-refuse : (c ≡ 0 → ⊥) → c ≡ judge (loadConditions least file number lent store entities)
+      pub cells-refuse : (c ≡ 0 → ⊥) → c ≡ judge (fileConditions least check file number lent store entities)
       cells-refuse k = judge-stop _ _ c k rows
 
       pub entities-decide : c ≡ 0 → (b : Bool) (e : ℕ) → b ≡ entitiesFit number (r .entityfields) entities → e ≡ judge ((b otherwise 13) ∷ [])
-          → e ≡ judge (loadConditions least file number lent store entities)
+          → e ≡ judge (fileConditions least check file number lent store entities)
       entities-decide k b e fit g =
           let same : b ≡ entitiesFit number (fileOf file .entityfields) entities = fit ∙ ap (λ (x : FileRecord). entitiesFit number (x .entityfields) entities) is in
           judge-next _ _ e (sym rows ∙ k) (g ∙ ap (λ (t : Bool). judge ((t otherwise 13) ∷ [])) same)

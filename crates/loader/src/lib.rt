@@ -4,10 +4,9 @@ ghost use mathlib.Core.List.{[], _∷_, _++_};
 ghost use Prim.Native.Nat.{_/_, _≤_, _<_};
 ghost use lib.ListN.{length, drop};
 ghost use Rattle.definition.specs.Checks.{judge, _otherwise_};
-ghost use Rattle.definition.specs.Load.{headerConditions, cellConditions, loadConditions};
+ghost use Rattle.definition.specs.Load.{headerConditions, cellConditions, fileConditions};
 ghost use Rattle.functions.specs.Parts.{cellsIn};
 use definition::CELL_SIZE;
-use definition::CHECK_NUMBER;
 use definition::FileRecord;
 use definition::HEADER_LENGTH;
 use definition::LONGEST_FILE;
@@ -26,9 +25,9 @@ fn otherwise(holds: bool, number: u8) -> u8
     if holds { 0 } else { number }
 }
 
-// The row "header".
-fn header_refusal(file: &[u8]) -> u8
-    ensures { λ r. ⌜ r ≡ judge (headerConditions (now (file .entry))) ⌝ }
+// The row "header", for files of this check number.
+fn header_refusal(file: &[u8], check: usize) -> u8
+    ensures { λ r. ⌜ r ≡ judge (headerConditions check (now (file .entry))) ⌝ }
 {
     if file.len() < HEADER_LENGTH {
         return 1;
@@ -39,7 +38,7 @@ fn header_refusal(file: &[u8]) -> u8
     if reads::u32_at(file, 0) != VERSION {
         return 2;
     }
-    if reads::u32_at(file, 4) != CHECK_NUMBER {
+    if reads::u32_at(file, 4) as usize != check {
         return 3;
     }
     otherwise(header::lumps_fit(header::file_of(file)), 4)
@@ -59,19 +58,20 @@ fn cells_refusal(least: usize, r: FileRecord, lent: usize, store: usize) -> u8
     otherwise((globals.count <= lent) & (SAVED_STORE <= store), 12)
 }
 
-// The number of the first condition that a load fails, beside so many entities and so many lent cells of each store; `least` is the least number of cells
-// of a file.
-pub fn load_refusal(
+// The number of the first condition that a load of a file fails, beside so many entities and so many lent cells of each store; `least` is the least number
+// of cells of a file, `check` the check number that it must have.
+pub fn file_refusal(
     file: &[u8],
     least: usize,
+    check: usize,
     number: usize,
     lent: usize,
     store: usize,
     entities: usize,
 ) -> u8
-    ensures { λ r. ⌜ r ≡ judge (loadConditions least (now (file .entry)) number lent store entities) ⌝ }
+    ensures { λ r. ⌜ r ≡ judge (fileConditions least check (now (file .entry)) number lent store entities) ⌝ }
 {
-    let h = header_refusal(file);
+    let h = header_refusal(file, check);
     if h != 0 {
         return h;
     }

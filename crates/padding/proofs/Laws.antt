@@ -12,7 +12,7 @@ use Rattle.definition.specs.declared.WriteAnswer.{WriteAnswer}
 use Rattle.definition.specs.declared.WriteAnswer.the-variants.{Length, Refused}
 use Rattle.definition.specs.Checks.{Conditions, _otherwise_, judge, decided, guard}
 use Rattle.definition.specs.File.{checkNumber, leastToPad, mostCells, savedStore, fileOf, contentsAt, contentsOf}
-use Rattle.definition.specs.Load.{loadConditions}
+use Rattle.definition.specs.Load.{fileConditions}
 use Rattle.definition.specs.RecordLaws.{length-globals}
 use Rattle.definition.specs.Written.{written, padded, paddedFile, Image, placed, roomConditions, WriteOutcome, writeOutcome}
 use Rattle.text.specs.Output.{Output, output, atFront}
@@ -22,7 +22,7 @@ use Rattle.writer.specs.Outcomes.{outcomeOf, writing}
 use Rattle.padding.specs.Padding.{padConditions, padText}
 
 abbrev loading : List ℕ → Conditions
-loading file = loadConditions leastToPad file 0 mostCells savedStore 0
+loading file = fileConditions leastToPad checkNumber file 0 mostCells savedStore 0
 
 abbrev room : List ℕ → Conditions
 room file = (leb (length (paddedFile file)) 65536 otherwise 34) ∷ []

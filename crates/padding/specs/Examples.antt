@@ -4,14 +4,14 @@ use mathlib.Core.Path.{_≡_, refl}
 use mathlib.Core.List.{List, [], _∷_, _++_}
 use lib.ListN.{replicate}
 use Rattle.definition.specs.Checks.{judge, guard}
-use Rattle.definition.specs.File.{byteAt, u16At, u32At, fileOf, lumpsFit, records, contentsAt, builtinNumber, Contents}
+use Rattle.definition.specs.File.{byteAt, u16At, u32At, fileOf, lumpsFit, records, contentsAt, builtinNumber, settingsFit, standard, Contents}
 use Rattle.definition.specs.Load.{each, headerConditions, recordConditions, cellConditions, loaded, sameFile, recordedIn, programWith, programOf}
 use Rattle.definition.specs.Cells.{lookup, scalar, passes, signed, cellOf, cellAccess, access, readAccess}
 use Rattle.definition.specs.Statements.{opcodes, shapeOf, floatsEffect, fetchConditions, execute, doesAt}
 use Rattle.definition.specs.Operations.{frameFunctions, enteredFunctions, allPresent, localsOf, sound, statement}
 use Rattle.padding_laws.specs.Padding.{installed}
 use Rattle.definition.specs.Written.{paddedFile}
-use Rattle.definition.specs.Machine.{entitiesFit, limits, stepAs, step, Stepped, Config, completed, refusedStep, handedStep}
+use Rattle.definition.specs.Machine.{entitiesFit, stepAs, step, Stepped, Config, completed, refusedStep, handedStep}
 use Rattle.definition.specs.Written.{u16Bytes, u32Bytes, statementBytes, definitionBytes, functionBytes, bytesOf, layout, headerNumbers, written}
 use Rattle.padding.specs.Padding.{padConditions, padText}
 
@@ -38,7 +38,7 @@ unfolding judge guard padConditions padText
     each headerConditions recordConditions cellConditions loaded sameFile recordedIn programWith
     u16Bytes u32Bytes statementBytes definitionBytes functionBytes bytesOf layout headerNumbers written
     lookup scalar passes signed cellOf cellAccess access readAccess opcodes shapeOf floatsEffect fetchConditions execute doesAt
-    entitiesFit limits stepAs step frameFunctions enteredFunctions allPresent localsOf sound statement
+    entitiesFit settingsFit stepAs step frameFunctions enteredFunctions allPresent localsOf sound statement
 computing = tt
 
 refuses-35 : judge (padConditions (fileWith 35)) ≡ 10
@@ -73,7 +73,7 @@ numberOf (refusedStep n) = n
 numberOf (handedStep h) = 99
 
 abbrev started : List ℕ → ℕ → Config
-started file n = loaded file 0 (replicate n 0) (replicate 2048 0) []
+started file n = loaded standard file 0 (replicate n 0) (replicate 2048 0) []
 
 -- the law on statements isn't empty: with 36 the statement of a file of 36 cells completes; with 64 it is refused 13
 completes-36 : numberOf (statement (installed (fileWith 36)) (started (fileWith 36) 36)) ≡ 0

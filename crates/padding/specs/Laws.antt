@@ -2,16 +2,18 @@
 use Prim.Native.Nat.{ℕ, _≤_}
 use mathlib.Core.Path.{_≡_, refl, sym, ap, _∙_}
 use mathlib.Core.List.{List, [], _∷_, _++_}
+use mathlib.Core.Bool.{true}
 use native.Mathlib.Omega.{arith}
 use borrow.Author.Tests.{leb-true, le-leb}
 use lib.IntN.{ℤ}
 use lib.ListN.{length}
 use lib.Dec.{leb}
+use Rattle.definition.specs.declared.Settings.{Settings}
 use Rattle.definition.specs.Checks.{Conditions, _otherwise_, judge, guard, accepted}
 use Rattle.definition.specs.CheckLaws.{All, judge-passed, all-front, all-back}
-use Rattle.definition.specs.File.{checkNumber, leastCells, leastToPad, mostCells, savedStore, longestFile, fileOf, contentsOf, Contents}
+use Rattle.definition.specs.File.{checkNumber, leastCells, leastToPad, mostCells, savedStore, longestFile, fileOf, contentsOf, settingsFit, Contents}
 use Rattle.definition.specs.RecordLaws.{length-globals}
-use Rattle.definition.specs.Load.{cellConditions, loadConditions, loaded, entitiesGiven, load}
+use Rattle.definition.specs.Load.{cellConditions, fileConditions, loaded, entitiesGiven, load}
 use Rattle.definition.specs.Written.{written, padded, paddedFile}
 use Rattle.writing_laws.specs.Loads.{Lent}
 use Rattle.writing_laws.specs.Lumps.{padded-none}
@@ -21,7 +23,7 @@ use Rattle.padding.specs.Padding.{longest, padConditions, padText}
 
 module _ (file : List ℕ) where
   abbrev loads : Conditions
-  loads = loadConditions leastToPad file 0 mostCells savedStore 0
+  loads = fileConditions leastToPad checkNumber file 0 mostCells savedStore 0
 
   abbrev room : Conditions
   room = (leb (length (paddedFile file)) longest otherwise 34) ∷ []
@@ -31,19 +33,19 @@ module _ (file : List ℕ) where
   unfolding padText guard
   pad-writes h = rw h refl
 
-  -- and it loads, given what 12 and 13 ask
-  pub pad-loads : judge (padConditions file) ≡ 0 → (number : ℤ) (cells saved entities : List ℕ) → Lent (paddedFile file) number cells saved entities
-      → load (paddedFile file) number cells saved entities ≡ accepted (loaded (paddedFile file) (entitiesGiven number) cells saved entities)
+  -- and it loads, given what 12 and 13 ask, under settings in range and 01's check number
+  pub pad-loads : judge (padConditions file) ≡ 0 → (s : Settings) → settingsFit s ≡ true → s .«check_number» ≡ checkNumber → (number : ℤ) (cells saved entities : List ℕ) → Lent (paddedFile file) number cells saved entities
+      → load s (paddedFile file) number cells saved entities ≡ accepted (loaded s (paddedFile file) (entitiesGiven number) cells saved entities)
   unfolding padConditions
-  pad-loads h number cells saved entities lent =
+  pad-loads h s fit five number cells saved entities lent =
       let all = judge-passed (padConditions file) h in
       let admitted : Admitted file = record { number = 0; lent = mostCells; store = savedStore; entities = 0; loads = all-front loads room (all .1) } in
       let short : length (paddedFile file) ≤ longest = leb-true _ _ (all-back loads room (all .1) .0) in
-      padded-loads file number cells saved entities admitted (omega arith) lent
+      padded-loads file s fit five number cells saved entities admitted (omega arith) lent
 
   -- "It reads and refuses as the show program does": a file of 64 cells or more by the conditions of a load, and then 34
   pub as-a-load : leastCells ≤ fileOf file .globals .count
-      → padConditions file ≡ (leb (length file) longest otherwise 1) ∷ loadConditions leastCells file 0 mostCells savedStore 0 ++ room
+      → padConditions file ≡ (leb (length file) longest otherwise 1) ∷ fileConditions leastCells checkNumber file 0 mostCells savedStore 0 ++ room
   unfolding padConditions cellConditions
   as-a-load h = rw (le-leb leastCells (fileOf file .globals .count) h, le-leb leastToPad (fileOf file .globals .count) (omega arith)) refl
 

@@ -4,8 +4,8 @@ use mathlib.Core.List.{List, [], _∷_, _++_}
 use lib.ListN.{length}
 use lib.Dec.{leb}
 use Rattle.definition.specs.Checks.{Conditions, _otherwise_, Checked, refused, accepted, guard}
-use Rattle.definition.specs.File.{leastToPad, mostCells, savedStore}
-use Rattle.definition.specs.Load.{loadConditions}
+use Rattle.definition.specs.File.{checkNumber, leastToPad, mostCells, savedStore}
+use Rattle.definition.specs.Load.{fileConditions}
 use Rattle.definition.specs.Written.{paddedFile}
 use Rattle.text.specs.Text.{refusedLine}
 
@@ -13,12 +13,12 @@ use Rattle.text.specs.Text.{refusedLine}
 abbrev pub longest : ℕ
 longest = 65536
 
--- "It reads and refuses as the show program does": "a longer input prints `refused,1`", then a load's conditions, with 36 for the least number of cells, as
--- many cells lent as a file may have, and "entities none"; "over 65,536 bytes to write is 34"
+-- "It reads and refuses as the show program does": "a longer input prints `refused,1`", then a load's conditions of a file, with 36 for the least number of
+-- cells, 01's check number, as many cells lent as a file may have, and "entities none"; "over 65,536 bytes to write is 34"
 unfoldable pub padConditions : List ℕ → Conditions
 padConditions file =
     (leb (length file) longest otherwise 1)
-    ∷ loadConditions leastToPad file 0 mostCells savedStore 0
+    ∷ fileConditions leastToPad checkNumber file 0 mostCells savedStore 0
     ++ ((leb (length (paddedFile file)) longest otherwise 34) ∷ [])
 
 -- the file's bytes and nothing else; 01: "A refused load prints the first two fields only"

@@ -34,7 +34,15 @@ pub fn pad(file: &[u8], out: &mut [u8]) -> usize
     if LONGEST < file.len() {
         return text::refused_line(out, 1);
     }
-    let refusal = loader::load_refusal(file, LEAST_TO_PAD, 0, MOST_CELLS, SAVED_STORE, 0);
+    let refusal = loader::file_refusal(
+        file,
+        LEAST_TO_PAD,
+        CHECK_NUMBER as usize,
+        0,
+        MOST_CELLS,
+        SAVED_STORE,
+        0,
+    );
     if refusal != 0 {
         return text::refused_line(out, refusal);
     }

@@ -10,7 +10,7 @@ use lib.ListN.{length, take, drop}
 use lib.Dec.{leb}
 use Rattle.definition.specs.declared.FileRecord.{FileRecord}
 use Rattle.definition.specs.declared.Handover.{Handover}
-use Rattle.definition.specs.File.{headerLength, longestFile, leastCells, leastToPad, fileOf, contentsOf}
+use Rattle.definition.specs.File.{checkNumber, headerLength, longestFile, leastCells, leastToPad, fileOf, contentsOf}
 use Rattle.definition.specs.CheckLaws.{and-left, and-right}
 use Rattle.definition.specs.Statements.{doesAt}
 use Rattle.definition.specs.Machine.{Program, Config, entitiesOf, countOf, Stepped, completed, handedStep, step}
@@ -80,7 +80,7 @@ module _ (file : List ℕ) (short : length (paddedFile file) ≤ longestFile) wh
   unfolding headerConditions
   padded-recorded r₀ lent lent′ k h h′ =
       let own : r₀ ≡ fileOf file = functions.same-file r₀ (fileOf file) (k .same) in
-      let header = header-loads (paddedContents file) (padded-eight file) short in
+      let header = header-loads checkNumber (paddedContents file) (padded-eight file) short in
       let lengths : (leb headerLength (r .length) && leb (r .length) longestFile) ≡ true = header .0 in
       let most : fileOf file .globals .count ≤ 32768 = rw own at (k .most) in
       let per-entity : 105 ≤ fileOf file .entityfields = rw own at (k .per-entity) in
@@ -117,6 +117,7 @@ module _ (file : List ℕ) (short : length (paddedFile file) ≤ longestFile) wh
           store = thirteen .store;
           entities = thirteen .entities;
           entity-cells = rw (padded-entities file, ← own-file) (thirteen .entity-cells);
+          settings = thirteen .settings;
           depth = thirteen .depth;
           present = present-alike P Q functions-alike (enteredFunctions (c .state)) ∙ thirteen .present;
           most = thirteen .most;
@@ -136,7 +137,7 @@ module _ (file : List ℕ) (short : length (paddedFile file) ≤ longestFile) wh
           lent = omega (arith, recorded-before .enough, count-own);
           lent′ = omega (arith, length-globals file);
           store = thirteen .store;
-          saved = thirteen .most;
+          saved = omega (arith, thirteen .most, thirteen .settings .saved-most);
         }
 
     step-padded : Agree (length (contentsOf file .globals)) cells′ (c .cells) cells′

@@ -15,7 +15,7 @@ use Rattle.definition.specs.Checks.{Conditions, judge, decided, guard}
 use Rattle.definition.specs.CheckLaws.{All, judge-passed, judge-all, and-left, and-right, and-both}
 use Rattle.definition.specs.File.{savedStore}
 use Rattle.definition.specs.Statements.{Does, next, puts, calls, returns, refuses, handsOver}
-use Rattle.definition.specs.Machine.{Program, functionOf, State, Config, countOf, limits, present, Copy, copied, successive, argumentsOf, copiesPresent}
+use Rattle.definition.specs.Machine.{Program, functionOf, State, Config, countOf, present, Copy, copied, successive, argumentsOf, copiesPresent}
 use Rattle.definition.specs.Machine.{entryConditions, entered, leaveConditions, left, returnConditions, returned, Stepped, completed, refusedStep, handedStep, asStep, stepAs}
 use Rattle.definition.specs.Parts.{Present, present-true, length-copied}
 use Rattle.padding_laws.specs.Cells.{Agree, same-present, agree-copied, agree-paste}
@@ -26,6 +26,7 @@ abbrev pub recordedAs : FileRecord → State → State
 recordedAs r s =
     record {
       file = r;
+      settings = s .settings;
       pc = s .pc;
       function = s .function;
       depth = s .depth;
@@ -109,7 +110,7 @@ module _ (P Q : Program) (alike : Q .functions ≡ P .functions) (n : ℕ) (r : 
   -- ---- entry
 
   entry-still : (f : ℕ) → All (entryConditions P f c) → All (entryConditions Q f (withFile r cells′ c))
-  unfolding entryConditions limits
+  unfolding entryConditions
   entry-still f (twenty, (depth, (saved, (locals, (count, (arguments, (builtin, end))))))) =
       let d : FunctionDef = functionOf P f in
       let copies : copiesPresent n (argumentsOf d) ≡ true = rw (fits .own) at arguments in

@@ -13,7 +13,7 @@ use Rattle.definition.specs.Checks.{judge}
 use Rattle.definition.specs.CheckLaws.{All, judge-passed}
 use Rattle.definition.specs.PlaceLaws.{below-place, below-natural, place-zero}
 use Rattle.definition.specs.Statements.{placeOf}
-use Rattle.definition.specs.Operations.{natural, below, pairConditions, settingConditions, pairsWritten}
+use Rattle.definition.specs.Operations.{natural, below, pairConditions, pairsConditions, pairsWritten}
 use Rattle.pairs.specs.Together.{unlessRefused}
 
 -- ---- what is left of the numbers
@@ -64,19 +64,19 @@ module _ (numbers : List ℤ) (at count : ℕ) (h : at + 1 < length numbers) whe
 
 module _ (numbers : List ℤ) (count : ℕ) where
   abbrev whole : ℕ
-  whole = judge (settingConditions count numbers)
+  whole = judge (pairsConditions count numbers)
 
   pub unpaired : (length numbers % 2 ≡ 0 → ⊥) → 15 ≡ whole
-  unfolding judge settingConditions
+  unfolding judge pairsConditions
   unpaired n = rw (ne-eqb (length numbers % 2) 0 n)
 
   module _ (even : length numbers % 2 ≡ 0) where
     pub too-many : 128 < length numbers → 15 ≡ whole
-    unfolding judge settingConditions
+    unfolding judge pairsConditions
     too-many k = rw (even, lt-leb (length numbers) 128 k)
 
     pub as-pairs : length numbers ≤ 128 → judge (pairConditions count numbers) ≡ whole
-    unfolding judge settingConditions
+    unfolding judge pairsConditions
     as-pairs k = rw (even, le-leb (length numbers) 128 k)
 
 -- ---- the writing of a pair
@@ -114,9 +114,9 @@ more-cells count n (a ∷ v ∷ numbers) h good = (below-more a (good .0), (good
 
 -- ---- all or none
 
-pub all-good : (count n : ℕ) (numbers : List ℤ) → count ≤ n → judge (settingConditions count numbers) ≡ 0 → All (pairConditions n numbers)
-unfolding settingConditions
-all-good count n numbers h z = more-cells count n numbers h (judge-passed (settingConditions count numbers) z .1 .1)
+pub all-good : (count n : ℕ) (numbers : List ℤ) → count ≤ n → judge (pairsConditions count numbers) ≡ 0 → All (pairConditions n numbers)
+unfolding pairsConditions
+all-good count n numbers h z = more-cells count n numbers h (judge-passed (pairsConditions count numbers) z .1 .1)
 
 pub none-written : (refusal : ℕ) (written cells : List ℕ) → (refusal ≡ 0 → ⊥) → cells ≡ unlessRefused refusal written cells
 none-written zero written cells n = absurd (n refl)

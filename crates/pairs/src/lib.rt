@@ -5,7 +5,7 @@ ghost use Prim.Native.Nat.{_≤_};
 ghost use lib.ListN.{length};
 ghost use Rattle.definition.specs.Checks.{judge};
 ghost use Rattle.definition.specs.CheckLaws.{All};
-ghost use Rattle.definition.specs.Operations.{pairConditions, settingConditions, pairsWritten};
+ghost use Rattle.definition.specs.Operations.{pairConditions, pairsConditions, pairsWritten};
 ghost use Rattle.pairs.specs.Together.{unlessRefused};
 use definition::MOST_PAIRS;
 use functions::fetch;
@@ -32,7 +32,7 @@ fn pairs_refusal(numbers: &[i64], count: usize) -> u8
 
 // 0, or the number of the refusal.
 fn numbers_refusal(numbers: &[i64], count: usize) -> u8
-    ensures { λ r. ⌜ r ≡ judge (settingConditions count (now (numbers .entry))) ⌝ }
+    ensures { λ r. ⌜ r ≡ judge (pairsConditions count (now (numbers .entry))) ⌝ }
 {
     if numbers.len() % 2 != 0 {
         return 15;
@@ -58,7 +58,7 @@ fn write_pairs(numbers: &[i64], cells: &mut [u32])
 // Writes all the pairs, into the first `count` cells, or none: 0, or the number of the refusal.
 pub fn write_all(numbers: &[i64], count: usize, cells: &mut [u32]) -> u8
     requires { ⌜ count ≤ length (now cells) ⌝ }
-    ensures { λ r. ⌜ r ≡ judge (settingConditions count (now (numbers .entry))) ⌝ }
+    ensures { λ r. ⌜ r ≡ judge (pairsConditions count (now (numbers .entry))) ⌝ }
     ensures { λ r. ⌜ now (cells .exit) ≡ unlessRefused r (pairsWritten (now (numbers .entry)) (now (cells .entry))) (now (cells .entry)) ⌝ }
 {
     let refusal = numbers_refusal(numbers, count);

@@ -12,25 +12,25 @@ use lib.Dec.{leb, ltb}
 use Rattle.definition.specs.declared.FunctionDef.{FunctionDef}
 use Rattle.definition.specs.Checks.{Conditions, _otherwise_, judge}
 use Rattle.definition.specs.File.{negative, isBuiltin}
-use Rattle.definition.specs.Machine.{Program, functionOf, State, Config, limits, present, copied, argumentsOf, copiesPresent, entryConditions, entered, enter}
+use Rattle.definition.specs.Machine.{Program, functionOf, State, Config, present, copied, argumentsOf, copiesPresent, entryConditions, entered, enter}
 use Rattle.definition.specs.CheckLaws.{All, judge-passed, and-right}
 use Rattle.progs.specs.declared.ExecutionContext.{ExecutionContext}
 use Rattle.progs.specs.declared.Answered.{Answered}
 use Rattle.progs.specs.Contexts.{stateOf, config, bare, outcomeOf, after, refusing, accepting}
 use Rattle.progs.proofs.OutcomeLaws.{refused-outcome, accepted-outcome}
 
--- a negative number is over 2,048
-over : (s l : ℕ) → 2048 < s + l → (not (negative l) && leb (s + l) 2048) ≡ false
-over s l h = rw (lt-leb (s + l) 2048 h, and-false)
+-- a negative number is over any greatest saved count
+over : (most s l : ℕ) → most < s + l → (not (negative l) && leb (s + l) most) ≡ false
+over most s l h = rw (lt-leb (s + l) most h, and-false)
 
-within : (s l : ℕ) → s + l ≤ 2048 → (not (negative l) && leb (s + l) 2048) ≡ true
-within s l h = rw (lt-leb 2147483648 l (omega arith), le-leb (s + l) 2048 h)
+within : (most s l : ℕ) → most ≤ 2048 → s + l ≤ most → (not (negative l) && leb (s + l) most) ≡ true
+within most s l m h = rw (lt-leb 2147483648 l (omega arith), le-leb (s + l) most h)
 
 module _ (x : ExecutionContext) (d : FunctionDef) where
   -- the tests of numbers, before those of cells
   pub record Room : Type 0 where
-    pub frame-free : x .depth < 31
-    pub locals-fit : x .saved + d .locals ≤ 2048
+    pub frame-free : x .depth < x .settings .depth
+    pub locals-fit : x .saved + d .locals ≤ x .settings .saved
 
   -- what an accepted entry knows
   pub record Accepted : Type 0 where
@@ -43,16 +43,16 @@ module _ (x : ExecutionContext) (d : FunctionDef) where
     abbrev number : ℕ
     number = judge (entryConditions P f (bare x))
 
-    pub entry-22 : 31 ≤ x .depth → 22 ≡ number
-    unfolding entryConditions judge limits
-    entry-22 h = rw (lt-ltb f (length (P .functions)) there, le-ltb (x .depth) 31 h)
+    pub entry-22 : x .settings .depth ≤ x .depth → 22 ≡ number
+    unfolding entryConditions judge
+    entry-22 h = rw (lt-ltb f (length (P .functions)) there, le-ltb (x .depth) (x .settings .depth) h)
 
-    pub entry-23 : x .depth < 31 → 2048 < x .saved + d .locals → 23 ≡ number
-    unfolding entryConditions judge limits
-    entry-23 h k = rw (lt-ltb f (length (P .functions)) there, lt-ltb (x .depth) 31 h, ← e, over (x .saved) (d .locals) k)
+    pub entry-23 : x .depth < x .settings .depth → x .settings .saved < x .saved + d .locals → 23 ≡ number
+    unfolding entryConditions judge
+    entry-23 h k = rw (lt-ltb f (length (P .functions)) there, lt-ltb (x .depth) (x .settings .depth) h, ← e, over (x .settings .saved) (x .saved) (d .locals) k)
 
     -- the tests of cells, below a count that is the file's
-    module _ (count : ℕ) (n : count ≡ x .file .globals .count) (h : Room) where
+    module _ (count : ℕ) (n : count ≡ x .file .globals .count) (most : x .settings .saved ≤ 2048) (h : Room) where
       past : number
           ≡ judge
           ((present (d .start) (d .locals) count otherwise 15)
@@ -60,8 +60,8 @@ module _ (x : ExecutionContext) (d : FunctionDef) where
           ∷ (copiesPresent count (argumentsOf d) otherwise 15)
           ∷ (not (isBuiltin d) otherwise 21)
           ∷ [])
-      unfolding entryConditions judge limits
-      past = rw (lt-ltb f (length (P .functions)) there, lt-ltb (x .depth) 31 (h .frame-free), ← e, within (x .saved) (d .locals) (h .locals-fit), n)
+      unfolding entryConditions judge
+      past = rw (lt-ltb f (length (P .functions)) there, lt-ltb (x .depth) (x .settings .depth) (h .frame-free), ← e, within (x .settings .saved) (x .saved) (d .locals) most (h .locals-fit), n)
 
       pub entry-15 : present (d .start) (d .locals) count ≡ false → 15 ≡ number
       unfolding judge
@@ -87,14 +87,14 @@ module _ (x : ExecutionContext) (d : FunctionDef) where
             entry-0 u = rw (past, a, le-leb (d .argc) 8 b, k, u)
 
     pub accepted : number ≡ 0 → Accepted
-    unfolding entryConditions limits
+    unfolding entryConditions
     accepted z =
         let h = judge-passed (entryConditions P f (bare x)) z in
         record {
           room =
               record {
                 frame-free = ltb-true _ _ (h .1 .0);
-                locals-fit = rw e (leb-true _ _ (and-right (not (negative (functionOf P f .locals))) (leb (x .saved + functionOf P f .locals) 2048) (h .1 .1 .0)));
+                locals-fit = rw e (leb-true _ _ (and-right (not (negative (functionOf P f .locals))) (leb (x .saved + functionOf P f .locals) (x .settings .saved)) (h .1 .1 .0)));
               };
           locals-there = rw e (h .1 .1 .1 .0);
           few = rw e (leb-true _ _ (h .1 .1 .1 .1 .0));

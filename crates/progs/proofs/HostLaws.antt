@@ -13,7 +13,7 @@ use Rattle.definition.specs.declared.ReadAnswer.the-variants as read
 use Rattle.definition.specs.Checks.{judge, guard}
 use Rattle.definition.specs.Statements.{placeOf}
 use Rattle.definition.specs.Machine.{Program, Config, entryConditions, enter}
-use Rattle.definition.specs.Operations.{sound, natural, below, hostEnter, leftTimes, leavingsConditions, abandonConditions, abandon, rawConditions, rawRead, rawWrite, settingConditions, pairsWritten, writeAllConditions, writeAll}
+use Rattle.definition.specs.Operations.{sound, natural, below, hostEnter, leftTimes, leavingsConditions, abandonConditions, abandon, rawConditions, rawRead, rawWrite, pairsConditions, pairsWritten, writeAllConditions, writeAll}
 use Rattle.definition.specs.Load.{programOf}
 use Rattle.definition.specs.Answers.{Outcome, outcome, readAnswer}
 use Rattle.definition.specs.CheckLaws.{judge-passed}
@@ -87,7 +87,7 @@ module _ (P : Program) (x : ExecutionContext) (cells saved entities : List ℕ) 
     unfolding writeAll judge
     write-all-13 r s h = refused-outcome x cells saved entities _ _ 13 r (rw s) (λ z. absurd (omega arith)) h
 
-    module _ (count refusal : ℕ) (n : count ≡ x .file .globals .count) (s : sound P here ≡ true) (e : refusal ≡ judge (settingConditions count numbers)) (cells′ : List ℕ)
+    module _ (count refusal : ℕ) (n : count ≡ x .file .globals .count) (s : sound P here ≡ true) (e : refusal ≡ judge (pairsConditions count numbers)) (cells′ : List ℕ)
         (w : cells′ ≡ unlessRefused refusal (pairsWritten numbers cells) cells) where
       own-number : refusal ≡ judge (writeAllConditions P numbers here)
       unfolding judge

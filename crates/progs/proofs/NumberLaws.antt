@@ -15,8 +15,9 @@ use Rattle.definition.specs.File.{negative, noFunction, readFunction}
 use Rattle.definition.specs.Statements.{refuses}
 use Rattle.definition.specs.RecordLaws.{length-records}
 use Rattle.functions.specs.Parts.{functionsIn}
-use Rattle.definition.specs.Machine.{Fetch, Program, functionOf, Config, limits, copied, argumentsOf, entryConditions, entered, enter}
+use Rattle.definition.specs.Machine.{Fetch, Program, functionOf, Config, copied, argumentsOf, entryConditions, entered, enter}
 use Rattle.definition.specs.CheckLaws.{judge-passed, and-right}
+use Rattle.definition.specs.LoadLaws.{InRange}
 use Rattle.progs.specs.declared.ExecutionContext.{ExecutionContext}
 use Rattle.progs.specs.declared.Answered.{Answered}
 use Rattle.progs.specs.declared.calls.Entry.{Entry}
@@ -42,8 +43,8 @@ module _ (P : Program) (f : ℕ) (x : ExecutionContext) (cells saved : List ℕ)
   entering-done d first cells′ saved′ z e p a b = rw (z, p, a, b, e)
 
   -- only the depth, the saved count and the file's count are looked at
-  pub by-numbers : entering P f (numbered (x .depth) (x .saved) (x .file .globals .count)) cells saved ≡ entering P f x cells saved
-  unfolding entering entryConditions limits
+  pub by-numbers : entering P f (numbered (x .settings) (x .depth) (x .saved) (x .file .globals .count)) cells saved ≡ entering P f x cells saved
+  unfolding entering entryConditions
   by-numbers = refl
 
   module _ (r : Entry) (cells′ saved′ : List ℕ) (e : entryOf r cells′ saved′ ≡ entering P f x cells saved) where
@@ -84,12 +85,13 @@ module _ (P : Program) (f : ℕ) (x : ExecutionContext) (cells saved : List ℕ)
       unfolding entering
       gives = e ∙ ap (λ (n : ℕ). enteringAs n (functionOf P f) (x .saved) cells saved) clear
 
-      pub entry-room : (x .depth < 31) × (x .saved + r .locals ≤ 2048)
-      unfolding entryConditions limits
-      entry-room =
+      pub entry-room : InRange (x .settings) → (x .depth < 31) × (x .saved + r .locals ≤ 2048)
+      unfolding entryConditions
+      entry-room range =
           let h = judge-passed (entryConditions P f (bare x)) clear in
           let l : r .locals ≡ functionOf P f .locals = ap (λ (z : Entering). z .entry .locals) gives in
-          (ltb-true _ _ (h .1 .0), rw l (leb-true _ _ (and-right (not (negative (functionOf P f .locals))) (leb (x .saved + functionOf P f .locals) 2048) (h .1 .1 .0))))
+          let fits = leb-true (x .saved + functionOf P f .locals) (x .settings .saved) (and-right (not (negative (functionOf P f .locals))) (leb (x .saved + functionOf P f .locals) (x .settings .saved)) (h .1 .1 .0)) in
+          (omega (arith, ltb-true (x .depth) (x .settings .depth) (h .1 .0), range .depth-most), rw l (omega (arith, fits, range .saved-most)))
 
       pub entered-config : (entities : List ℕ) (back : ℤ) → config (enteredContext x f (r .first) (r .locals) back) cells′ saved′ entities ≡ entered P f back (config x cells saved entities)
       unfolding entered
@@ -103,8 +105,8 @@ module _ (P : Program) (f : ℕ) (x : ExecutionContext) (cells saved : List ℕ)
 
 -- the file's count of cells, by another name
 pub by-count : (P : Program) (f : ℕ) (x : ExecutionContext) (cells saved : List ℕ) (count : ℕ) → count ≡ x .file .globals .count
-    → entering P f (numbered (x .depth) (x .saved) count) cells saved ≡ entering P f x cells saved
-by-count P f x cells saved count e = ap (λ (n : ℕ). entering P f (numbered (x .depth) (x .saved) n) cells saved) e ∙ by-numbers P f x cells saved
+    → entering P f (numbered (x .settings) (x .depth) (x .saved) count) cells saved ≡ entering P f x cells saved
+by-count P f x cells saved count e = ap (λ (n : ℕ). entering P f (numbered (x .settings) (x .depth) (x .saved) n) cells saved) e ∙ by-numbers P f x cells saved
 
 -- ---- a table of functions, in any program that has it
 

@@ -7,7 +7,7 @@ use native.Mathlib.Omega.{arith}
 use lib.ListN.{length, drop}
 use lib.Seq.{paste}
 use Rattle.definition.specs.Checks.{judge}
-use Rattle.definition.specs.Machine.{Program, functionOf, Config, limits, present, copied, successive, leaveConditions, left, returnConditions, returned}
+use Rattle.definition.specs.Machine.{Program, functionOf, Config, present, copied, successive, leaveConditions, left, returnConditions, returned}
 use Rattle.definition.specs.CheckLaws.{judge-passed, judge-all}
 use Rattle.progs.specs.declared.ExecutionContext.{ExecutionContext}
 use Rattle.progs.specs.declared.Answered.{Answered}

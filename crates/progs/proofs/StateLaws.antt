@@ -14,11 +14,12 @@ use Rattle.definition.specs.declared.FileRecord.{FileRecord}
 use Rattle.definition.specs.declared.StackFrame.{StackFrame}
 use Rattle.definition.specs.declared.FunctionDef.{FunctionDef}
 use Rattle.definition.specs.Checks.{judge}
-use Rattle.definition.specs.File.{negative, leastCells}
-use Rattle.definition.specs.Machine.{Program, functionOf, State, Config, limits, entitiesFit, zeroFrame, entryConditions, entered, enter, left, returnConditions, returned}
+use Rattle.definition.specs.File.{negative, leastCells, settingsFit}
+use Rattle.definition.specs.Machine.{Program, functionOf, State, Config, entitiesFit, zeroFrame, entryConditions, entered, enter, left, returnConditions, returned}
 use Rattle.definition.specs.Load.{programWith, programOf, recordedIn}
 use Rattle.definition.specs.Operations.{frameFunctions, enteredAt, enteredFunctions, allPresent, localsOf, sound}
 use Rattle.definition.specs.CheckLaws.{judge-passed, and-left, and-right}
+use Rattle.definition.specs.LoadLaws.{settings-fit}
 use Rattle.functions.specs.Laws.{Recorded, recorded, EntitySize, entities-room}
 use Rattle.progs.specs.declared.ExecutionContext.{ExecutionContext}
 use Rattle.progs.specs.declared.Answered.{Answered}
@@ -94,30 +95,41 @@ module _ (file cells saved entities : List ℕ) (x : ExecutionContext) where
   unfolding sound
   no-room h = rw (h, and-false)
 
-  pub too-deep : 31 < x .depth → false ≡ check
-  unfolding sound limits
-  too-deep h = rw (lt-leb (x .depth) 31 h, and-false)
+  abbrev fit : Bool
+  fit = settingsFit (x .settings)
 
-  pub too-full : 2048 < x .saved → false ≡ check
-  unfolding sound limits
-  too-full h = rw (lt-leb (x .saved) 2048 h, and-false)
+  pub out-of-range : fit ≡ false → false ≡ check
+  unfolding sound
+  out-of-range h = rw (h, and-false)
 
-  pub adding-up : recordedIn leastCells file (x .file) (length cells) ≡ true → 2048 ≤ length saved → roomy ≡ true → x .depth ≤ 31 → x .saved ≤ 2048
+  pub too-deep : x .settings .depth < x .depth → false ≡ check
+  unfolding sound
+  too-deep h = rw (lt-leb (x .depth) (x .settings .depth) h, and-false)
+
+  pub too-full : x .settings .saved < x .saved → false ≡ check
+  unfolding sound
+  too-full h = rw (lt-leb (x .saved) (x .settings .saved) h, and-false)
+
+  pub adding-up : recordedIn leastCells file (x .file) (length cells) ≡ true → 2048 ≤ length saved → roomy ≡ true → fit ≡ true → x .depth ≤ x .settings .depth → x .saved ≤ x .settings .saved
       → (allPresent (programOf file) (enteredFunctions (stateOf x)) && eqb (x .saved) (localsOf (programOf file) (enteredFunctions (stateOf x)))) ≡ check
-  unfolding sound limits programWith
-  adding-up a b e c d = rw (a, le-leb 2048 (length saved) b, e, le-leb (x .depth) 31 c, le-leb (x .saved) 2048 d, and-true)
+  unfolding sound programWith
+  adding-up a b e v c d = rw (a, le-leb 2048 (length saved) b, e, v, le-leb (x .depth) (x .settings .depth) c, le-leb (x .saved) (x .settings .saved) d, and-true)
 
   pub passed : check ≡ true → Within file x (length cells) (length saved) (length entities)
-  unfolding sound limits programWith
+  unfolding sound programWith
   passed h =
       let r = recordedIn leastCells file (x .file) (length cells) in
       let s = leb 2048 (length saved) in
-      let d = leb (x .depth) 31 in
+      let d = leb (x .depth) (x .settings .depth) in
       let p = allPresent (programOf file) (enteredFunctions (stateOf x)) in
-      let l = leb (x .saved) 2048 in
-      let h4 = and-left (r && s && roomy && d && p && l) (eqb (x .saved) (localsOf (programOf file) (enteredFunctions (stateOf x)))) h in
-      let h3 = and-left (r && s && roomy && d) p (and-left (r && s && roomy && d && p) l h4) in
-      let h2 = and-left (r && s && roomy) d h3 in
+      let l = leb (x .saved) (x .settings .saved) in
+      let h5 = and-left (r && s && roomy && fit && d && p && l) (eqb (x .saved) (localsOf (programOf file) (enteredFunctions (stateOf x)))) h in
+      let h4 = and-left (r && s && roomy && fit && d) p (and-left (r && s && roomy && fit && d && p) l h5) in
+      let h3 = and-left (r && s && roomy && fit) d h4 in
+      let h2 = and-left (r && s && roomy) fit h3 in
+      let range = settings-fit (x .settings) (and-right (r && s && roomy) fit h3) in
+      let deep = leb-true (x .depth) (x .settings .depth) (and-right (r && s && roomy && fit) d h4) in
+      let full = leb-true (x .saved) (x .settings .saved) (and-right (r && s && roomy && fit && d && p) l h5) in
       let k = recorded file (x .file) (length cells) (and-left r s (and-left (r && s) roomy h2)) in
       let e = entities-room (x .«entity_count») (x .file .entityfields) (length entities) (and-right (r && s) roomy h2) in
       record {
@@ -126,8 +138,9 @@ module _ (file cells saved entities : List ℕ) (x : ExecutionContext) where
         most = k .most;
         lent = k .lends;
         store = leb-true _ _ (and-right r s (and-left (r && s) roomy h2));
-        depth = leb-true _ _ (and-right (r && s && roomy) d h3);
-        held = leb-true _ _ (and-right (r && s && roomy && d && p) l h4);
+        range = range;
+        depth = omega (arith, deep, range .depth-most);
+        held = omega (arith, full, range .saved-most);
         size-least = k .size .least;
         size-most = k .size .most;
         number = e .number-most;
@@ -153,6 +166,7 @@ own-within file cells saved entities x h =
       most = h .most;
       lent = h .lent;
       store = h .store;
+      range = h .range;
       depth = h .depth;
       held = h .held;
       size-least = h .size-least;
@@ -162,14 +176,15 @@ own-within file cells saved entities x h =
     }
 
 module _ (file : List ℕ) (cells saved entities : ℕ) (x y : ExecutionContext) (h : Within file x cells saved entities) where
-  pub moved-within : y .file ≡ x .file → y .«entity_count» ≡ x .«entity_count» → y .depth ≤ 31 → y .saved ≤ 2048 → Within file y cells saved entities
-  moved-within e n d s =
+  pub moved-within : y .file ≡ x .file → y .settings ≡ x .settings → y .«entity_count» ≡ x .«entity_count» → y .depth ≤ 31 → y .saved ≤ 2048 → Within file y cells saved entities
+  moved-within e v n d s =
       record {
         loaded = rw e (h .loaded);
         least = rw e (h .least);
         most = rw e (h .most);
         lent = rw e (h .lent);
         store = h .store;
+        range = rw v (h .range);
         depth = d;
         held = s;
         size-least = rw e (h .size-least);
@@ -182,25 +197,25 @@ module _ (file : List ℕ) (cells saved entities : ℕ) (x y : ExecutionContext)
   same-within e =
       let d : y .depth ≡ x .depth = ap (λ (s : State). s .depth) e in
       let s : y .saved ≡ x .saved = ap (λ (s : State). s .saved) e in
-      moved-within (ap (λ (s : State). s .file) e) (ap (λ (s : State). s .entityCount) e) (rw d (h .depth)) (rw s (h .held))
+      moved-within (ap (λ (s : State). s .file) e) (ap (λ (s : State). s .settings) e) (ap (λ (s : State). s .entityCount) e) (rw d (h .depth)) (rw s (h .held))
 
   pub left-within : (P : Program) → stateOf y ≡ left P (bare x) .state → Within file y cells saved entities
   unfolding left
   left-within P e =
       let d : y .depth ≡ x .depth - 1 = ap (λ (s : State). s .depth) e in
       let s : y .saved ≡ x .saved - functionOf P (x .«current_function») .locals = ap (λ (s : State). s .saved) e in
-      moved-within (ap (λ (s : State). s .file) e) (ap (λ (s : State). s .entityCount) e) (omega (arith, h .depth)) (omega (arith, h .held))
+      moved-within (ap (λ (s : State). s .file) e) (ap (λ (s : State). s .settings) e) (ap (λ (s : State). s .entityCount) e) (omega (arith, h .depth)) (omega (arith, h .held))
 
   entered-within : (P : Program) (f : ℕ) (back : ℤ) → judge (entryConditions P f (bare x)) ≡ 0 → stateOf y ≡ entered P f back (bare x) .state → Within file y cells saved entities
-  unfolding entered entryConditions limits
+  unfolding entered entryConditions
   entered-within P f back z e =
       let l = functionOf P f .locals in
       let k = judge-passed (entryConditions P f (bare x)) z in
-      let free : x .depth < 31 = ltb-true (x .depth) 31 (k .1 .0) in
-      let fits : x .saved + l ≤ 2048 = leb-true _ _ (and-right (not (negative l)) (leb (x .saved + l) 2048) (k .1 .1 .0)) in
+      let free : x .depth < x .settings .depth = ltb-true (x .depth) (x .settings .depth) (k .1 .0) in
+      let fits : x .saved + l ≤ x .settings .saved = leb-true _ _ (and-right (not (negative l)) (leb (x .saved + l) (x .settings .saved)) (k .1 .1 .0)) in
       let d : y .depth ≡ x .depth + 1 = ap (λ (s : State). s .depth) e in
       let s : y .saved ≡ x .saved + l = ap (λ (s : State). s .saved) e in
-      moved-within (ap (λ (s : State). s .file) e) (ap (λ (s : State). s .entityCount) e) (omega arith) (omega arith)
+      moved-within (ap (λ (s : State). s .file) e) (ap (λ (s : State). s .settings) e) (ap (λ (s : State). s .entityCount) e) (omega (arith, h .range .depth-most)) (omega (arith, h .range .saved-most))
 
 -- after whatever an entry or a Return answers
 module _ (file : List ℕ) (P : Program) (x : ExecutionContext) (cells saved entities : List ℕ) (r : Answered) (cells′ saved′ : List ℕ) (h : Within file x (length cells) (length saved) (length entities)) where

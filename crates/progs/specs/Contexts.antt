@@ -13,6 +13,7 @@ use Rattle.definition.specs.Statements.{Entities, placeOf}
 use Rattle.definition.specs.Machine.{Program, State, Config, returnConditions, returned}
 use Rattle.definition.specs.Operations.{isHandedOver}
 use Rattle.definition.specs.Answers.{Outcome, outcome}
+use Rattle.definition.specs.LoadLaws.{InRange}
 use Rattle.functions.specs.Laws.{AllFit}
 use Rattle.progs.specs.declared.ExecutionContext.{ExecutionContext}
 use Rattle.progs.specs.declared.Answered.{Answered}
@@ -22,6 +23,7 @@ abbrev pub stateOf : ExecutionContext → State
 stateOf x =
     record {
       file = x .file;
+      settings = x .settings;
       pc = x .pc;
       function = x .«current_function»;
       depth = x .depth;
@@ -73,6 +75,7 @@ pub record Within (file : List ℕ) (x : ExecutionContext) (cells saved entities
   pub most : x .file .globals .count ≤ 32768
   pub lent : x .file .globals .count ≤ cells
   pub store : 2048 ≤ saved
+  pub range : InRange (x .settings)
   pub depth : x .depth ≤ 31
   pub held : x .saved ≤ 2048
   pub size-least : 105 ≤ x .file .entityfields

@@ -6,17 +6,18 @@ use lib.ListN.{getD, drop, set}
 use lib.Seq.{paste}
 use Rattle.definition.specs.declared.FunctionDef.{FunctionDef}
 use Rattle.definition.specs.declared.StackFrame.{StackFrame}
+use Rattle.definition.specs.declared.Settings.{Settings}
 use Rattle.definition.specs.Checks.{judge}
 use Rattle.definition.specs.Machine.{Program, functionOf, zeroFrame, copied, successive, argumentsOf, entryConditions, returnConditions}
-use Rattle.definition.specs.Answers.{noLump}
+use Rattle.definition.specs.Answers.{noLump, noSettings}
 use Rattle.progs.specs.declared.ExecutionContext.{ExecutionContext}
 use Rattle.progs.specs.declared.calls.Entry.{Entry}
 use Rattle.progs.specs.declared.calls.Leaving.{Leaving}
 use Rattle.progs.specs.Contexts.{bare}
 
--- a context of which only the function, the depth, the saved count and the file's count of cells are looked at
-abbrev pub numberedIn : ℕ → ℕ → ℕ → ℕ → ExecutionContext
-numberedIn f depth held count =
+-- a context of which only the settings, the function, the depth, the saved count and the file's count of cells are looked at
+abbrev pub numberedUnder : Settings → ℕ → ℕ → ℕ → ℕ → ExecutionContext
+numberedUnder s f depth held count =
     record {
       file =
           record {
@@ -29,6 +30,7 @@ numberedIn f depth held count =
             globals = record { offset = 0; count = count };
             entityfields = 0;
           };
+      settings = s;
       pc = pos 0;
       «current_function» = f;
       depth = depth;
@@ -37,14 +39,19 @@ numberedIn f depth held count =
       frames = [];
     }
 
-abbrev pub numbered : ℕ → ℕ → ℕ → ExecutionContext
-numbered depth held count = numberedIn 0 depth held count
+-- an entry looks at no function, and a leaving at no settings
+abbrev pub numbered : Settings → ℕ → ℕ → ℕ → ExecutionContext
+numbered s depth held count = numberedUnder s 0 depth held count
+
+abbrev pub numberedIn : ℕ → ℕ → ℕ → ℕ → ExecutionContext
+numberedIn f depth held count = numberedUnder noSettings f depth held count
 
 -- the context in function f, which is to go back to the position `back`
 abbrev pub enteredContext : ExecutionContext → ℕ → ℤ → ℕ → ℤ → ExecutionContext
 enteredContext x f first locals back =
     record {
       file = x .file;
+      settings = x .settings;
       pc = first;
       «current_function» = f;
       depth = x .depth + 1;
@@ -79,6 +86,7 @@ leftContext x locals =
     let frame = getD (x .frames) (x .depth - 1) zeroFrame in
     record {
       file = x .file;
+      settings = x .settings;
       pc = frame .«instr_id»;
       «current_function» = frame .«func_id»;
       depth = x .depth - 1;

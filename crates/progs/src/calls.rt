@@ -16,9 +16,8 @@ use crate::copies;
 use definition::Answer;
 use definition::FUNCTION_SIZE;
 use definition::FunctionDef;
-use definition::GREATEST_DEPTH;
 use definition::MOST_ARGUMENTS;
-use definition::SAVED_STORE;
+use definition::Settings;
 use definition::StackFrame;
 use functions::parts;
 
@@ -36,18 +35,24 @@ pub struct Entry {
 }
 
 // 0, or the number of the refusal of an entry into a function that is there.
-fn entry_refusal(def: FunctionDef, depth: usize, held: usize, count: usize) -> u8
-    requires { ⌜ held ≤ 2048 ⌝ }
-    ensures { λ r. ⌜ ((P : Program) (f : ℕ) → f < length (P .functions) → def ≡ functionOf P f → r ≡ judge (entryConditions P f (bare (numbered depth held count)))) ⌝ }
+fn entry_refusal(
+    def: FunctionDef,
+    settings: Settings,
+    depth: usize,
+    held: usize,
+    count: usize,
+) -> u8
+    requires { ⌜ (held ≤ 2048) × (settings .saved ≤ 2048) ⌝ }
+    ensures { λ r. ⌜ ((P : Program) (f : ℕ) → f < length (P .functions) → def ≡ functionOf P f → r ≡ judge (entryConditions P f (bare (numbered settings depth held count)))) ⌝ }
 {
     let start = def.start as usize;
     let locals = def.locals as usize;
     let argsz = def.argsz;
-    if GREATEST_DEPTH <= depth {
+    if settings.depth <= depth {
         return 22;
     }
-    // A negative count's bits are over 2,048.
-    if SAVED_STORE < held + locals {
+    // A negative count's bits are over any saved count.
+    if settings.saved < held + locals {
         return 23;
     }
     if !copies::in_range(start, locals, count) {
@@ -76,20 +81,21 @@ fn no_entry(refusal: u8) -> Entry
 pub fn enter_cells(
     functions: &[u8],
     f: usize,
+    settings: Settings,
     depth: usize,
     held: usize,
     count: usize,
     cells: &mut [u32],
     store: &mut [u32],
 ) -> Entry
-    requires { ⌜ (held ≤ 2048) × (2048 ≤ length (now store)) × (count ≤ length (now cells)) ⌝ }
-    ensures { λ r. ⌜ ((P : Program) → functionsIn (now (functions .entry)) ≡ P .functions → entryOf r (now (cells .exit)) (now (store .exit)) ≡ entering P f (numbered depth held count) (now (cells .entry)) (now (store .entry))) ⌝ }
+    requires { ⌜ (held ≤ 2048) × (settings .saved ≤ 2048) × (2048 ≤ length (now store)) × (count ≤ length (now cells)) ⌝ }
+    ensures { λ r. ⌜ ((P : Program) → functionsIn (now (functions .entry)) ≡ P .functions → entryOf r (now (cells .exit)) (now (store .exit)) ≡ entering P f (numbered settings depth held count) (now (cells .entry)) (now (store .entry))) ⌝ }
 {
     if functions.len() / FUNCTION_SIZE <= f {
         return no_entry(20);
     }
     let def = functions::get_def(functions, f);
-    let refusal = entry_refusal(def, depth, held, count);
+    let refusal = entry_refusal(def, settings, depth, held, count);
     if refusal != 0 {
         return no_entry(refusal);
     }
@@ -269,7 +275,16 @@ impl ExecutionContext {
     {
         let functions = self.functions(file);
         let count = self.cell_count();
-        let entry = enter_cells(functions, f, self.depth, self.saved, count, cells, store);
+        let entry = enter_cells(
+            functions,
+            f,
+            self.settings,
+            self.depth,
+            self.saved,
+            count,
+            cells,
+            store,
+        );
         if entry.refusal != 0 {
             return self.refused(entry.refusal);
         }

@@ -6,22 +6,25 @@ ghost use Rattle.progs.specs.Contexts.{config, outcomeOf, after};
 use definition::Answer;
 use definition::FileRecord;
 use definition::GREATEST_DEPTH;
+use definition::Settings;
 use definition::StackFrame;
 use functions::fetch;
 
 mod abandon;
 pub mod calls;
 mod carry_on;
+mod cell_pairs;
 mod copies;
 pub mod load;
 mod raw;
-mod settings;
 mod state;
 
 // All that an operation leaves for the next, beside the lent bytes, cells, saved store and entity cells.
 #[repr(C)]
 pub struct ExecutionContext {
     pub file: FileRecord,
+    // Those of the load (document 02, R-11).
+    pub settings: Settings,
     pub pc: i64,
     pub current_function: usize,
     // How many frames are in use, and how many cells of the saved store.

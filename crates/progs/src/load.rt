@@ -13,14 +13,15 @@ use definition::GREATEST_DEPTH;
 use definition::LEAST_CELLS;
 use definition::Lump;
 use definition::MOST_ENTITIES;
+use definition::Settings;
 use definition::StackFrame;
 use functions::fetch;
 use functions::header;
 use functions::parts;
 
 // Position, function and depths are 0, and so are the frames.
-fn at_start(file: FileRecord, number: usize) -> ExecutionContext
-    ensures { λ r. ⌜ stateOf r ≡ startState file number ⌝ }
+fn at_start(settings: Settings, file: FileRecord, number: usize) -> ExecutionContext
+    ensures { λ r. ⌜ stateOf r ≡ startState settings file number ⌝ }
 {
     let none = StackFrame {
         instr_id: 0,
@@ -29,6 +30,7 @@ fn at_start(file: FileRecord, number: usize) -> ExecutionContext
     let frames = [none; GREATEST_DEPTH];
     ExecutionContext {
         file,
+        settings,
         pc: 0,
         current_function: 0,
         depth: 0,
@@ -56,24 +58,38 @@ fn of_nothing() -> ExecutionContext
         globals: none,
         entityfields: 0,
     };
-    at_start(no_file, 0)
+    let no_settings = Settings {
+        check_number: 0,
+        depth: 0,
+        saved: 0,
+        limit: 0,
+    };
+    at_start(no_settings, no_file, 0)
 }
 
-// A load for so many entities: a negative number is one too many. The lent cells past the file's count, the saved store and the entity cells stay as
-// they are.
+// A load under these settings, for so many entities: a negative number is one too many. The lent cells past the file's count, the saved store and the
+// entity cells stay as they are.
 pub fn load(
+    settings: Settings,
     file: &[u8],
     number: i64,
     cells: &mut [u32],
     store: &[u32],
     entities: &[u32],
 ) -> Answered
-    ensures { λ r. ⌜ outcomeOf r (now (cells .exit)) (now (store .entry)) (now (entities .entry)) ≡ loadOutcome (now (cells .entry)) (now (store .entry)) (now (entities .entry)) (load (now (file .entry)) number (now (cells .entry)) (now (store .entry)) (now (entities .entry))) ⌝ }
+    ensures { λ r. ⌜ outcomeOf r (now (cells .exit)) (now (store .entry)) (now (entities .entry)) ≡ loadOutcome (now (cells .entry)) (now (store .entry)) (now (entities .entry)) (load settings (now (file .entry)) number (now (cells .entry)) (now (store .entry)) (now (entities .entry))) ⌝ }
 {
+    if !header::settings_fit(settings) {
+        return Answered {
+            context: of_nothing(),
+            answer: Answer::Refused(36),
+        };
+    }
     let given = fetch::place_of(MOST_ENTITIES + 1, number);
-    let refusal = loader::load_refusal(
+    let refusal = loader::file_refusal(
         file,
         LEAST_CELLS,
+        settings.check_number,
         given,
         cells.len(),
         store.len(),
@@ -88,7 +104,7 @@ pub fn load(
     let recorded = header::file_of(file);
     loader::fill(parts::part(file, CELL_SIZE, recorded.globals), cells);
     Answered {
-        context: at_start(recorded, given),
+        context: at_start(settings, recorded, given),
         answer: Answer::Accepted,
     }
 }

@@ -7,7 +7,6 @@ ghost use Rattle.definition.specs.Load.{programOf};
 ghost use Rattle.definition.specs.Operations.{enteredFunctions, allPresent, localsOf, sound};
 ghost use Rattle.progs.specs.Contexts.{stateOf, config, Loaded};
 use crate::ExecutionContext;
-use definition::GREATEST_DEPTH;
 use definition::SAVED_STORE;
 use functions::header;
 
@@ -52,10 +51,14 @@ impl ExecutionContext {
         if !header::entities_fit(self.entity_count, recorded.entityfields, entities.len()) {
             return false;
         }
-        if GREATEST_DEPTH < self.depth {
+        let settings = self.settings;
+        if !header::settings_fit(settings) {
             return false;
         }
-        if SAVED_STORE < self.saved {
+        if settings.depth < self.depth {
+            return false;
+        }
+        if settings.saved < self.saved {
             return false;
         }
         self.locals_add_up(file)

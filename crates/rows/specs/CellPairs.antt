@@ -6,7 +6,7 @@ use lib.IntN.{ℤ, pos, negsuc}
 use lib.ListN.{set}
 use lib.Dec.{T}
 use Rattle.definition.specs.Checks.{accepted}
-use Rattle.definition.specs.Operations.{pairConditions, settingConditions, pairsWritten, writeAll}
+use Rattle.definition.specs.Operations.{pairConditions, pairsConditions, pairsWritten, writeAll}
 use Rattle.definition.specs.Answers.{outcome, refusalNumber}
 use Rattle.definition.specs.Starred.{fn, program, numbers, numbered, Seen, also, Scenario, _and_, state, lent, write, enter, lending, from, Row, row, all, computing}
 
@@ -121,17 +121,17 @@ states =
 -- ---- one theorem of each group
 
 pub counts-hold : T (all counts)
-unfolding computing pairConditions settingConditions pairsWritten writeAll
+unfolding computing pairConditions pairsConditions pairsWritten writeAll
 counts-hold = tt
 
 pub bad-hold : T (all bad)
-unfolding computing pairConditions settingConditions pairsWritten writeAll
+unfolding computing pairConditions pairsConditions pairsWritten writeAll
 bad-hold = tt
 
 pub equal-hold : T (all equal)
-unfolding computing pairConditions settingConditions pairsWritten writeAll
+unfolding computing pairConditions pairsConditions pairsWritten writeAll
 equal-hold = tt
 
 pub states-hold : T (all states)
-unfolding computing pairConditions settingConditions pairsWritten writeAll
+unfolding computing pairConditions pairsConditions pairsWritten writeAll
 states-hold = tt

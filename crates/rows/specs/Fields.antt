@@ -11,7 +11,7 @@ use Rattle.definition.specs.declared.Statement.{Statement}
 use Rattle.definition.specs.declared.Definition.{Definition}
 use Rattle.definition.specs.declared.FunctionDef.{FunctionDef}
 use Rattle.definition.specs.Checks.{judge, refused, accepted}
-use Rattle.definition.specs.File.{Contents}
+use Rattle.definition.specs.File.{Contents, standard}
 use Rattle.definition.specs.Cells.{void, string, float, vector, entity, field, function, pointer}
 use Rattle.definition.specs.Statements.{addressesEffect}
 use Rattle.definition.specs.Machine.{withEntities}
@@ -47,7 +47,7 @@ contents globals fields statements functions given =
 abbrev loading : Contents → ℤ → ℕ → ℕ → List ℕ → Scenario → Seen
 loading k n lent store entities rest =
     let file = assembled k in
-    andThen (load file n (replicate lent 0xffffffff) (replicate store 0) entities) (rest (programOf file))
+    andThen (load standard file n (replicate lent 0xffffffff) (replicate store 0) entities) (rest (programOf file))
 
 -- the entity cells of two entities and two lent cells more, each with 1,000 and its own number in it, but these
 abbrev lentWith : List Cell → List ℕ
@@ -419,7 +419,7 @@ counting n rest P c =
     rest P
     (record {
       state =
-          record { file = s .file; pc = s .pc; function = s .function; depth = s .depth; saved = s .saved; entityCount = n; frames = s .frames };
+          record { file = s .file; settings = s .settings; pc = s .pc; function = s .function; depth = s .depth; saved = s .saved; entityCount = n; frames = s .frames };
       cells = c .cells;
       saved = c .saved;
       entities = c .entities;

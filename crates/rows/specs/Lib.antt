@@ -4,3 +4,4 @@ pub mod Fields
 pub mod StringRows
 pub mod Voids
 pub mod CellPairs
+pub mod HouseLimits

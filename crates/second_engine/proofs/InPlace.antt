@@ -18,6 +18,7 @@ use Rattle.definition.specs.Cells.{typingOf}
 use Rattle.definition.specs.Load.{programWith, programOf}
 use Rattle.definition.specs.Statements.{Entities, Does, placeOf, doesAt}
 use Rattle.definition.specs.Machine.{Program, withUnpacked, Config, entitiesOf, advanced, stepAs, completed, refusedStep, handedStep, entryConditions, entered, enter, left, leaveConditions, returnConditions, returned, asStep, step, runFor}
+use Rattle.definition.specs.LoadLaws.{InRange}
 use Rattle.execution.specs.declared.Executed.{Executed}
 use Rattle.execution.specs.declared.Executed.the-variants as does
 use Rattle.execution.specs.Execution.{executed, execution, entitiesAt}
@@ -40,10 +41,10 @@ use Rattle.server.proofs.TurnLaws.{known, same, same-fields}
 
 module _ (file : List ℕ) (x : ExecutionContext) (n m k : ℕ) (w : Within file x n m k) where
   pub entered-within : (f : ℕ) (first back : ℤ) (locals : ℕ) → (x .depth < 31) × (x .saved + locals ≤ 2048) → Within file (enteredContext x f first locals back) n m k
-  entered-within f first back locals r = moved-within file n m k x _ w refl refl (omega (arith, r .0)) (r .1)
+  entered-within f first back locals r = moved-within file n m k x _ w refl refl refl (omega (arith, r .0)) (r .1)
 
   pub left-within : (locals : ℕ) → Within file (leftContext x locals) n m k
-  left-within locals = moved-within file n m k x _ w refl refl (omega (arith, w .depth)) (omega (arith, w .held))
+  left-within locals = moved-within file n m k x _ w refl refl refl (omega (arith, w .depth)) (omega (arith, w .held))
 
 -- ---- a conditional step that is accepted, and one that isn't
 
@@ -71,7 +72,7 @@ module _ (P : Program) (limit target : ℕ) (c₀ : Config) (x : ExecutionContex
 
   -- ---- a Call
 
-  module _ (f : ℕ) (d : done ≡ does.Calls f) (r : Entry) (cells″ saved″ : List ℕ) (o : entryOf r cells″ saved″ ≡ entering P f x cells′ saved) where
+  module _ (range : InRange (x .settings)) (f : ℕ) (d : done ≡ does.Calls f) (r : Entry) (cells″ saved″ : List ℕ) (o : entryOf r cells″ saved″ ≡ entering P f x cells′ saved) where
     entering-here : entryOf r cells″ saved″ ≡ entering P f x cells saved
     entering-here = o ∙ ap (λ (cs : List ℕ). entering P f x cs saved) (same-here (does.Calls f) d)
 
@@ -86,7 +87,7 @@ module _ (P : Program) (limit target : ℕ) (c₀ : Config) (x : ExecutionContex
 
     module _ (z : r .refusal ≡ 0) where
       pub turn-room : (x .depth < 31) × (x .saved + r .locals ≤ 2048)
-      turn-room = entry.entry-room P f x cells saved r cells″ saved″ entering-here z
+      turn-room = entry.entry-room P f x cells saved r cells″ saved″ entering-here z range
 
       pub turn-enters : Apart target (x .depth) → AtStatement (x .pc) → (back : ℤ) → back ≡ pos (placeOf 0 (x .pc)) +ℤ pos 1
           → RunLeft P limit target c₀ (config (enteredContext x f (r .first) (r .locals) back) cells″ saved″ entities′) (count + 1)
@@ -144,6 +145,7 @@ abbrev pub movedTo : ExecutionContext → ℤ → ExecutionContext
 movedTo x p =
     record {
       file = x .file;
+      settings = x .settings;
       pc = p;
       «current_function» = x .«current_function»;
       depth = x .depth;

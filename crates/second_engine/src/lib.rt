@@ -15,7 +15,6 @@ ghost use Rattle.server.specs.Stepping.{ranOf, ranAs, notRun, Apart};
 ghost use Rattle.second_engine.specs.Quickly.{AllFloats};
 use definition::FUNCTION_SIZE;
 use definition::FileRecord;
-use definition::GREATEST_LIMIT;
 use definition::RunAnswer;
 use definition::StackFrame;
 use definition::UNPACKED_SIZE;
@@ -119,6 +118,7 @@ fn run_for(
                 let entry = calls::enter_cells(
                     functions,
                     f,
+                    now.settings,
                     now.depth,
                     now.saved,
                     cell_count,
@@ -208,12 +208,22 @@ pub fn run_unpacked(
         return not_run(context, 37);
     }
     let most = fetch::place_of(0, limit);
-    if most == 0 || GREATEST_LIMIT < most {
+    let settings = context.settings;
+    if most == 0 || settings.limit < most {
         return not_run(context, 28);
     }
     let down = fetch::place_of(context.depth, target);
     if context.depth <= down {
         return not_run(context, 29);
     }
-    run_for(context, file, buffer, most as u32, down, cells, store, entities)
+    run_for(
+        context,
+        file,
+        buffer,
+        most as u32,
+        down,
+        cells,
+        store,
+        entities,
+    )
 }

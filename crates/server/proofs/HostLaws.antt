@@ -9,7 +9,7 @@ use lib.IntN.{ℤ, pos, negsuc}
 use Rattle.definition.specs.Checks.{judge}
 use Rattle.definition.specs.Statements.{placeOf}
 use Rattle.definition.specs.Machine as machine
-use Rattle.definition.specs.Machine.{Program, Config, limits, runFor}
+use Rattle.definition.specs.Machine.{Program, Config, runFor}
 use Rattle.definition.specs.Load.{programWith, programOf}
 use Rattle.definition.specs.Operations.{sound, natural, below, permitted, runConditions, run}
 use Rattle.progs.specs.declared.ExecutionContext.{ExecutionContext}
@@ -58,29 +58,29 @@ module _ (P : Program) (target limit : ℤ) (x : ExecutionContext) (cells saved 
   run-37 s room r e = not-run 36 r (rw (s, room)) e
 
   module _ (s : sound P here ≡ true) (room : P .room ≡ true) (most : ℕ) (m : most ≡ placeOf 0 limit) where
-    over : permitted limit 99999 ≡ false → (r : Ran) → r ≡ notRun x 28 → ranOf r cells saved entities ≡ run P target limit here
-    unfolding runConditions judge limits
+    over : permitted limit (x .settings .limit) ≡ false → (r : Ran) → r ≡ notRun x 28 → ranOf r cells saved entities ≡ run P target limit here
+    unfolding runConditions judge
     over p r e = not-run 27 r (rw (s, room, p)) e
 
     pub run-28-none : most ≡ 0 → (r : Ran) → r ≡ notRun x 28 → ranOf r cells saved entities ≡ run P target limit here
-    run-28-none z r e = over (permitted-none limit 99999 (sym m ∙ z)) r e
+    run-28-none z r e = over (permitted-none limit (x .settings .limit) (sym m ∙ z)) r e
 
-    pub run-28-over : 99999 < most → (r : Ran) → r ≡ notRun x 28 → ranOf r cells saved entities ≡ run P target limit here
-    run-28-over z r e = over (permitted-over limit 99999 (rw m at z)) r e
+    pub run-28-over : x .settings .limit < most → (r : Ran) → r ≡ notRun x 28 → ranOf r cells saved entities ≡ run P target limit here
+    run-28-over z r e = over (permitted-over limit (x .settings .limit) (rw m at z)) r e
 
-    module _ (some : most ≡ 0 → ⊥) (few : most ≤ 99999) (down : ℕ) (d : down ≡ placeOf (x .depth) target) where
-      in-limit : permitted limit 99999 ≡ true
-      in-limit = permitted-at limit 99999 (rw m at more) (rw m at few)
+    module _ (some : most ≡ 0 → ⊥) (few : most ≤ x .settings .limit) (down : ℕ) (d : down ≡ placeOf (x .depth) target) where
+      in-limit : permitted limit (x .settings .limit) ≡ true
+      in-limit = permitted-at limit (x .settings .limit) (rw m at more) (rw m at few)
         where
           more : 0 < most
           more = positive most some
 
       pub run-29 : x .depth ≤ down → (r : Ran) → r ≡ notRun x 29 → ranOf r cells saved entities ≡ run P target limit here
-      unfolding runConditions judge limits
+      unfolding runConditions judge
       run-29 k r e = not-run 28 r (rw (s, room, in-limit, below-place (x .depth) target, ← d, le-ltb down (x .depth) k)) e
 
       pub run-goes : down < x .depth → (o : machine.Ran) → o ≡ runFor P most down here → o ≡ run P target limit here
-      unfolding run runConditions judge limits
+      unfolding run runConditions judge
       run-goes k o e =
           let to : natural target ≡ down = place-natural (x .depth) target (rw d at k) ∙ sym d in
           let at : natural limit ≡ most = sym (place-zero limit) ∙ sym m in

@@ -13,7 +13,7 @@ use Rattle.definition.specs.declared.RunAnswer.the-variants as run
 use Rattle.definition.specs.Checks.{Checked, refused, accepted}
 use Rattle.definition.specs.File.{negative}
 use Rattle.definition.specs.CheckLaws.{All, and-right, accepted-all}
-use Rattle.definition.specs.Machine.{Program, functionOf, Config, limits, completed, entryConditions, entered, enter, leaveConditions, left, returnConditions, returned, asStep, step, runFor}
+use Rattle.definition.specs.Machine.{Program, functionOf, Config, completed, entryConditions, entered, enter, leaveConditions, left, returnConditions, returned, asStep, step, runFor}
 use Rattle.definition.specs.Answers.{Outcome, answerOf, kept, outcome}
 use Rattle.progs.specs.declared.ExecutionContext.{ExecutionContext}
 use Rattle.progs.specs.declared.Answered.{Answered}
@@ -72,16 +72,18 @@ module _ (P : Program) (limit target : ℕ) (c₀ : Config) (x : ExecutionContex
 module _ (P : Program) (target : ℕ) (file : List ℕ) (x y : ExecutionContext) (n m k : ℕ) (w : Within file x n m k) (t : Apart target (x .depth)) (cells saved entities cells′ saved′ entities′ : List ℕ) where
   pub entered-kept : (f : ℕ) (back : ℤ) → enter P f back (config x cells saved entities) ≡ accepted (config y cells′ saved′ entities′)
       → Within file y n m k × (y .«entity_count» ≡ x .«entity_count») × Apart target (y .depth) × (y .depth ≡ target → ⊥)
-  unfolding entryConditions entered limits
+  unfolding entryConditions entered
   entered-kept f back is =
       let all = accepted-all _ _ _ is in
       let same = all .1 in
       let deep : y .depth ≡ x .depth + 1 = sym (ap (λ (c : Config). c .state .depth) same) in
       let held : y .saved ≡ x .saved + functionOf P f .locals = sym (ap (λ (c : Config). c .state .saved) same) in
-      let shallow : x .depth < 31 = ltb-true _ _ (all .0 .1 .0) in
-      let few : x .saved + functionOf P f .locals ≤ 2048 = leb-true _ _ (and-right (not (negative (functionOf P f .locals))) (leb (x .saved + functionOf P f .locals) 2048) (all .0 .1 .1 .0)) in
-      (
-        moved-within file n m k x y w (sym (ap (λ (c : Config). c .state .file) same)) (sym (ap (λ (c : Config). c .state .entityCount) same)) (omega (arith, deep, shallow)) (omega (arith, held, few)),
+      let below : x .depth < x .settings .depth = ltb-true _ _ (all .0 .1 .0) in
+      let shallow : x .depth < 31 = omega (arith, w .range .depth-most) in
+      let fits : x .saved + functionOf P f .locals ≤ x .settings .saved =
+      leb-true _ _ (and-right (not (negative (functionOf P f .locals))) (leb (x .saved + functionOf P f .locals) (x .settings .saved)) (all .0 .1 .1 .0)) in
+      let few : x .saved + functionOf P f .locals ≤ 2048 = omega (arith, w .range .saved-most) in (
+        moved-within file n m k x y w (sym (ap (λ (c : Config). c .state .file) same)) (sym (ap (λ (c : Config). c .state .settings) same)) (sym (ap (λ (c : Config). c .state .entityCount) same)) (omega (arith, deep, shallow)) (omega (arith, held, few)),
         sym (ap (λ (c : Config). c .state .entityCount) same),
         (λ u. t (omega (arith, u, deep))),
         (λ u. let over = t (omega (arith, u, deep)) in absurd (omega (arith, over, u, deep, shallow))),
@@ -93,9 +95,8 @@ module _ (P : Program) (target : ℕ) (file : List ℕ) (x y : ExecutionContext)
   returned-kept a is =
       let same = accepted-all _ _ _ is .1 in
       let deep : y .depth ≡ x .depth - 1 = sym (ap (λ (c : Config). c .state .depth) same) in
-      let held : y .saved ≡ x .saved - functionOf P (x .«current_function») .locals = sym (ap (λ (c : Config). c .state .saved) same) in
-      (
-        moved-within file n m k x y w (sym (ap (λ (c : Config). c .state .file) same)) (sym (ap (λ (c : Config). c .state .entityCount) same)) (omega (arith, deep, w .depth)) (omega (arith, held, w .held)),
+      let held : y .saved ≡ x .saved - functionOf P (x .«current_function») .locals = sym (ap (λ (c : Config). c .state .saved) same) in (
+        moved-within file n m k x y w (sym (ap (λ (c : Config). c .state .file) same)) (sym (ap (λ (c : Config). c .state .settings) same)) (sym (ap (λ (c : Config). c .state .entityCount) same)) (omega (arith, deep, w .depth)) (omega (arith, held, w .held)),
         sym (ap (λ (c : Config). c .state .entityCount) same),
         (λ apart u. over apart u deep),
       )

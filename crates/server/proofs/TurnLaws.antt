@@ -20,8 +20,8 @@ use Rattle.server.proofs.StepLaws.{stepBy, keptBy, Stands, stands}
 -- ---- what check 13 establishes is kept
 
 module _ (file : List ℕ) (x : ExecutionContext) (n m k : ℕ) (w : Within file x n m k) where
-  pub next-within : (p : ℤ) → Within file (record { file = x .file; pc = p; «current_function» = x .«current_function»; depth = x .depth; saved = x .saved; «entity_count» = x .«entity_count»; frames = x .frames }) n m k
-  next-within p = moved-within file n m k x _ w refl refl (w .depth) (w .held)
+  pub next-within : (p : ℤ) → Within file (record { file = x .file; settings = x .settings; pc = p; «current_function» = x .«current_function»; depth = x .depth; saved = x .saved; «entity_count» = x .«entity_count»; frames = x .frames }) n m k
+  next-within p = moved-within file n m k x _ w refl refl refl (w .depth) (w .held)
 
 module _ (P : Program) (limit target : ℕ) (c₀ : Config) (x : ExecutionContext) (cells saved entities : List ℕ) (count : ℕ) (g : RunLeft P limit target c₀ (config x cells saved entities) count) (h : count < limit) (done : Executed) (cells′ entities′ : List ℕ) (e : executed done cells′ entities′ ≡ execution (P .does (x .pc) (entitiesOf (config x cells saved entities)) cells) cells entities) where
   abbrev here : Config

@@ -9,7 +9,6 @@ ghost use Rattle.progs.specs.Contexts.{config, Within};
 ghost use Rattle.server.specs.Stepping.{steppedOf, steppedAs, ranAs, ranOf, notRun, Apart};
 use definition::Answer;
 use definition::GREATEST_DEPTH;
-use definition::GREATEST_LIMIT;
 use definition::RunAnswer;
 use definition::StatementAnswer;
 use execution::Executed;
@@ -174,7 +173,8 @@ pub fn run(
         return not_run(context, 13);
     }
     let most = fetch::place_of(0, limit);
-    if most == 0 || GREATEST_LIMIT < most {
+    let settings = context.settings;
+    if most == 0 || settings.limit < most {
         return not_run(context, 28);
     }
     let down = fetch::place_of(context.depth, target);

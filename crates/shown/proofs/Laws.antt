@@ -9,6 +9,7 @@ use lib.ListN.{length}
 use Rattle.definition.specs.declared.Answer.{Answer}
 use Rattle.definition.specs.declared.Answer.the-variants as answer
 use Rattle.definition.specs.declared.RunAnswer.the-variants.{Refused}
+use Rattle.definition.specs.File.{standard}
 use Rattle.definition.specs.Checks.{Checked, refused, accepted}
 use Rattle.definition.specs.Machine.{Program, Config, Ran}
 use Rattle.definition.specs.Load.{load, programOf}
@@ -55,13 +56,13 @@ module _ (file cells saved entities : List ℕ) where
   unfolding shown
   too-long h = rw (lt-leb (length file) 65536 h)
 
-  module _ (few : length file ≤ 65536) (o : Outcome) (e : o ≡ loadOutcome cells saved entities (load file (pos 0) cells saved entities)) where
-    loaded : (s : Shown) → s ≡ afterLoad (programOf file) cells saved entities (load file (pos 0) cells saved entities) → s ≡ shown file cells saved entities
+  module _ (few : length file ≤ 65536) (o : Outcome) (e : o ≡ loadOutcome cells saved entities (load standard file (pos 0) cells saved entities)) where
+    loaded : (s : Shown) → s ≡ afterLoad (programOf file) cells saved entities (load standard file (pos 0) cells saved entities) → s ≡ shown file cells saved entities
     unfolding shown
     loaded s h = h ∙ rw (le-leb (length file) 65536 few)
 
     pub load-refused : (n : ℕ) → o .answer ≡ answer.Refused n → ofRefusal n (o .config .cells) (o .config .saved) (o .config .entities) ≡ shown file cells saved entities
-    load-refused n a = loaded _ (by (load file (pos 0) cells saved entities) e)
+    load-refused n a = loaded _ (by (load standard file (pos 0) cells saved entities) e)
       where
         by : (x : Checked Config) → o ≡ loadOutcome cells saved entities x
             → ofRefusal n (o .config .cells) (o .config .saved) (o .config .entities) ≡ afterLoad (programOf file) cells saved entities x
@@ -69,7 +70,7 @@ module _ (file cells saved entities : List ℕ) where
         by (accepted c′) h = absurd (different (o .answer) a (its-answer h))
 
     pub load-accepted : (r : Ran) → o .answer ≡ answer.Accepted → r ≡ enteredAndRun (programOf file) (o .config) → ofRun r ≡ shown file cells saved entities
-    load-accepted r a f = loaded _ (by (load file (pos 0) cells saved entities) e)
+    load-accepted r a f = loaded _ (by (load standard file (pos 0) cells saved entities) e)
       where
         by : (x : Checked Config) → o ≡ loadOutcome cells saved entities x → ofRun r ≡ afterLoad (programOf file) cells saved entities x
         by (refused m) h = absurd (different (o .answer) (its-answer h) a)

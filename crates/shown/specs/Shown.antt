@@ -8,6 +8,7 @@ use lib.ListN.{length, getD}
 use lib.Dec.{leb}
 use Rattle.definition.specs.declared.RunAnswer.{RunAnswer}
 use Rattle.definition.specs.declared.RunAnswer.the-variants.{Refused}
+use Rattle.definition.specs.File.{standard}
 use Rattle.definition.specs.Checks.{Checked, refused, accepted}
 use Rattle.definition.specs.Machine.{Program, State, Config, Ran}
 use Rattle.definition.specs.Load.{load, programOf}
@@ -51,11 +52,11 @@ abbrev pub afterLoad : Program → List ℕ → List ℕ → List ℕ → Checke
 afterLoad P cells saved entities (refused n) = ofRefusal n cells saved entities
 afterLoad P cells saved entities (accepted c) = ofRun (enteredAndRun P c)
 
--- "a longer input prints `refused,1`"; "and entities none"
+-- "a longer input prints `refused,1`"; "and entities none"; at 01's settings
 unfoldable pub shown : List ℕ → List ℕ → List ℕ → List ℕ → Shown
 shown file cells saved entities =
     cond (leb (length file) 65536)
-    (afterLoad (programOf file) cells saved entities (load file (pos 0) cells saved entities))
+    (afterLoad (programOf file) cells saved entities (load standard file (pos 0) cells saved entities))
     (ofRefusal 1 cells saved entities)
 
 -- ---- in a lent buffer

@@ -10,6 +10,7 @@ ghost use Rattle.shown.specs.Shown.{stateLine, enteredAndRun, shown, pri
 use definition::Answer;
 use definition::GREATEST_LIMIT;
 use definition::RunAnswer;
+use functions::header;
 use progs::ExecutionContext;
 use progs::load;
 use server::Ran;
@@ -104,7 +105,14 @@ pub fn show(
     if LONGEST_INPUT < file.len() {
         return text::refused_line(line, 1);
     }
-    let loaded = load::load(file, NO_ENTITIES, cells, store, entities);
+    let loaded = load::load(
+        header::standard(),
+        file,
+        NO_ENTITIES,
+        cells,
+        store,
+        entities,
+    );
     let context = loaded.context;
     let answer = loaded.answer;
     match answer {

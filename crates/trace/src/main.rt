@@ -6,6 +6,7 @@ use cases::answers;
 use cases::answers::Said;
 use cases::print;
 use definition::SAVED_STORE;
+use functions::header;
 use libc::STDIN_FILENO;
 use progs::ExecutionContext;
 use progs::load;
@@ -79,7 +80,14 @@ fn load_file(
     let lent = lend(text, cases::next_word(text, number), before, entities);
     let n = cases::file(text, size, file);
     let given = cases::signed(text, number);
-    let loaded = load::load(&file[..n], given, cells, store, &entities[..lent]);
+    let loaded = load::load(
+        header::standard(),
+        &file[..n],
+        given,
+        cells,
+        store,
+        &entities[..lent],
+    );
     let context = loaded.context;
     let answer = loaded.answer;
     answers::print(answers::of_answer(answer));

@@ -2,7 +2,7 @@
 use Prim.Native.Nat.{ℕ, zero, suc, _+_, _*_, _≤_}
 use mathlib.Core.Path.{_≡_, refl, sym, ap, _∙_, subst}
 use mathlib.Core.Logic.{inl, inr}
-use mathlib.Core.List.{List, _++_}
+use mathlib.Core.List.{List, _∷_, _++_}
 use mathlib.Core.Bool.{Bool, true, false, _&&_, _||_}
 use native.Mathlib.Nat.{mul-le-mul-right, one-mul}
 use native.Mathlib.Omega.{arith}
@@ -13,9 +13,10 @@ use lib.Dec.{leb, eqb}
 use borrow.Author.Tests.{leb-true, le-leb, lt-leb, eq-eqb}
 use Rattle.definition.specs.declared.Lump.{Lump}
 use Rattle.definition.specs.declared.FileRecord.{FileRecord}
+use Rattle.definition.specs.declared.Settings.{Settings}
 use Rattle.definition.specs.declared.WriteAnswer.the-variants as write
-use Rattle.definition.specs.Checks.{Conditions, refused, accepted}
-use Rattle.definition.specs.File.{byteAt, checkNumber, leastCells, longestFile, savedStore, fileOf, lumpFits, lumpsFit, records, readFunction, Contents, contentsAt, contentsOf}
+use Rattle.definition.specs.Checks.{Conditions, _otherwise_, refused, accepted}
+use Rattle.definition.specs.File.{byteAt, leastCells, longestFile, savedStore, fileOf, lumpFits, lumpsFit, records, readFunction, Contents, contentsAt, contentsOf, settingsFit}
 use Rattle.definition.specs.Machine.{Config, entitiesFit}
 use Rattle.definition.specs.Load.{headerConditions, recordConditions, cellConditions, entityConditions, loaded, entitiesGiven, load, programOf}
 use Rattle.definition.specs.Operations.{sound}
@@ -68,18 +69,18 @@ layout-fits s g d u t c e h =
     (lump-fits 1 (r .length) (r .strings) (omega arith) (omega arith) h))
     (lump-fits 4 (r .length) (r .globals) (omega arith) (omega arith) h)
 
--- the row "header", under the check number that a load asks for
-pub header-loads : (k : Contents) → AllEight k → length (written checkNumber k) ≤ longestFile → All (headerConditions (written checkNumber k))
+-- the row "header", of a file that is written with the check number that a load asks for
+pub header-loads : (check : ℕ) (k : Contents) → AllEight k → length (written check k) ≤ longestFile → All (headerConditions check (written check k))
 unfolding headerConditions layout
-header-loads k e h =
-    let file : fileOf (written checkNumber k) ≡ layoutOf k = file-written checkNumber k e in
-    let size : length (written checkNumber k) ≡ layoutOf k .length = length-written checkNumber k e in
+header-loads check k e h =
+    let file : fileOf (written check k) ≡ layoutOf k = file-written check k e in
+    let size : length (written check k) ≡ layoutOf k .length = length-written check k e in
     let short : layoutOf k .length ≤ 1048576 = rw size at h in (
       rw file (and-both _ _ (le-leb 60 (layoutOf k .length) (omega arith)) (le-leb (layoutOf k .length) 1048576 short)),
       (
-        eq-eqb _ 6 (version-written checkNumber k e),
+        eq-eqb _ 6 (version-written check k e),
         (
-          eq-eqb _ checkNumber (check-written checkNumber k e),
+          eq-eqb _ check (check-written check k e),
           (rw file (layout-fits _ _ _ _ _ _ _ short), tt),
         ),
       ),
@@ -90,15 +91,16 @@ pub counts-strings : (file : List ℕ) → length (contentsOf file .strings) ≡
 unfolding contentsAt
 counts-strings file = length-records (byteAt file) 1 _ _
 
--- ---- of a file that a load accepted, beside whatever was lent to it
+-- ---- of a file that a load accepted, under any settings and beside whatever was lent to it
 
 pub record Accepted (file : List ℕ) : Type 0 where
+  pub settings : Settings
   pub number : ℤ
   pub cells : List ℕ
   pub saved : List ℕ
   pub entities : List ℕ
   pub config : Config
-  pub loads : load file number cells saved entities ≡ accepted config
+  pub loads : load settings file number cells saved entities ≡ accepted config
 
 -- what 12 asks of the lent cells and the saved store, and 13 of the entities and their lent cells
 pub record Lent (file : List ℕ) (number : ℤ) (cells saved entities : List ℕ) : Type 0 where
@@ -106,131 +108,143 @@ pub record Lent (file : List ℕ) (number : ℤ) (cells saved entities : List �
   pub store : savedStore ≤ length saved
   pub fields : entitiesFit (entitiesGiven number) (fileOf file .entityfields) (length entities) ≡ true
 
-module _ (file : List ℕ) where
+module _ (check : ℕ) (file : List ℕ) where
   -- "With the program bytes as loaded, the written file loads to equal statements, functions, definitions, strings, starting cells and cells per entity":
   -- it says the same,
-  pub written-says : contentsOf (image file) ≡ contentsOf file
-  written-says = contents-written checkNumber (contentsOf file) (eight file)
+  pub written-says : contentsOf (image check file) ≡ contentsOf file
+  written-says = contents-written check (contentsOf file) (eight file)
 
   -- so it has as many cells, and as many to an entity,
-  cells-written : fileOf (image file) .globals .count ≡ fileOf file .globals .count
-  cells-written = sym (length-globals (image file)) ∙ ap (λ (k : Contents). length (k .globals)) written-says ∙ length-globals file
+  cells-written : fileOf (image check file) .globals .count ≡ fileOf file .globals .count
+  cells-written = sym (length-globals (image check file)) ∙ ap (λ (k : Contents). length (k .globals)) written-says ∙ length-globals file
 
-  entities-written : fileOf (image file) .entityfields ≡ fileOf file .entityfields
+  entities-written : fileOf (image check file) .entityfields ≡ fileOf file .entityfields
   unfolding contentsAt
   entities-written = ap (λ (k : Contents). k .entityfields) written-says
 
-  strings-written : fileOf (image file) .strings .count ≡ fileOf file .strings .count
-  strings-written = sym (counts-strings (image file)) ∙ ap (λ (k : Contents). length (k .strings)) written-says ∙ counts-strings file
-
-  -- and it loads, where it isn't too long (34) and as much is lent as 12 and 13 ask
-  module _ (number : ℤ) (cells saved entities : List ℕ) where
-    pub written-loads : Accepted file → length (image file) ≤ longestFile → Lent file number cells saved entities
-        → load (image file) number cells saved entities ≡ accepted (loaded (image file) (entitiesGiven number) cells saved entities)
-    unfolding load cellConditions
-    written-loads a short lent =
-        let rows = load-rows leastCells file (entitiesGiven (a .number)) (length (a .cells)) (length (a .saved)) (length (a .entities)) (accepted-all _ _ _ (a .loads) .0) in
-        let w : List ℕ = image file in
-        let hs : Conditions = headerConditions w in
-        let rs : Conditions = recordConditions (fileOf w .strings .count) (contentsOf w) in
-        let cs : Conditions = cellConditions leastCells (fileOf w) (length cells) (length saved) in
-        let es : Conditions = entityConditions (fileOf w) (entitiesGiven number) (length entities) in
-        let of-header : All hs = header-loads (contentsOf file) (eight file) short in
-        let of-records : All rs = rw (written-says, strings-written) (rows .records) in
-        let of-lent = and-both (leb (fileOf file .globals .count) (length cells)) (leb savedStore (length saved)) (le-leb _ _ (lent .enough)) (le-leb _ _ (lent .store)) in
-        let of-cells : All cs = rw (cells-written, entities-written) (rows .cells .0, (rows .cells .1 .0, (of-lent, tt))) in
-        let of-entities : All es = rw entities-written (lent .fields, tt) in
-        guard-accepts (hs ++ rs ++ cs ++ es) (loaded w (entitiesGiven number) cells saved entities)
-        (all-both (hs ++ rs ++ cs) es (all-both (hs ++ rs) cs (all-both hs rs of-header of-records) of-cells) of-entities)
-
-    -- with the same cells as a load of the file itself leaves
-    pub written-starts : loaded (image file) (entitiesGiven number) cells saved entities .cells ≡ loaded file (entitiesGiven number) cells saved entities .cells
-    unfolding loaded
-    written-starts = rw (written-says, cells-written) refl
+  strings-written : fileOf (image check file) .strings .count ≡ fileOf file .strings .count
+  strings-written = sym (counts-strings (image check file)) ∙ ap (λ (k : Contents). length (k .strings)) written-says ∙ counts-strings file
 
   -- "Writing it again yields the same bytes"
-  pub written-again : image (image file) ≡ image file
-  written-again = ap (written checkNumber) written-says
+  pub written-again : image check (image check file) ≡ image check file
+  written-again = ap (written check) written-says
+
+-- and it loads, under settings in range whose check number it was written with (R-11: "its laws being for loads under one check number"), where it isn't too
+-- long (34) and as much is lent as 12 and 13 ask
+module _ (s : Settings) (file : List ℕ) (number : ℤ) (cells saved entities : List ℕ) where
+  abbrev check : ℕ
+  check = s .«check_number»
+
+  pub written-loads : settingsFit s ≡ true → Accepted file → length (image check file) ≤ longestFile → Lent file number cells saved entities
+      → load s (image check file) number cells saved entities ≡ accepted (loaded s (image check file) (entitiesGiven number) cells saved entities)
+  unfolding load cellConditions
+  written-loads fit a short lent =
+      let rows = load-rows leastCells (a .settings .«check_number») file (entitiesGiven (a .number)) (length (a .cells)) (length (a .saved)) (length (a .entities)) (accepted-all _ _ _ (a .loads) .0 .1) in
+      let w : List ℕ = image check file in
+      let hs : Conditions = headerConditions check w in
+      let rs : Conditions = recordConditions (fileOf w .strings .count) (contentsOf w) in
+      let cs : Conditions = cellConditions leastCells (fileOf w) (length cells) (length saved) in
+      let es : Conditions = entityConditions (fileOf w) (entitiesGiven number) (length entities) in
+      let of-header : All hs = header-loads check (contentsOf file) (eight file) short in
+      let of-records : All rs = rw (written-says check file, strings-written check file) (rows .records) in
+      let of-lent = and-both (leb (fileOf file .globals .count) (length cells)) (leb savedStore (length saved)) (le-leb _ _ (lent .enough)) (le-leb _ _ (lent .store)) in
+      let of-cells : All cs = rw (cells-written check file, entities-written check file) (rows .cells .0, (rows .cells .1 .0, (of-lent, tt))) in
+      let of-entities : All es = rw (entities-written check file) (lent .fields, tt) in
+      guard-accepts ((settingsFit s otherwise 36) ∷ hs ++ rs ++ cs ++ es) (loaded s w (entitiesGiven number) cells saved entities)
+      (fit, all-both (hs ++ rs ++ cs) es (all-both (hs ++ rs) cs (all-both hs rs of-header of-records) of-cells) of-entities)
+
+  -- with the same cells as a load of the file itself leaves
+  pub written-starts : loaded s (image check file) (entitiesGiven number) cells saved entities .cells ≡ loaded s file (entitiesGiven number) cells saved entities .cells
+  unfolding loaded
+  written-starts = rw (written-says check file, cells-written check file) refl
 
 -- "Two accepted files with the same contents apart from profile numbers and placement are written alike": contents have neither, so files have the same
 -- contents apart from them exactly where their `contentsOf` is the same. Also the other way: files that are written alike say the same.
-pub written-alike : (file file′ : List ℕ) → contentsOf file ≡ contentsOf file′ → image file ≡ image file′
-written-alike file file′ e = ap (written checkNumber) e
+pub written-alike : (check : ℕ) (file file′ : List ℕ) → contentsOf file ≡ contentsOf file′ → image check file ≡ image check file′
+written-alike check file file′ e = ap (written check) e
 
-pub alike-says : (file file′ : List ℕ) → image file ≡ image file′ → contentsOf file ≡ contentsOf file′
-alike-says file file′ e = sym (written-says file) ∙ ap contentsOf e ∙ written-says file′
+pub alike-says : (check : ℕ) (file file′ : List ℕ) → image check file ≡ image check file′ → contentsOf file ≡ contentsOf file′
+alike-says check file file′ e = sym (written-says check file) ∙ ap contentsOf e ∙ written-says check file′
 
 -- ---- the operation
 
-module _ (file output : List ℕ) where
+module _ (file output : List ℕ) (c : Config) where
+  -- the check number that the state holds
+  abbrev held : ℕ
+  held = c .state .settings .«check_number»
+
   -- what an accepted one leaves: the written file at the front of the output buffer, whose other bytes stay
   pub record Writes (i : Image) : Type 0 where
-    pub size : i .length ≡ length (image file)
-    pub front : take (i .length) (i .output) ≡ image file
+    pub size : i .length ≡ length (image held file)
+    pub front : take (i .length) (i .output) ≡ image held file
     pub rest : drop (i .length) (i .output) ≡ drop (i .length) output
     pub room : i .length ≤ length output
     pub short : i .length ≤ longestFile
 
-  pub accepted-writes : (c : Config) (i : Image) → writeFile file output c ≡ accepted i → Writes i
+  pub accepted-writes : (i : Image) → writeFile file output c ≡ accepted i → Writes i
   unfolding writeFile writeConditions
-  accepted-writes c i e =
+  accepted-writes i e =
       let all = accepted-all _ _ _ e in
-      let fits : Bool = leb (length (image file)) (length output) in
-      let short : Bool = leb (length (image file)) longestFile in
-      let made : placed (image file) output ≡ i = all .1 in
+      let fits : Bool = leb (length (image held file)) (length output) in
+      let short : Bool = leb (length (image held file)) longestFile in
+      let made : placed (image held file) output ≡ i = all .1 in
       subst Writes made
       (record {
         size = refl;
-        front = take-at (image file) (drop (length (image file)) output) (length (image file)) refl;
-        rest = drop-at (image file) (drop (length (image file)) output) (length (image file)) refl;
+        front = take-at (image held file) (drop (length (image held file)) output) (length (image held file)) refl;
+        rest = drop-at (image held file) (drop (length (image held file)) output) (length (image held file)) refl;
         room = leb-true _ _ (and-left fits short (all .0 .1 .0));
         short = leb-true _ _ (and-right fits short (all .0 .1 .0));
       })
 
-  -- and what was written is loaded: the whole sentence, of the bytes in the buffer
-  pub written-is-loaded : Accepted file → (c : Config) (i : Image) → writeFile file output c ≡ accepted i
-      → (number : ℤ) (cells saved entities : List ℕ) → Lent file number cells saved entities
-      → (load (take (i .length) (i .output)) number cells saved entities ≡ accepted (loaded (image file) (entitiesGiven number) cells saved entities))
+  -- and what was written is loaded under the check number held: the whole sentence, of the bytes in the buffer
+  pub written-is-loaded : Accepted file → (i : Image) → writeFile file output c ≡ accepted i
+      → (s : Settings) → settingsFit s ≡ true → s .«check_number» ≡ held → (number : ℤ) (cells saved entities : List ℕ) → Lent file number cells saved entities
+      → (load s (take (i .length) (i .output)) number cells saved entities ≡ accepted (loaded s (image held file) (entitiesGiven number) cells saved entities))
       × (contentsOf (take (i .length) (i .output)) ≡ contentsOf file)
-  written-is-loaded a c i e number cells saved entities lent =
-      let w = accepted-writes c i e in
-      let short : length (image file) ≤ longestFile = rw (w .size) at (w .short) in
-      rw (w .front) (written-loads file number cells saved entities a short lent, written-says file)
+  written-is-loaded a i e s fit same number cells saved entities lent =
+      let w = accepted-writes i e in
+      let short : length (image held file) ≤ longestFile = rw (w .size) at (w .short) in
+      rw (w .front) (
+        subst (λ (check : ℕ). load s (image check file) number cells saved entities ≡ accepted (loaded s (image check file) (entitiesGiven number) cells saved entities)) same
+            (written-loads s file number cells saved entities fit a (rw (← same) at short) lent),
+        written-says held file,
+      )
 
   -- ---- accepted exactly when, refused exactly when
 
   -- 13 before 34, whatever the output buffer is
-  pub refuses-13 : (c : Config) → sound (programOf file) c ≡ false → writeFile file output c ≡ refused 13
+  pub refuses-13 : sound (programOf file) c ≡ false → writeFile file output c ≡ refused 13
   unfolding writeFile writeConditions
-  refuses-13 c e = guard-refuses _ _ 12 (inl (e, refl))
+  refuses-13 e = guard-refuses _ _ 12 (inl (e, refl))
 
   -- a written file that is longer than the output buffer, or than any file may be
-  pub refuses-34 : (c : Config) → sound (programOf file) c ≡ true → (leb (length (image file)) (length output) && leb (length (image file)) longestFile) ≡ false
+  pub refuses-34 : sound (programOf file) c ≡ true → (leb (length (image held file)) (length output) && leb (length (image held file)) longestFile) ≡ false
       → writeFile file output c ≡ refused 34
   unfolding writeFile writeConditions
-  refuses-34 c e h = guard-refuses _ _ 33 (inr (e, inl (h, refl)))
+  refuses-34 e h = guard-refuses _ _ 33 (inr (e, inl (h, refl)))
 
-  pub accepts : (c : Config) → sound (programOf file) c ≡ true → length (image file) ≤ length output → length (image file) ≤ longestFile
-      → writeFile file output c ≡ accepted (placed (image file) output)
+  pub accepts : sound (programOf file) c ≡ true → length (image held file) ≤ length output → length (image held file) ≤ longestFile
+      → writeFile file output c ≡ accepted (placed (image held file) output)
   unfolding writeFile writeConditions
-  accepts c e room short =
-      guard-accepts _ _ (e, (and-both (leb (length (image file)) (length output)) (leb (length (image file)) longestFile) (le-leb _ _ room) (le-leb _ _ short), tt))
+  accepts e room short =
+      guard-accepts _ _ (e, (and-both (leb (length (image held file)) (length output)) (leb (length (image held file)) longestFile) (le-leb _ _ room) (le-leb _ _ short), tt))
 
   -- ---- what is answered, and the output buffer after it: one of these three
 
-  pub answers-13 : (c : Config) → sound (programOf file) c ≡ false
+  pub answers-13 : sound (programOf file) c ≡ false
       → writeOutcome output (writeFile file output c) ≡ record { answer = write.Refused 13; output = output }
-  answers-13 c e = rw (refuses-13 c e) refl
+  answers-13 e = rw (refuses-13 e) refl
 
-  pub answers-34 : (c : Config) → sound (programOf file) c ≡ true → (leb (length (image file)) (length output) && leb (length (image file)) longestFile) ≡ false
+  pub answers-34 : sound (programOf file) c ≡ true → (leb (length (image held file)) (length output) && leb (length (image held file)) longestFile) ≡ false
       → writeOutcome output (writeFile file output c) ≡ record { answer = write.Refused 34; output = output }
-  answers-34 c e h = rw (refuses-34 c e h) refl
+  answers-34 e h = rw (refuses-34 e h) refl
 
-  pub answers-length : (c : Config) → sound (programOf file) c ≡ true → length (image file) ≤ length output → length (image file) ≤ longestFile
+  pub answers-length : sound (programOf file) c ≡ true → length (image held file) ≤ length output → length (image held file) ≤ longestFile
       → writeOutcome output (writeFile file output c)
-      ≡ record { answer = write.Length (length (image file)); output = image file ++ drop (length (image file)) output }
-  answers-length c e room short = rw (accepts c e room short) refl
+      ≡ record { answer = write.Length (length (image held file)); output = image held file ++ drop (length (image held file)) output }
+  answers-length e room short = rw (accepts e room short) refl
 
   -- "and nothing is written"
-  pub refused-keeps : (c : Config) (n : ℕ) → writeFile file output c ≡ refused n → writeOutcome output (writeFile file output c) .output ≡ output
-  refused-keeps c n e = rw e refl
+  pub refused-keeps : (n : ℕ) → writeFile file output c ≡ refused n → writeOutcome output (writeFile file output c) .output ≡ output
+  refused-keeps n e = rw e refl

@@ -238,6 +238,6 @@ same-lumps r r′ file file′ fit fit′ same =
     all
 
 -- "Two accepted files with the same contents apart from profile numbers and placement are written alike"
-pub same-lumps-alike : (file file′ : List ℕ) → AllFit (length file) (fileOf file) → AllFit (length file′) (fileOf file′) → SameLumps (fileOf file) file (fileOf file′) file′
-    → image file ≡ image file′
-same-lumps-alike file file′ fit fit′ same = written-alike file file′ (same-lumps (fileOf file) (fileOf file′) file file′ fit fit′ same)
+pub same-lumps-alike : (check : ℕ) (file file′ : List ℕ) → AllFit (length file) (fileOf file) → AllFit (length file′) (fileOf file′) → SameLumps (fileOf file) file (fileOf file′) file′
+    → image check file ≡ image check file′
+same-lumps-alike check file file′ fit fit′ same = written-alike check file file′ (same-lumps (fileOf file) (fileOf file′) file file′ fit fit′ same)

@@ -9,7 +9,7 @@ use lib.ListN.{length}
 use Rattle.definition.specs.declared.WriteAnswer.the-variants.{Length, Refused}
 use Rattle.definition.specs.Checks.{judge}
 use Rattle.definition.specs.File.{checkNumber, leastToPad, mostCells, savedStore, contentsAt}
-use Rattle.definition.specs.Load.{loadConditions}
+use Rattle.definition.specs.Load.{fileConditions}
 use Rattle.definition.specs.Written.{written, padded, paddedFile}
 use Rattle.text.specs.Output.{Output}
 use Rattle.loader.proofs.Loads.{Loads, loads}
@@ -19,23 +19,23 @@ use Rattle.padding.proofs.pad.Tie as tie
 
 -- no condition of a load fails
 
-clear : (c : tie.Else2) → judge (loadConditions leastToPad (now (c .before .before .before .before .before .args .file)) 0 mostCells savedStore 0) ≡ 0
-clear c = sym (c .before .load-refusal .ensures) ∙ c .if2 .left
+clear : (c : tie.Else2) → judge (fileConditions leastToPad checkNumber (now (c .before .before .before .before .before .args .file)) 0 mostCells savedStore 0) ≡ 0
+clear c = sym (c .before .file-refusal .ensures) ∙ c .if2 .left
 
 here : (c : tie.After-file-of) → Loads (now (c .before .before .before .before .before .before .args .file)) mostCells (c .file-of .result)
-here c = loads _ _ _ _ _ _ _ (clear (c .before)) (c .file-of .ensures)
+here c = loads _ _ _ _ _ _ _ _ (clear (c .before)) (c .file-of .ensures)
 
 returns : tie.Need-returns
 returns c = (at-front _ (c .before .before .refused-line .ensures .0) (too-long _ (c .before .before .before .before .if1 .taken)), omega (arith, c .before .before .refused-line .ensures .1))
 
 returns-2 : tie.Need-returns-2
 returns-2 c = (
-  at-front _ (c .before .before .refused-line2 .ensures .0) (load-refused _ (c .before .before .before .before .before .before .if1 .left) _ (c .before .before .before .before .if2 .taken) (c .before .before .before .before .before .load-refusal .ensures)),
+  at-front _ (c .before .before .refused-line2 .ensures .0) (load-refused _ (c .before .before .before .before .before .before .if1 .left) _ (c .before .before .before .before .if2 .taken) (c .before .before .before .before .before .file-refusal .ensures)),
   omega (arith, c .before .before .refused-line2 .ensures .1),
 )
 
 file-of-requires : tie.Need-file-of-requires
-file-of-requires c κs = loads _ _ _ _ _ _ _ (clear (c)) refl .header
+file-of-requires c κs = loads _ _ _ _ _ _ _ _ (clear (c)) refl .header
 
 write-program-requires : tie.Need-write-program-requires
 write-program-requires c κs =
@@ -65,6 +65,6 @@ returns-4 c =
 pub pad-spec : {M : Type 1} → statement M
 pad-spec =
     tie.close
-    (tie.spec (λ c κs. search needs) (λ c. search needs) returns (λ c κs. search needs) (λ c κs. search needs) (λ c. search needs) returns-2
+    (tie.spec (λ c κs. search needs) (λ c. search needs) returns (λ c. search needs) (λ c κs. search needs) (λ c κs. search needs) (λ c. search needs) returns-2
     file-of-requires (λ c κs. search needs) write-program-requires (λ c. search needs) (λ c. search needs) returns-3 (λ c. search needs)
     (λ c κs. search needs) (λ c. search needs) returns-4)

@@ -1,6 +1,6 @@
 use mathlib.Core.Path.{_≡_, refl, sym, _∙_}
 use Rattle.definition.specs.Checks.{judge}
-use Rattle.definition.specs.Operations.{settingConditions}
+use Rattle.definition.specs.Operations.{pairsConditions}
 use Rattle.pairs.proofs.PairLaws.{none-written, all-good}
 use native.Mathlib.Omega.{arith}
 use borrow.Author.Needs.{needs}
@@ -11,7 +11,7 @@ returns : tie.Need-returns
 returns c = (c .before .numbers-refusal .ensures, none-written (c .before .numbers-refusal .result) _ _ (λ z. omega (arith, c .if1 .taken)))
 
 -- none refuses
-clear : (c : tie.Else1) → judge (settingConditions (c .before .before .before .args .count) (c .before .before .before .args .numbers .now)) ≡ 0
+clear : (c : tie.Else1) → judge (pairsConditions (c .before .before .before .args .count) (c .before .before .before .args .numbers .now)) ≡ 0
 clear c = omega (arith, c .before .numbers-refusal .ensures, c .if1 .left)
 
 write-pairs-requires : tie.Need-write-pairs-requires

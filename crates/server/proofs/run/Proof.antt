@@ -16,7 +16,7 @@ use borrow.Author.Needs.{needs}
 use Rattle.server.proofs.run.Statement.{statement}
 use Rattle.server.proofs.run.Tie as tie
 
-sound-here : (c : tie.Else1) → let s = c .before .before .before .before .before .before .before .before .before in sound (programOf (s .args .file .now)) (config (s .args .context) (s .args .cells .now) (s .args .store .now) (s .args .entities .now)) ≡ true
+sound-here : (c : tie.Else1) → sound (programOf (c .before .before .before .before .before .before .before .before .before .args .file .now)) (config (c .before .before .before .before .before .before .before .before .before .args .context) (c .before .before .before .before .before .before .before .before .before .args .cells .now) (c .before .before .before .before .before .before .before .before .before .args .store .now) (c .before .before .before .before .before .before .before .before .before .args .entities .now)) ≡ true
 sound-here c = sym (c .before .check-state .ensures) ∙ not-false _ (c .if1 .left)
 
 most : (c : tie.After-place-of) → c .place-of .result ≡ placeOf 0 (c .before .before .before .before .before .before .before .before .before .before .args .limit)
@@ -24,9 +24,9 @@ most c =
     let g : SFits w64 (c .before .before .before .before .before .before .before .before .before .before .args .limit) = search needs in
     (rw (toZ-ofZ g) at (c .place-of .ensures))
 
-down : (c : tie.After-place-of2) → let s = c .before .before .before .before .before .before .before .before .before .before .before .before .before in c .place-of2 .result ≡ placeOf (s .args .context .depth) (s .args .target)
+down : (c : tie.After-place-of2) → c .place-of2 .result ≡ placeOf (c .before .before .before .before .before .before .before .before .before .before .before .before .before .before .before .args .context .depth) (c .before .before .before .before .before .before .before .before .before .before .before .before .before .before .before .args .target)
 down c =
-    let g : SFits w64 (c .before .before .before .before .before .before .before .before .before .before .before .before .before .args .target) = search needs in
+    let g : SFits w64 (c .before .before .before .before .before .before .before .before .before .before .before .before .before .before .before .args .target) = search needs in
     (rw (toZ-ofZ g) at (c .place-of2 .ensures))
 
 returns : tie.Need-returns
@@ -34,27 +34,26 @@ returns c = run-13 _ _ _ _ _ _ _ _ (sym (c .before .before .check-state .ensures
 
 returns-2 : tie.Need-returns-2
 returns-2 c =
-    let m = c .before .before in
     ⊎-elim
-    (λ z. run-28-none _ _ _ _ _ _ _ (sound-here (c .before .before .before)) (file-room _) _ (most m) (z .taken) _ (c .not-run2 .ensures))
-    (λ z. run-28-over _ _ _ _ _ _ _ (sound-here (c .before .before .before)) (file-room _) _ (most m) (ltb-true _ _ (z .1 .taken)) _ (c .not-run2 .ensures))
+    (λ z. run-28-none _ _ _ _ _ _ _ (sound-here (c .before .before .before .before)) (file-room _) _ (most (c .before .before .before)) (z .taken) _ (c .not-run2 .ensures))
+    (λ z. run-28-over _ _ _ _ _ _ _ (sound-here (c .before .before .before .before)) (file-room _) _ (most (c .before .before .before)) (ltb-true _ _ (z .2 .taken)) _ (c .not-run2 .ensures))
     (c .before .if2 .came)
 
 returns-3 : tie.Need-returns-3
 returns-3 c =
-    let m = c .before .before .before .before .before .before in
-    run-29 _ _ _ _ _ _ _ (sound-here (c .before .before .before .before .before .before .before)) (file-room _) _ (most m) (c .before .before .before .before .before .if2 .left) (ltb-false _ _ (c .before .before .before .before .if3 .left)) _ (down (c .before .before .before)) (c .before .if4 .taken) _ (c .not-run3 .ensures)
+    run-29 _ _ _ _ _ _ _ (sound-here (c .before .before .before .before .before .before .before .before .before)) (file-room _) _ (most (c .before .before .before .before .before .before .before .before)) (c .before .before .before .before .before .before .if2 .left) (ltb-false _ _ (c .before .before .before .before .if3 .left)) _ (down (c .before .before .before)) (c .before .if4 .taken) _ (c .not-run3 .ensures)
 
 cast-run-for : tie.Need-cast-run-for
-cast-run-for c = let few = ltb-false 99999 (c .before .before .before .before .before .place-of .result) (c .before .before .before .if3 .left) in omega (arith, few)
+cast-run-for c =
+    let few = ltb-false (c .before .before .before .before .before .before .before .before .before .before .before .before .before .before .before .before .before .args .context .settings .limit) (c .before .before .before .before .before .before .before .place-of .result) (c .before .before .before .if3 .left) in
+    omega (arith, few, passed _ _ _ _ _ (sound-here (c .before .before .before .before .before .before .before .before)) .range .limit-most)
 
 run-for-requires : tie.Need-run-for-requires
-run-for-requires c κs = (passed _ _ _ _ _ (sound-here (c .before .before .before .before .before .before .before .before .before)), λ h. absurd (omega (arith, h, c .before .before .before .if4 .left)))
+run-for-requires c κs = (passed _ _ _ _ _ (sound-here (c .before .before .before .before .before .before .before .before .before .before .before)), λ h. absurd (omega (arith, h, c .before .before .before .if4 .left)))
 
 returns-4 : tie.Need-returns-4
 returns-4 c =
-    let m = c .before .before .before .before .before .before .before .before .before .before .before .before .before .before .before in
-    run-goes _ _ _ _ _ _ _ (sound-here (c .before .before .before .before .before .before .before .before .before .before .before .before .before .before .before .before)) (file-room _) _ (most m) (c .before .before .before .before .before .before .before .before .before .before .before .before .before .before .if2 .left) (ltb-false _ _ (c .before .before .before .before .before .before .before .before .before .before .before .before .before .if3 .left)) _ (down (c .before .before .before .before .before .before .before .before .before .before .before .before)) (c .before .before .before .before .before .before .before .before .before .before .if4 .left) _ (c .before .before .before .before .before .before .run-for .ensures)
+    run-goes _ _ _ _ _ _ _ (sound-here (c .before .before .before .before .before .before .before .before .before .before .before .before .before .before .before .before .before .before)) (file-room _) _ (most (c .before .before .before .before .before .before .before .before .before .before .before .before .before .before .before .before .before)) (c .before .before .before .before .before .before .before .before .before .before .before .before .before .before .before .if2 .left) (ltb-false _ _ (c .before .before .before .before .before .before .before .before .before .before .before .before .before .if3 .left)) _ (down (c .before .before .before .before .before .before .before .before .before .before .before .before)) (c .before .before .before .before .before .before .before .before .before .before .if4 .left) _ (c .before .before .before .before .before .before .run-for .ensures)
 
 pub run-spec : {M : Type 1} → statement M
 run-spec =

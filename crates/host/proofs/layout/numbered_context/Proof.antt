@@ -18,20 +18,20 @@ abbrev μ-loop : tie.MeasureT-loop
 loop-holds : tie.Need-loop-holds Inv-loop μ-loop
 loop-holds c = (frames-start, search needs)
 
-mul-t7 : tie.Need-mul-t7 Inv-loop μ-loop
-mul-t7 c = search needs
+mul-t8 : tie.Need-mul-t8 Inv-loop μ-loop
+mul-t8 c = search needs
 
-add-t8 : tie.Need-add-t8 Inv-loop μ-loop
-add-t8 c = search needs
+add-t9 : tie.Need-add-t9 Inv-loop μ-loop
+add-t9 c = search needs
 
-cast-t9 : tie.Need-cast-t9 Inv-loop μ-loop
-cast-t9 c = search needs
+cast-t10 : tie.Need-cast-t10 Inv-loop μ-loop
+cast-t10 c = search needs
 
-mul-t10 : tie.Need-mul-t10 Inv-loop μ-loop
-mul-t10 c = search needs
+mul-t11 : tie.Need-mul-t11 Inv-loop μ-loop
+mul-t11 c = search needs
 
-add-t11 : tie.Need-add-t11 Inv-loop μ-loop
-add-t11 c = search needs
+add-t12 : tie.Need-add-t12 Inv-loop μ-loop
+add-t12 c = search needs
 
 mul-frames : tie.Need-mul-frames Inv-loop μ-loop
 mul-frames c = search needs
@@ -51,10 +51,13 @@ loop-again c = (frames-on _ _ _ (c .before .loop .inv .0) (toZ-pos w64 (omega ar
 numbered-file-requires : tie.Need-numbered-file-requires Inv-loop μ-loop
 numbered-file-requires c κs = search needs
 
+numbered-settings-requires : tie.Need-numbered-settings-requires Inv-loop μ-loop
+numbered-settings-requires c κs = search needs
+
 returns : tie.Need-returns Inv-loop μ-loop
 returns c =
-    let e = c .before in
-    rw (c .numbered-file .ensures, frames-all _ _ (e .before .loop .inv .0) (e .before .loop .inv .1) (search needs))
+    let e = c .before .before in
+    rw (c .before .numbered-file .ensures, c .numbered-settings .ensures, frames-all _ _ (e .before .loop .inv .0) (e .before .loop .inv .1) (search needs))
 
 pub numbered-context-spec : {M : Type 1} → statement M
 numbered-context-spec =
@@ -63,15 +66,16 @@ numbered-context-spec =
     Inv-loop
     μ-loop
     loop-holds
-    mul-t7
-    add-t8
-    cast-t9
-    mul-t10
-    add-t11
+    mul-t8
+    add-t9
+    cast-t10
+    mul-t11
+    add-t12
     mul-frames
     array-set-from-frames
     add-i
     loop-less
     loop-again
     numbered-file-requires
+    numbered-settings-requires
     returns)

@@ -11,7 +11,7 @@ use Rattle.progs.proofs.ExecutionContext.enter_function.Statement.{stat
 use Rattle.progs.proofs.ExecutionContext.enter_function.Tie as tie
 
 -- what the cells' part did, in terms of the context
-did : (c : tie.After-enter-cells) → let s = c .before .before .before .before .before .before .before .before in entryOf (c .enter-cells .result) (c .enter-cells .last .1 .1 .1 .1 .1 .0) (c .enter-cells .last .1 .1 .1 .1 .1 .1 .0) ≡ entering (programOf (s .args .file .now)) (s .args .f) (s .args .self) (s .args .cells .now) (s .args .store .now)
+did : (c : tie.After-enter-cells) → let s = c .before .before .before .before .before .before .before .before in entryOf (c .enter-cells .result) (c .enter-cells .last .1 .1 .1 .1 .1 .1 .0) (c .enter-cells .last .1 .1 .1 .1 .1 .1 .1 .0) ≡ entering (programOf (s .args .file .now)) (s .args .f) (s .args .self) (s .args .cells .now) (s .args .store .now)
 did c =
     let s = c .before .before .before .before .before .before .before .before in
     c .enter-cells .ensures (programOf (s .args .file .now)) (functions-here _ _ (s .pre .loaded) _ (c .before .before .before .before .functions .ensures)) ∙ by-count _ _ _ _ _ _ (c .before .before .before .cell-count .ensures)
@@ -20,7 +20,7 @@ returns : tie.Need-returns
 returns c = λ entities. refused-entry _ _ _ _ _ _ _ _ (did (c .before .before .before .before .before .before .before)) (c .before .if1 .taken) entities _ _ (c .refused .ensures)
 
 push-frame-requires : tie.Need-push-frame-requires
-push-frame-requires c κs = entry-room _ _ _ _ _ _ _ _ (did (c .before .before .before .before .before .before .before)) (c .before .if1 .left)
+push-frame-requires c κs = entry-room _ _ _ _ _ _ _ _ (did (c .before .before .before .before .before .before .before)) (c .before .if1 .left) (c .before .before .before .before .before .before .before .before .before .before .before .before .before .before .before .pre .range)
 
 returns-2 : tie.Need-returns-2
 returns-2 c =
