@@ -2,7 +2,7 @@
 -- acceptance away, and a run is begun, a cell read or written, a function entered, a handed-over statement carried on and the program written from wherever
 -- the row's conditions hold.
 use Prim.Native.Nat.{ℕ, suc, _+_}
-use mathlib.Core.Path.{_≡_, subst}
+use mathlib.Core.Path.{_≡_, refl, subst}
 use mathlib.Core.Logic.{inr}
 use mathlib.Core.List.{List, [], _∷_, _++_}
 use mathlib.Core.Bool.{true}
@@ -15,10 +15,11 @@ use Rattle.definition.specs.Checks.{Condition, Conditions, _otherwise_, judge, 
 use Rattle.definition.specs.File.{fileOf}
 use Rattle.definition.specs.Statements.{placeOf}
 use Rattle.definition.specs.Machine.{Program, Config, entitiesOf, countOf, withCells, advanced, entryConditions, entered, step, Ran, runFor}
-use Rattle.definition.specs.Load.{load, programOf}
+use Rattle.definition.specs.Load.{load, programWith, programOf}
 use Rattle.definition.specs.Operations.{sound, natural, below, permitted, isHandedOver, hostEnter, statement, runConditions, run, carryOnConditions, carryOn, rawRead, rawWrite, pairsConditions, pairsWritten, writeAll}
 use Rattle.definition.specs.Written.{roomConditions, placed, image, writeConditions, writeFile}
 use Rattle.definition.specs.Calls.{Call}
+use Rattle.definition.specs.Unpacked.{AllReady}
 use Rattle.definition.specs.Trace.{Always}
 use Rattle.definition.specs.CheckLaws.{All, FailsFirst, judge-all, judge-first, WhenAccepted}
 use Rattle.definition.specs.Invariant.{always, roomIn}
@@ -71,11 +72,11 @@ module _ (file : List ℕ) (c : Config) where
     without-13 cs a = rw passes (exactly cs a)
 
     run-decides : (target limit : ℤ) → RunExactly (runRow target limit) c (runFor P (natural limit) (natural target) c) (run P target limit c)
-    unfolding run runConditions
+    unfolding run runConditions programWith
     run-decides target limit =
         record {
-          begins = λ h. rw (judge-all (runConditions P target limit c) (passes, h));
-          refuses = λ n f. rw (judge-first (runConditions P target limit c) (suc n) (inr (passes, f)));
+          begins = λ h. rw (judge-all (runConditions P target limit c) (passes, (refl, h)));
+          refuses = λ n f. rw (judge-first (runConditions P target limit c) (suc n) (inr (passes, inr (refl, f))));
         }
 
     -- the file's count of cells, for the count that the state records
@@ -97,16 +98,16 @@ module _ (file : List ℕ) (c : Config) where
         }
 
 pub row-always-decides : (s : Settings) (file : List ℕ) (n : ℤ) (cells saved entities : List ℕ) (c : Config) → load s file n cells saved entities ≡ accepted c
-    → (calls : List Call)
+    → (calls : List Call) → AllReady file calls
     → Always file AnyStep (λ c′ l. Suffice file c′ → RowDecides file c′) c [] calls
-row-always-decides s file n cells saved entities c accepts calls =
+row-always-decides s file n cells saved entities c accepts calls ready =
     always file (λ c′ l. Consistent file c′) AnyStep (consistent-inductive file) (λ c′ l. Suffice file c′ → RowDecides file c′) (λ c′ l k lent. decides file c′ k lent)
-    c [] calls (subst (WhenAccepted (Consistent file)) accepts (loaded-consistent s file n cells saved entities))
+    c [] calls ready (subst (WhenAccepted (Consistent file)) accepts (loaded-consistent s file n cells saved entities))
 
 -- so in a list in which every lending is of entity cells enough, or in one without lendings, it always decides
 pub row-decides-lent : (s : Settings) (file : List ℕ) (n : ℤ) (cells saved entities : List ℕ) (c : Config) → load s file n cells saved entities ≡ accepted c
-    → (calls : List Call) → LendEnough (roomIn file c) calls
+    → (calls : List Call) → AllReady file calls → LendEnough (roomIn file c) calls
     → Always file AnyStep (λ c′ l. RowDecides file c′) c [] calls
-row-decides-lent s file n cells saved entities c accepts calls lent =
+row-decides-lent s file n cells saved entities c accepts calls ready lent =
     while-enough file AnyStep (λ c′ l. Suffice file c′ → RowDecides file c′) (λ c′ l. RowDecides file c′) (λ c′ l decides enough. decides enough)
-    c [] calls (load-suffices s file n cells saved entities c accepts) lent (row-always-decides s file n cells saved entities c accepts calls)
+    c [] calls ready (load-suffices s file n cells saved entities c accepts) lent (row-always-decides s file n cells saved entities c accepts calls ready)
