@@ -20,10 +20,10 @@ use std::fs;
 use std::hint::black_box;
 use std::process::ExitCode;
 
-use host::{write_load_file, Machine, Program, Settings, CELLS, IMAGE, LOAD_FILE, SAVED_STORE};
-
-/// The most that a call may take.
-const LIMIT: i64 = 99_999;
+use host::{
+    write_load_file, Machine, Program, Settings, CELLS, GREATEST_LIMIT, IMAGE, LOAD_FILE,
+    SAVED_STORE,
+};
 
 const FUNCTION: i64 = 1;
 const CELL: i64 = 28;
@@ -35,7 +35,7 @@ const SEED: u32 = 2_463_534_242;
 const MOST_DRAWN: i64 = 1_000;
 
 fn run(machine: &mut Machine) -> Result<String, Box<dyn Error>> {
-    let count = machine.call(FUNCTION, LIMIT, |_, _| Err("no builtins here"))?;
+    let count = machine.call(FUNCTION, GREATEST_LIMIT, |_, _| Err("no builtins here"))?;
     let cells = [1, 2, 3].map(|cell| format!("{:08x}", machine.cells()[cell]));
     Ok(format!(
         "ended,0,{count},{},{},{},{},{}",
@@ -49,7 +49,9 @@ fn run(machine: &mut Machine) -> Result<String, Box<dyn Error>> {
 
 /// A call whose builtins answer 1.0, and how many statements it took.
 fn call(machine: &mut Machine) -> Result<u32, Box<dyn Error>> {
-    Ok(machine.call(FUNCTION, LIMIT, |_, machine| machine.write_float(1, 1.0))?)
+    Ok(machine.call(FUNCTION, GREATEST_LIMIT, |_, machine| {
+        machine.write_float(1, 1.0)
+    })?)
 }
 
 /// Reads or writes of a field, and what the last column says.
@@ -129,7 +131,10 @@ fn bench(words: &[String]) -> Result<String, Box<dyn Error>> {
     let entity_cells = vec![0; usize::try_from(entities)? * Program::new(&program).entity_cells()];
     let mut machine =
         Machine::with_entities(program, vec![0; CELLS], vec![0; SAVED_STORE], entity_cells);
-    machine.load_with(Settings { entities })?;
+    machine.load_with(Settings {
+        entities,
+        ..Settings::default()
+    })?;
     measured(what, &mut machine, times.parse()?)
 }
 

@@ -14,7 +14,7 @@ const ENTITY: u16 = 4;
 const FIELD: u16 = 5;
 const FUNCTION: u16 = 6;
 
-/// The most statements that one call may take.
+/// The venue's greatest run limit: the most statements that one call may take.
 const LIMIT: i64 = 10_000;
 
 /// The match: how many rounds it has, how many points end it before, and where it is played.
@@ -161,7 +161,7 @@ fn call(machine: &mut Machine, world: &mut World, name: &str) -> bool {
         println!("the rules have no {name}");
         return false;
     };
-    let called = machine.call(function, LIMIT, |handover, machine| {
+    let called = machine.call(function, machine.settings().limit, |handover, machine| {
         world.answer(handover, machine)
     });
     if let Err(error) = &called {
@@ -198,9 +198,8 @@ fn kick_off() -> Result<Machine, Box<dyn Error>> {
     let entity_cells = vec![0; entities * Program::new(&program).entity_cells()];
     let mut machine =
         Machine::with_entities(program, vec![0; CELLS], vec![0; SAVED_STORE], entity_cells);
-    machine.load_with(Settings {
-        entities: entities as i64,
-    })?;
+    let settings = Settings::default().with_limit(LIMIT)?;
+    machine.load_with(settings.with_entities(entities as i64)?)?;
     for (player, (name, team)) in (1..).zip(PLAYERS) {
         let netname = machine.find_text(name).ok_or("a player without a name")?;
         machine.field_mut(player, "netname")?.set_text(netname)?;

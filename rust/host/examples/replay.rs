@@ -49,7 +49,7 @@ enum Change {
 
 /// A call of the machine.
 enum Call {
-    Load(i64),
+    Load(Settings),
     Enter(i64),
     Statement,
     Run(i64, i64),
@@ -166,7 +166,7 @@ fn operate(machine: &mut Machine, last: &mut Run, call: Call) -> Result<String, 
         Err(refusal) => refused(refusal),
     };
     Ok(match call {
-        Call::Load(entities) => match machine.load_with(Settings { entities }) {
+        Call::Load(settings) => match machine.load_with(settings) {
             Ok(()) => "ok".to_string(),
             Err(LoadError::Refused(refusal)) => refused(refusal),
             Err(error) => return Err(error),
@@ -258,7 +258,17 @@ fn parse_call(words: &[&str]) -> Option<Call> {
         return pairs(numbers).map(Call::Pairs);
     }
     Some(match *words {
-        ["load", entities] => Call::Load(number(entities)?),
+        ["load", entities] => Call::Load(Settings {
+            entities: number(entities)?,
+            ..Settings::default()
+        }),
+        ["load", entities, check_number, depth, saved, limit] => Call::Load(Settings {
+            entities: number(entities)?,
+            check_number: number(check_number)?,
+            depth: number(depth)?,
+            saved: number(saved)?,
+            limit: number(limit)?,
+        }),
         ["enter", function] => Call::Enter(number(function)?),
         ["statement"] => Call::Statement,
         ["run", target, limit] => Call::Run(number(target)?, number(limit)?),
@@ -305,6 +315,15 @@ fn low_bits(word: &str) -> Option<u32> {
     Some(number as u32)
 }
 
+/// A line that is none. Of a load it says what may be left out, since that is either all four settings or none.
+fn no_call(number: usize, line: &str) -> io::Error {
+    let mut message = format!("line {number} is no call: {line}");
+    if line.split_whitespace().next() == Some("load") {
+        message += " (a load takes a number E, or five: E CHECK DEPTH SAVED LIMIT)";
+    }
+    io::Error::new(io::ErrorKind::InvalidData, message)
+}
+
 /// Performs all calls of the input; an error names the line that is none. Empty lines and lines that begin with `#`
 /// are passed over.
 pub fn replay(program: Vec<u8>, input: impl BufRead, mut output: impl Write) -> io::Result<()> {
@@ -321,10 +340,7 @@ pub fn replay(program: Vec<u8>, input: impl BufRead, mut output: impl Write) -> 
                 let answer = replay.call(call).map_err(io::Error::other)?;
                 writeln!(output, "{line} => {answer}")?;
             }
-            None => {
-                let message = format!("line {} is no call: {line}", number + 1);
-                return Err(io::Error::new(io::ErrorKind::InvalidData, message));
-            }
+            None => return Err(no_call(number + 1, line)),
         }
     }
     output.flush()

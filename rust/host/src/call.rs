@@ -90,11 +90,13 @@ impl Machine {
     /// Enters a function, runs it to its end, and gives how many statements that took.
     ///
     /// What is handed over goes to `host`, which carries it out through a [`Caller`]; then the run goes on after it. `host`
-    /// may call functions of the program itself, and may give the call up with an error of its own. `limit`, 1 to
-    /// 99,999, is for the whole call: what runs inside, `host`'s own calls apart, completes at most so many
-    /// statements, and what `host` carried out counts as one. However the call ends, by a panic of `host` too, the call
-    /// depth is again what it was, and so are the position, the current function and the local cells of all that was
-    /// entered.
+    /// may call functions of the program itself, and may give the call up with an error of its own. However the call ends, by
+    /// a panic of `host` too, the call depth is again what it was, and so are the position, the current function and the
+    /// local cells of all that was entered.
+    ///
+    /// `limit`, 1 to [`Settings::limit`](crate::Settings::limit), is for the whole call: what runs inside, `host`'s own calls
+    /// apart, completes at most so many statements, and what `host` carried out counts as one. Another limit is refused 28,
+    /// before the first statement; a host that has no reason for a lower one gives `machine.settings().limit`.
     ///
     /// ```
     /// use host::assemble::{Assembly, Function};

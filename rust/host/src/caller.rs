@@ -5,6 +5,7 @@ use crate::field::{Field, FieldError, FieldMut};
 use crate::machine::{Handover, Machine};
 use crate::program::{Definition, Program};
 use crate::refusal::Refusal;
+use crate::settings::Settings;
 
 /// The machine as the closure of a [`Machine::call`] has it: cells, fields of entities, names and texts, and calls of its
 /// own.
@@ -49,6 +50,12 @@ impl<'a> Caller<'a> {
     /// The call depth.
     pub fn depth(&self) -> usize {
         self.machine.depth()
+    }
+
+    /// The settings that the load was given. A call within the call goes by the same depth and saved count, and its limit is at
+    /// most the same [`Settings::limit`].
+    pub fn settings(&self) -> Settings {
+        self.machine.settings()
     }
 
     /// The 32 bits of a cell.

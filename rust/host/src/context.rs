@@ -1,6 +1,6 @@
 //! The context as the library lays it out.
 
-/// The number of frames in a context, and the greatest call depth.
+/// The number of frames in a context, and the greatest call depth that a load may be given.
 pub const FRAMES: usize = 31;
 
 /// Where the records of a part of the file begin, and how many there are.
@@ -35,6 +35,21 @@ pub struct FileRecord {
     pub entityfields: usize,
 }
 
+/// The settings that the load was given, [`Settings`](crate::Settings) without the number of entities. Every operation is
+/// refused 13 where one of them is out of its range; the check number isn't compared with the file's again.
+#[repr(C)]
+#[derive(Clone, Copy, Debug, Default, PartialEq, Eq)]
+pub struct HeldSettings {
+    /// The check number, at most 65,535.
+    pub check_number: usize,
+    /// The greatest call depth, 1 to [`FRAMES`].
+    pub depth: usize,
+    /// The greatest number of saved cells, at most 2,048.
+    pub saved: usize,
+    /// The greatest limit of a run, 1 to 99,999.
+    pub limit: usize,
+}
+
 /// A call that waits.
 #[repr(C)]
 #[derive(Clone, Copy, Debug, Default, PartialEq, Eq)]
@@ -54,13 +69,15 @@ pub struct StackFrame {
 pub struct Context {
     /// What the load recorded of the file.
     pub file: FileRecord,
+    /// The settings that the load was given.
+    pub settings: HeldSettings,
     /// The number of the statement that is next.
     pub pc: i64,
     /// The number of the function that is being executed.
     pub current_function: usize,
-    /// How many frames are in use: the call depth.
+    /// How many frames are in use: the call depth, at most the settings'.
     pub depth: usize,
-    /// How many cells of the saved store are in use.
+    /// How many cells of the saved store are in use, at most as many as the settings say.
     pub saved: usize,
     /// The number of entities, as given at load.
     pub entity_count: usize,

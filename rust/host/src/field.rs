@@ -225,7 +225,7 @@ impl Machine {
     /// file.fields = vec![(2, 49, frags), (1, 74, netname)];
     /// let entities = vec![0; 3 * 105];
     /// let mut machine = Machine::with_entities(file.bytes(), vec![0; CELLS], vec![0; SAVED_STORE], entities);
-    /// machine.load_with(Settings { entities: 3 })?;
+    /// machine.load_with(Settings { entities: 3, ..Settings::default() })?;
     ///
     /// machine.field_mut(2, "frags")?.set_float(7.0)?;
     /// machine.field_mut(2, "netname")?.set_text(flag.into())?;

@@ -84,6 +84,10 @@ fn context_fields() -> Vec<Field> {
     all.extend(fields!(
         Context,
         8,
+        settings.check_number,
+        settings.depth,
+        settings.saved,
+        settings.limit,
         pc,
         current_function,
         depth,
@@ -149,12 +153,12 @@ pub fn compare(bytes: &[u8]) -> Result<(), LayoutError> {
 #[cfg(test)]
 mod tests {
     use super::*;
-    use crate::context::Lump;
+    use crate::context::{HeldSettings, Lump};
     use crate::library::{self, Reply};
 
     #[test]
     fn the_library_has_this_layout() {
-        assert_eq!(fields().len(), 129);
+        assert_eq!(fields().len(), 133);
         assert_eq!(compare(&library::numbered()), Ok(()));
         assert_eq!(library::layout(), Ok(()));
     }
@@ -163,10 +167,11 @@ mod tests {
     fn sizes() {
         assert_eq!(size_of::<Lump>(), 16);
         assert_eq!(size_of::<FileRecord>(), 112);
+        assert_eq!(size_of::<HeldSettings>(), 32);
         assert_eq!(size_of::<StackFrame>(), 16);
-        assert_eq!(size_of::<Context>(), 648);
-        assert_eq!(size_of::<Reply>(), 664);
-        assert_eq!(size_of::<Structs>(), 872);
+        assert_eq!(size_of::<Context>(), 680);
+        assert_eq!(size_of::<Reply>(), 696);
+        assert_eq!(size_of::<Structs>(), 904);
     }
 
     /// A library in which a field lies where another is, or has another size.
@@ -205,7 +210,7 @@ mod tests {
         let error = compare(&shorter).unwrap_err().to_string();
         assert_eq!(
             error,
-            "the library that is linked, libhost.a, isn't this crate's: its context.pc isn't the 8 bytes at 112; \
+            "the library that is linked, libhost.a, isn't this crate's: its context.pc isn't the 8 bytes at 144; \
              `rt staticlib host` in the crate's own repository makes the right one"
         );
         assert!(compare(&[FILL; ROOM]).is_err());

@@ -2,7 +2,7 @@
 //!
 //! A [`Machine`] owns a program file's bytes, the cells, the saved store and the entity cells that it lends to the
 //! library, and the context that the library hands back. Every operation of the library is a method:
-//! [`Machine::load`], or [`Machine::load_with`] a number of entities, [`Machine::enter`], [`Machine::statement`], [`Machine::run`], [`Machine::carry_on`], [`Machine::abandon`],
+//! [`Machine::load`], or [`Machine::load_with`] [`Settings`], [`Machine::enter`], [`Machine::statement`], [`Machine::run`], [`Machine::carry_on`], [`Machine::abandon`],
 //! [`Machine::read`], [`Machine::write`] and [`Machine::image`]. What is refused changes nothing and gives a [`Refusal`], the
 //! number of document 01 or 02 with its sentence. [`Machine::call`] does what a server does with a function: it enters, runs, has
 //! the host answer what is handed over, and leaves the machine at the depth where it was, however the call went.
@@ -57,21 +57,24 @@ mod machine;
 mod program;
 mod refusal;
 mod sentence;
+mod settings;
 
 pub use call::{CallError, Cause};
 pub use caller::Caller;
-pub use context::{Context, FileRecord, Lump, StackFrame, FRAMES};
+pub use context::{Context, FileRecord, HeldSettings, Lump, StackFrame, FRAMES};
 pub use field::{Field, FieldError, FieldMut};
 pub use float_mode::{check_float_mode, FloatModeError};
 pub use layout::LayoutError;
 pub use load_file::{load_file, write_load_file, LOAD_FILE};
 pub use machine::{
-    Handover, Machine, Outcome, Run, RunOutcome, Settings, CELLS, ENTITIES, IMAGE, PAIRS,
-    SAVED_STORE,
+    Handover, Machine, Outcome, Run, RunOutcome, CELLS, ENTITIES, IMAGE, PAIRS, SAVED_STORE,
 };
 pub use program::{Definition, Function, Program};
 pub use refusal::{LoadError, Refusal};
 pub use sentence::DISPLAY;
+pub use settings::{
+    Setting, Settings, SettingsError, CHECK_NUMBER, GREATEST_CHECK_NUMBER, GREATEST_LIMIT,
+};
 
 /// The Rust of docs/EMBEDDING.md, compiled and run with the tests.
 #[cfg(doctest)]

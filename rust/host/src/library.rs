@@ -10,13 +10,13 @@
 //!
 //! A struct of more than 16 bytes is returned through a pointer that the caller gives as the first parameter (System V
 //! ABI for x86-64). The operations are declared so here: each then writes its answer where the machine keeps it, and the
-//! 648 bytes of a context aren't copied once more.
+//! 680 bytes of a context aren't copied once more.
 
 use std::arch::asm;
 use std::mem::MaybeUninit;
 use std::sync::OnceLock;
 
-use crate::context::{Context, FileRecord};
+use crate::context::{Context, FileRecord, HeldSettings};
 use crate::layout::{self, LayoutError};
 use crate::refusal::Refusal;
 
@@ -136,7 +136,7 @@ pub const OPCODE: u32 = 5;
 #[rustfmt::skip]
 extern "C" {
     fn host_layout(out: *mut u8) -> *mut u8;
-    fn host_load(out: *mut Reply, file: *const u8, file_len: usize, number: i64, cells: *mut u32, cells_len: usize, saved: *const u32, saved_len: usize, entities: *const u32, entities_len: usize) -> *mut Reply;
+    fn host_load(out: *mut Reply, settings: HeldSettings, file: *const u8, file_len: usize, number: i64, cells: *mut u32, cells_len: usize, saved: *const u32, saved_len: usize, entities: *const u32, entities_len: usize) -> *mut Reply;
     fn host_enter(out: *mut Reply, context: Context, file: *const u8, file_len: usize, function: i64, cells: *mut u32, cells_len: usize, saved: *mut u32, saved_len: usize, entities: *const u32, entities_len: usize) -> *mut Reply;
     fn host_statement(out: *mut Reply, context: Context, file: *const u8, file_len: usize, cells: *mut u32, cells_len: usize, saved: *mut u32, saved_len: usize, entities: *mut u32, entities_len: usize) -> *mut Reply;
     fn host_run(out: *mut Reply, context: Context, file: *const u8, file_len: usize, target: i64, limit: i64, cells: *mut u32, cells_len: usize, saved: *mut u32, saved_len: usize, entities: *mut u32, entities_len: usize) -> *mut Reply;
@@ -186,13 +186,21 @@ pub fn mxcsr() -> u32 {
     bits
 }
 
-pub fn load(file: &[u8], number: i64, cells: &mut [u32], saved: &[u32], entities: &[u32]) -> Reply {
+pub fn load(
+    settings: HeldSettings,
+    file: &[u8],
+    number: i64,
+    cells: &mut [u32],
+    saved: &[u32],
+    entities: &[u32],
+) -> Reply {
     assert_layout();
     let mut reply = MaybeUninit::uninit();
     // SAFETY: see the module's text. The function writes the whole answer.
     unsafe {
         host_load(
             reply.as_mut_ptr(),
+            settings,
             file.as_ptr(),
             file.len(),
             number,

@@ -4,6 +4,7 @@ use crate::context::{Context, StackFrame};
 use crate::float_mode::check_float_mode;
 use crate::library::{self, Answer, Reply};
 use crate::refusal::{LoadError, Refusal};
+use crate::settings::Settings;
 
 /// The most cells that a file may have; so many are enough to lend to any file.
 pub const CELLS: usize = 32_768;
@@ -70,14 +71,6 @@ pub struct Run {
     pub function: usize,
 }
 
-/// What a load is given beside the file and the buffers. The default is no entities.
-#[derive(Clone, Copy, Debug, Default, PartialEq, Eq, Hash)]
-pub struct Settings {
-    /// The number of entities, 0 to [`ENTITIES`]. Lent are as many entity cells as they have, or more: the file's cells
-    /// per entity for each.
-    pub entities: i64,
-}
-
 /// A program's bytes, the cells, the saved store and the entity cells that are lent to the library, and the context
 /// between calls.
 ///
@@ -124,7 +117,7 @@ impl Machine {
     /// let cells = 33 * Program::new(&program).entity_cells();
     /// let mut machine =
     ///     Machine::with_entities(program, vec![0; CELLS], vec![0; SAVED_STORE], vec![0; cells]);
-    /// machine.load_with(Settings { entities: 33 })?;
+    /// machine.load_with(Settings { entities: 33, ..Settings::default() })?;
     /// assert_eq!((machine.entity_count(), machine.entity_cells()), (33, 105));
     /// # Ok::<(), host::LoadError>(())
     /// ```
@@ -145,7 +138,7 @@ impl Machine {
 
     // ---- the operations
 
-    /// [`Machine::load_with`] the default settings: no entities.
+    /// [`Machine::load_with`] the default settings: document 01's, and no entities.
     pub fn load(&mut self) -> Result<(), LoadError> {
         self.load_with(Settings::default())
     }
@@ -153,13 +146,15 @@ impl Machine {
     /// Checks the file, fills the cells with the file's own, and starts at the beginning.
     ///
     /// Cells past the file's count stay as they are, and so do the saved store and all entity cells. A load that isn't
-    /// accepted changes nothing: what an earlier one made stands. Entities that are negative, over [`ENTITIES`] or more
-    /// than the lent entity cells hold are refused 13. Beside the file it checks what it stands on: the library that
-    /// is linked, and this thread's floating-point mode.
+    /// accepted changes nothing: what an earlier one made stands. Settings out of range are refused 36, before the file is
+    /// looked at ([`Settings::check`] says which); entities that are negative, over [`ENTITIES`] or more than the lent
+    /// entity cells hold are refused 13. Beside the file it checks what it stands on: the library that is linked, and
+    /// this thread's floating-point mode.
     pub fn load_with(&mut self, settings: Settings) -> Result<(), LoadError> {
         library::layout().map_err(|error| LoadError::Library(error.clone()))?;
         check_float_mode().map_err(LoadError::FloatMode)?;
         let reply = library::load(
+            settings.held(),
             &self.program,
             settings.entities,
             &mut self.cells,
@@ -173,8 +168,8 @@ impl Machine {
 
     /// Enters a function by its number, to go back to the present position at its return.
     ///
-    /// Its arguments are copied from the cells from 4 on, three to each, to its local cells. At most 31 functions can be
-    /// entered and not left.
+    /// Its arguments are copied from the cells from 4 on, three to each, to its local cells. As many functions as the
+    /// settings' depth can be entered and not left (22), and their local cells are at most as many as its saved count (23).
     pub fn enter(&mut self, function: i64) -> Result<(), Refusal> {
         library::enter(
             &mut self.reply,
@@ -205,8 +200,8 @@ impl Machine {
         }
     }
 
-    /// Carries out statements until the call depth is `target`, at most `limit` of them, 1 to 99,999. The target is
-    /// below the present depth, so that something must be entered before.
+    /// Carries out statements until the call depth is `target`, at most `limit` of them, 1 to [`Settings::limit`]; another
+    /// limit is refused 28. The target is below the present depth, so that something must be entered before.
     ///
     /// After a hand-over the host carries the statement out and calls [`Machine::carry_on`]; [`Machine::call`] does
     /// both. After a refusal, or where the limit is spent, the functions that were entered still are:
@@ -384,6 +379,8 @@ impl Machine {
     /// written loads to the same contents, and is written again byte for byte. It is made of the program's bytes alone, the
     /// file's own cells among them: what ran since the load, and what was written to cells, isn't in it.
     ///
+    /// The check number in it is that of the settings ([`Settings::check_number`]): it loads again under the same.
+    ///
     /// Refused 34 where it would be longer than [`IMAGE`], as where the parts of the file lie over each other.
     ///
     /// ```
@@ -464,6 +461,30 @@ impl Machine {
     /// How many cells of the saved store are in use.
     pub fn saved_count(&self) -> usize {
         self.reply.context.saved
+    }
+
+    /// The settings that the load was given, with the number of entities; zeros before a load is accepted. No operation changes
+    /// them.
+    ///
+    /// [`Settings::limit`] is the greatest limit that [`Machine::run`] and [`Machine::call`] take:
+    ///
+    /// ```
+    /// use host::assemble::{Assembly, Function};
+    /// use host::{Machine, Settings, CELLS, SAVED_STORE};
+    ///
+    /// let program = Assembly {
+    ///     statements: vec![[0, 0, 0, 0]],
+    ///     functions: vec![Function::default(); 2],
+    ///     ..Assembly::default()
+    /// };
+    /// let mut machine = Machine::new(program.bytes(), vec![0; CELLS], vec![0; SAVED_STORE]);
+    /// machine.load_with(Settings::default().with_limit(500)?)?;
+    /// let count = machine.call(1, machine.settings().limit, |_, _| Err("no builtins here"))?;
+    /// assert_eq!(count, 1);
+    /// # Ok::<(), Box<dyn std::error::Error>>(())
+    /// ```
+    pub fn settings(&self) -> Settings {
+        Settings::of(&self.reply.context)
     }
 
     /// The number of entities that the load was given.

@@ -6,11 +6,11 @@ use std::fmt;
 use crate::float_mode::FloatModeError;
 use crate::layout::LayoutError;
 
-/// The sentences of the numbers 1 to 35.
-const SENTENCES: [&str; 35] = [
+/// The sentences of the numbers 1 to 36.
+const SENTENCES: [&str; 36] = [
     "the file is shorter than 60 bytes or longer than 1,048,576",
     "the version isn't 6",
-    "the check number isn't 5927",
+    "the check number isn't the one that is set (5927, unless a venue sets another)",
     "a lump has a negative offset or count, or ends past the end of the file",
     "a function's first statement is negative and names no builtin",
     "the name of a function or definition, or a source file, is outside the strings",
@@ -20,7 +20,7 @@ const SENTENCES: [&str; 35] = [
     "there are fewer than 64 cells or more than 32,768 (a file of 36 to 63 cells can be padded)",
     "there are fewer than 105 cells per entity",
     "fewer cells are lent than the file has, or the saved store is shorter than 2,048; for a sentence, the display buffer is shorter than 120",
-    "the file, what is lent and the state do not belong together; at load, the entities are negative, over 600 or more than the lent entity cells hold",
+    "the file, what is lent and the state do not belong together; or a setting that the state holds is out of range; at load, the entities are negative, over 600 or more than the lent entity cells hold",
     "there is no statement at the position",
     "a cell number is negative or not below the file's count of cells; of pairs written together, there are over 64, one is incomplete, or a value isn't of 32 bits",
     "a cell's or a field's definition has another type",
@@ -29,13 +29,13 @@ const SENTENCES: [&str; 35] = [
     "the function is number 0",
     "there is no function with that number",
     "the function is a builtin",
-    "the call depth is already 31",
-    "the local count is negative, or more than 2,048 cells would be saved",
+    "the call depth is already the greatest that is set (31, unless a venue sets less)",
+    "the local count is negative, or more cells would be saved than the greatest saved count that is set (2,048, unless a venue sets less)",
     "the argument count isn't 0 to 8",
     "the call depth is 0: there is nothing to return from",
     "fewer cells are saved than the function has locals",
     "the statement at the position would not be handed over",
-    "the limit isn't 1 to 99,999",
+    "the limit isn't 1 to the greatest run limit that is set (99,999, unless a venue sets less)",
     "the target depth is negative or not below the depth; for abandon, above it",
     "the entity isn't below the number of entities",
     "a field's cell isn't below the cells per entity",
@@ -43,6 +43,7 @@ const SENTENCES: [&str; 35] = [
     "EqS, NeS or NotS reads a string number that is negative or not below the length of the strings",
     "the output buffer is shorter than the file to be written, or that is longer than 1,048,576 bytes",
     "the seed of a load file is 0, or its number of drawn statements isn't 1 to 1,000",
+    "a setting is out of range: check number 0 to 65,535, greatest depth 1 to 31, greatest saved count 0 to 2,048, greatest run limit 1 to 99,999",
 ];
 
 /// Why an operation was refused: document 01's number, and its sentence.

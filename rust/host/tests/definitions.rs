@@ -58,7 +58,10 @@ fn run(file: Vec<u8>) -> (Run, f32) {
     entity[49] = 3.75_f32.to_bits();
     let mut machine = Machine::with_entities(file, vec![0; CELLS], vec![0; SAVED_STORE], entity);
     machine
-        .load_with(Settings { entities: 1 })
+        .load_with(Settings {
+            entities: 1,
+            ..Settings::default()
+        })
         .expect("the file is accepted");
     machine.enter(1).expect("function 1 is there");
     let run = machine.run(0, 10);

@@ -107,7 +107,10 @@ fn lent(entities: usize) -> Machine {
 }
 
 fn load(machine: &mut Machine, entities: i64) -> Result<(), u32> {
-    let loaded = machine.load_with(Settings { entities });
+    let loaded = machine.load_with(Settings {
+        entities,
+        ..Settings::default()
+    });
     loaded.map_err(|error| error.refusal().unwrap().number())
 }
 
@@ -135,7 +138,7 @@ fn a_load_takes_the_number_of_entities() {
     assert_eq!(Program::new(machine.program()).entity_cells(), PER_ENTITY);
     machine.load().unwrap();
     assert_eq!(machine.entity_count(), 0);
-    assert_eq!(Settings::default(), Settings { entities: 0 });
+    assert_eq!(Settings::default().entities, 0);
 }
 
 /// More than are lent, more than 600, or a negative number: 13, and what was loaded before stands.
@@ -227,7 +230,12 @@ fn statements_are_refused() {
         (4, POINTER, 4 * place(51), 16),
     ];
     for (position, cell, value, number) in cases {
-        machine.load_with(Settings { entities: 3 }).unwrap();
+        machine
+            .load_with(Settings {
+                entities: 3,
+                ..Settings::default()
+            })
+            .unwrap();
         machine.enter(1).unwrap();
         machine.write(cell.into(), value).unwrap();
         let mut context = *machine.context();

@@ -168,7 +168,12 @@ fn loads_is_written_alike_and_ends() {
             (chance.between(n + 1, 99_999), RunOutcome::Ended, n + 1),
             (n, RunOutcome::Spent, n),
         ] {
-            machine.load_with(Settings { entities }).unwrap();
+            machine
+                .load_with(Settings {
+                    entities,
+                    ..Settings::default()
+                })
+                .unwrap();
             assert_eq!(machine.image(), Ok(file.clone()));
             machine.enter(1).unwrap();
             let run = machine.run(0, limit);

@@ -1,5 +1,6 @@
 //! The cases of tests/model, answered by the Python model, run through this crate: whole files, single statements and
-//! lists of calls, with the states and the entity cells that the lists make up. tests/model/README.md has the formats.
+//! lists of calls, with the states and the entity cells that the lists make up, and with the settings that loads are given.
+//! tests/model/README.md has the formats.
 
 use std::fs;
 use std::path::Path;
@@ -169,7 +170,12 @@ impl Given {
         let mut machine =
             Machine::with_entities(file.to_vec(), cells, vec![0; SAVED_STORE], entities);
         let entities = self.entities;
-        machine.load_with(Settings { entities }).unwrap();
+        machine
+            .load_with(Settings {
+                entities,
+                ..Settings::default()
+            })
+            .unwrap();
         if self.function >= 0 {
             machine.enter(self.function).unwrap();
         }
@@ -227,6 +233,14 @@ fn single_statements() {
     assert_eq!(count, 4_837);
 }
 
+/// FNV-1a of 64 bits.
+fn digest_of(bytes: impl Iterator<Item = u8>) -> String {
+    let digest = bytes.fold(0xcbf2_9ce4_8422_2325_u64, |digest, byte| {
+        (digest ^ u64::from(byte)).wrapping_mul(0x100_0000_01b3)
+    });
+    format!("{digest:016x}")
+}
+
 fn digest(machine: &Machine) -> String {
     let frames = machine.frames().iter();
     let text: String = frames
@@ -234,13 +248,8 @@ fn digest(machine: &Machine) -> String {
         .collect();
     let buffers = [machine.cells(), machine.saved(), machine.entities()];
     let numbers = buffers.into_iter().flatten();
-    let bytes = text
-        .bytes()
-        .chain(numbers.flat_map(|number| number.to_le_bytes()));
-    let digest = bytes.fold(0xcbf2_9ce4_8422_2325_u64, |digest, byte| {
-        (digest ^ u64::from(byte)).wrapping_mul(0x100_0000_01b3)
-    });
-    format!("{digest:016x}")
+    let bytes = numbers.flat_map(|number| number.to_le_bytes());
+    digest_of(text.bytes().chain(bytes))
 }
 
 /// Changes a number of the state, counted as tests/model/README.md counts them.
@@ -268,18 +277,38 @@ fn set_number(context: &mut Context, field: usize, value: i64) {
         16 => context.depth = natural,
         17 => context.saved = natural,
         80 => context.entity_count = natural,
+        81 => context.settings.check_number = natural,
+        82 => context.settings.depth = natural,
+        83 => context.settings.saved = natural,
+        84 => context.settings.limit = natural,
         _ if field % 2 == 0 => context.frames[(field - 18) / 2].instr_id = value,
         _ => context.frames[(field - 18) / 2].func_id = natural,
+    }
+}
+
+/// What a load is given: the number of entities alone, or the four settings after it.
+fn settings(given: &[i64]) -> Settings {
+    match *given {
+        [entities] => Settings {
+            entities,
+            ..Settings::default()
+        },
+        [entities, check_number, depth, saved, limit] => Settings {
+            check_number,
+            depth,
+            saved,
+            limit,
+            entities,
+        },
+        _ => panic!("load {given:?}"),
     }
 }
 
 fn perform(machine: &mut Machine, name: &str, given: &[i64]) -> Answer {
     let alone = |answer: Result<(), Refusal>| accepted(answer.map(|()| 0));
     match (name, given) {
-        ("load", [entities]) => {
-            let loaded = machine.load_with(Settings {
-                entities: *entities,
-            });
+        ("load", _) => {
+            let loaded = machine.load_with(settings(given));
             alone(loaded.map_err(|error| error.refusal().unwrap()))
         }
         ("enter", [function]) => alone(machine.enter(*function)),
@@ -316,14 +345,28 @@ fn numbered(first: u32, count: u32) -> Vec<u32> {
     (0..count).map(|i| first.wrapping_add(i)).collect()
 }
 
-#[test]
-fn lists_of_calls() {
+/// What a call answers and leaves, as the case files have it.
+fn answered(machine: &mut Machine, name: &str, given: &[i64]) -> String {
+    let mut output = None;
+    let (word, detail, completed) = match (name, given) {
+        ("image", [length]) => {
+            let output = output.insert(vec![238; *length as usize]);
+            accepted(machine.write_image(output).map(|written| written as u32))
+        }
+        _ => perform(machine, name, given),
+    };
+    let (state, digest) = (state(machine), digest(machine));
+    let written = output.map_or(String::new(), |output| {
+        format!(" {}", digest_of(output.into_iter()))
+    });
+    format!("{word} {detail} {completed} {state} {digest}{written}")
+}
+
+/// Plays the lists of a case file, and gives how many calls they have.
+fn play(file: &str) -> u32 {
     let mut machine = Machine::new(Vec::new(), Vec::new(), Vec::new());
     let mut count = 0;
-    for line in cases("calls.txt")
-        .lines()
-        .filter(|line| !line.starts_with('#'))
-    {
+    for line in cases(file).lines().filter(|line| !line.starts_with('#')) {
         if let Some(lent) = line.strip_prefix("new ") {
             let words: Vec<&str> = lent.split(' ').collect();
             let fresh = |first, count: &str| numbered(first, count.parse().unwrap());
@@ -338,15 +381,20 @@ fn lists_of_calls() {
         let (call, expected) = line.split_once(" = ").unwrap();
         let mut words = call.split(' ');
         let name = words.next().unwrap();
-        let given = numbers(&mut words, 2);
-        let (word, detail, completed) = perform(&mut machine, name, &given);
-        let found = format!(
-            "{word} {detail} {completed} {} {}",
-            state(&machine),
-            digest(&machine)
-        );
-        assert_eq!(found, expected, "{call}");
+        let given = numbers(&mut words, 5);
+        assert_eq!(answered(&mut machine, name, &given), expected, "{call}");
         count += 1;
     }
-    assert_eq!(count, 5_027);
+    count
+}
+
+#[test]
+fn lists_of_calls() {
+    assert_eq!(play("calls.txt"), 5_681);
+}
+
+/// Loads under settings, and what they allow.
+#[test]
+fn lists_with_settings() {
+    assert_eq!(play("settings.txt"), 4_454);
 }

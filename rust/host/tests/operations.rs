@@ -288,6 +288,6 @@ fn sentences() {
             assert_eq!(Refusal::new(number).sentence(), sentence);
         }
     }
-    assert_eq!(rows, 35);
-    assert_eq!(Refusal::new(0).sentence(), Refusal::new(36).sentence());
+    assert_eq!(rows, 36);
+    assert_eq!(Refusal::new(0).sentence(), Refusal::new(37).sentence());
 }

@@ -35,7 +35,12 @@ impl Match {
             vec![0; SAVED_STORE],
             vec![0; entity_cells],
         );
-        machine.load_with(Settings { entities }).unwrap();
+        machine
+            .load_with(Settings {
+                entities,
+                ..Settings::default()
+            })
+            .unwrap();
         Match {
             machine,
             printed: 0,

@@ -13,7 +13,7 @@ use host::{
 
 #[derive(Clone, Copy, Debug)]
 enum Call {
-    Load(i64),
+    Load(Settings),
     Enter(i64),
     Statement,
     Run(i64, i64),
@@ -35,9 +35,32 @@ fn random_entities(chance: &mut Chance) -> i64 {
     }
 }
 
+/// Settings that a load might be given: mostly 01's, often narrower ones, now and then one out of range.
+fn random_settings(chance: &mut Chance) -> Settings {
+    let mut settings = Settings {
+        entities: random_entities(chance),
+        ..Settings::default()
+    };
+    match chance.below(8) {
+        0..=2 => {
+            settings.depth = chance.pick(&[1, 2, 3, 5]);
+            settings.saved = chance.pick(&[0, 2, 5, 9, 2_048]);
+            settings.limit = chance.pick(&[1, 5, 20, 99_999]);
+        }
+        3 if chance.one_in(4) => match chance.below(4) {
+            0 => settings.check_number = chance.pick(&[-1, 65_536, 5_926, 0]),
+            1 => settings.depth = chance.pick(&[i64::MIN, 0, 32]),
+            2 => settings.saved = chance.pick(&[-1, 2_049, i64::MAX]),
+            _ => settings.limit = chance.pick(&[-1, 0, 100_000]),
+        },
+        _ => {}
+    }
+    settings
+}
+
 fn random_call(chance: &mut Chance) -> Call {
     match chance.below(40) {
-        0 => Call::Load(random_entities(chance)),
+        0 => Call::Load(random_settings(chance)),
         1..=9 => Call::Enter(chance.number() % 9),
         10..=17 => Call::Statement,
         18..=22 => Call::Run(chance.between(-1, 3), chance.between(-1, 40)),
@@ -86,8 +109,8 @@ fn write_pairs(machine: &mut Machine, seed: u64) -> Result<(), Refusal> {
 fn perform(machine: &mut Machine, call: Call) -> Result<(), (Refusal, u32)> {
     let alone = |refusal| (refusal, 0);
     match call {
-        Call::Load(entities) => machine
-            .load_with(Settings { entities })
+        Call::Load(settings) => machine
+            .load_with(settings)
             .map_err(|error| alone(error.refusal().unwrap())),
         Call::Enter(function) => machine.enter(function).map_err(alone),
         Call::CarryOn => machine.carry_on().map_err(alone),
@@ -127,7 +150,11 @@ fn check(machine: &mut Machine, call: Call) -> Result<(), (Refusal, u32)> {
     assert_eq!(machine.saved()[store..], before.saved()[store..]);
     assert_entities(machine, &before, call);
     if let Err((refusal, count)) = answer {
-        assert!((1..=34).contains(&refusal.number()), "{call:?} {refusal}");
+        let number = refusal.number();
+        assert!(
+            (1..=34).contains(&number) || number == 36,
+            "{call:?} {refusal}"
+        );
         assert!(refusal.to_string().len() > 20);
         if count == 0 {
             assert_unchanged(machine, &before, call);
@@ -135,6 +162,10 @@ fn check(machine: &mut Machine, call: Call) -> Result<(), (Refusal, u32)> {
     }
     if let Call::Read(_) | Call::Image(_) = call {
         assert_unchanged(machine, &before, call);
+    }
+    match call {
+        Call::Load(settings) if answer.is_ok() => assert_eq!(machine.settings(), settings),
+        _ => assert_eq!(machine.settings(), before.settings(), "{call:?}"),
     }
     answer
 }
@@ -197,19 +228,21 @@ fn random_programs_and_calls() {
     for seed in 0..3_000 {
         let mut chance = Chance::new(seed);
         let mut machine = random_machine(&mut chance);
-        let load = Call::Load(random_entities(&mut chance));
+        let load = Call::Load(random_settings(&mut chance));
         seen.loads += u32::from(check(&mut machine, load).is_ok());
         for _ in 0..60 {
             let before = machine.entities().to_vec();
             seen.note(check(&mut machine, random_call(&mut chance)));
             seen.entities += u32::from(machine.entities() != before);
+            let Settings { depth, saved, .. } = machine.settings();
+            assert!(machine.depth() as i64 <= depth && machine.saved_count() as i64 <= saved);
         }
     }
-    assert!(seen.loads > 1_500, "{}", seen.loads);
+    assert!(seen.loads > 1_400, "{}", seen.loads);
     assert!(seen.accepted > 30_000, "{}", seen.accepted);
     assert!(seen.entities > 200, "{}", seen.entities);
     let met = [
-        13, 14, 15, 16, 17, 18, 19, 20, 21, 23, 24, 25, 27, 28, 29, 30, 31, 32, 34,
+        13, 14, 15, 16, 17, 18, 19, 20, 21, 22, 23, 24, 25, 27, 28, 29, 30, 31, 32, 34, 36,
     ];
     for number in met {
         assert!(seen.refused.contains(&number), "{number} was never met");
@@ -232,7 +265,7 @@ fn made_up_context(chance: &mut Chance, now: &Context) -> Context {
     let mut context = *now;
     for _ in 0..chance.between(1, 4) {
         let frame = chance.below(31) as usize;
-        match chance.below(13) {
+        match chance.below(17) {
             0 => context.file.length = made_up(chance, now.file.length),
             1 => context.file.functions.count = made_up(chance, now.file.functions.count),
             2 => context.file.globals.count = made_up(chance, now.file.globals.count),
@@ -245,6 +278,10 @@ fn made_up_context(chance: &mut Chance, now: &Context) -> Context {
             9 => context.frames[frame].instr_id = chance.number(),
             10 => context.frames[0].func_id = made_up(chance, 0),
             11 => context.entity_count = made_up(chance, now.entity_count),
+            12 => context.settings.check_number = made_up(chance, 65_535),
+            13 => context.settings.depth = made_up(chance, now.depth),
+            14 => context.settings.saved = made_up(chance, now.saved),
+            15 => context.settings.limit = made_up(chance, 99_999),
             _ => context.frames[frame].func_id = made_up(chance, 0),
         }
     }
@@ -273,10 +310,18 @@ fn any_context(chance: &mut Chance, now: &Context) -> Context {
     }
 }
 
-/// Check 13 on a program file that was loaded, read again from document 01's row, with records read by this crate.
+/// Check 13 on a program file that was loaded, read again from document 01's row and 02's R-11, with records read by this crate.
 fn sound(machine: &Machine, loaded: &Context) -> bool {
     let context = machine.context();
-    if context.file != loaded.file || context.depth > 31 || context.saved > 2_048 {
+    let settings = &context.settings;
+    let in_range = settings.check_number <= 65_535
+        && (1..=31).contains(&settings.depth)
+        && settings.saved <= 2_048
+        && (1..=99_999).contains(&settings.limit);
+    if context.file != loaded.file || !in_range {
+        return false;
+    }
+    if context.depth > settings.depth || context.saved > settings.saved {
         return false;
     }
     let cells = context.entity_count.checked_mul(context.file.entityfields);
@@ -304,14 +349,23 @@ fn sound(machine: &Machine, loaded: &Context) -> bool {
     locals.is_some_and(|locals| locals.iter().sum::<u64>() == context.saved as u64)
 }
 
+/// How many of the states that were made up are sound, and of these, how many differ from a loaded one.
+#[derive(Debug, Default)]
+struct Contexts {
+    sound: u32,
+    others: u32,
+    below_zero: u32,
+    other_entities: u32,
+    other_settings: u32,
+}
+
 #[test]
 fn states_that_a_host_makes_up() {
-    let (mut sound_ones, mut others, mut below_zero, mut other_entities) = (0, 0, 0, 0);
+    let mut seen = Contexts::default();
     for seed in 0..3_000 {
         let mut chance = Chance::new(1_000_000 + seed);
         let mut machine = random_machine(&mut chance);
-        let entities = random_entities(&mut chance);
-        if machine.load_with(Settings { entities }).is_err() {
+        if machine.load_with(random_settings(&mut chance)).is_err() {
             continue;
         }
         let loaded = *machine.context();
@@ -328,21 +382,20 @@ fn states_that_a_host_makes_up() {
             if !is_sound && !matches!(call, Call::Load(_)) {
                 assert_eq!(answer, Err((Refusal::STATE, 0)));
             }
-            sound_ones += u32::from(is_sound);
-            others += u32::from(!is_sound);
-            below_zero += u32::from(is_sound && made.pc < 0);
-            other_entities += u32::from(is_sound && made.entity_count != loaded.entity_count);
+            seen.sound += u32::from(is_sound);
+            seen.others += u32::from(!is_sound);
+            seen.below_zero += u32::from(is_sound && made.pc < 0);
+            seen.other_entities += u32::from(is_sound && made.entity_count != loaded.entity_count);
+            seen.other_settings += u32::from(is_sound && made.settings != kept.settings);
             if !is_sound {
                 machine.set_context(kept);
             }
         }
     }
-    assert!(
-        sound_ones > 5_000 && others > 5_000,
-        "{sound_ones} {others}"
-    );
-    assert!(below_zero > 50, "{below_zero}");
-    assert!(other_entities > 50, "{other_entities}");
+    assert!(seen.sound > 5_000 && seen.others > 5_000, "{seen:?}");
+    assert!(seen.below_zero > 50, "{seen:?}");
+    assert!(seen.other_entities > 50, "{seen:?}");
+    assert!(seen.other_settings > 500, "{seen:?}");
 }
 
 #[test]
@@ -351,8 +404,8 @@ fn buffers_that_a_host_changes() {
     for seed in 0..1_500 {
         let mut chance = Chance::new(2_000_000 + seed);
         let mut machine = random_machine(&mut chance);
-        let entities = random_entities(&mut chance);
-        machine.load_with(Settings { entities }).ok();
+        let settings = random_settings(&mut chance);
+        machine.load_with(settings).ok();
         for _ in 0..30 {
             match chance.below(10) {
                 0 => {
@@ -452,8 +505,8 @@ fn calls_leave_the_depth() {
     for seed in 0..3_000 {
         let mut chance = Chance::new(3_000_000 + seed);
         let mut machine = random_machine(&mut chance);
-        let entities = random_entities(&mut chance);
-        if machine.load_with(Settings { entities }).is_err() {
+        let settings = random_settings(&mut chance);
+        if machine.load_with(settings).is_err() {
             continue;
         }
         for _ in 0..10 {
@@ -476,8 +529,8 @@ fn fields_by_chance() {
     for seed in 0..3_000 {
         let mut chance = Chance::new(6_000_000 + seed);
         let mut machine = random_machine(&mut chance);
-        let entities = random_entities(&mut chance);
-        machine.load_with(Settings { entities }).ok();
+        let settings = random_settings(&mut chance);
+        machine.load_with(settings).ok();
         if chance.one_in(4) {
             let context = made_up_context(&mut chance, machine.context());
             machine.set_context(context);

@@ -119,18 +119,21 @@ fn the_last_run() {
     );
 }
 
+/// What the calls answer, each without itself and without the state.
+fn answers(program: &[u8], calls: &str) -> Vec<String> {
+    let printed = printed_on(program, calls).unwrap();
+    let answer = |line: &str| {
+        let (answer, _) = line.split_once(" | ").unwrap();
+        answer.split_once(" => ").unwrap().1.to_string()
+    };
+    printed.lines().map(answer).collect()
+}
+
 /// The file has 64 cells. A value is taken modulo 2^32, an address that 64 bits can't hold is no cell's.
 #[test]
 fn pairs() {
     let program = Assembly::default().bytes();
-    let answers = |calls: &str| -> Vec<String> {
-        let printed = printed_on(&program, &format!("load 0\n{calls}")).unwrap();
-        let answer = |line: &str| {
-            let (answer, _) = line.split_once(" | ").unwrap();
-            answer.split_once(" => ").unwrap().1.to_string()
-        };
-        printed.lines().skip(1).map(answer).collect()
-    };
+    let answers = |calls: &str| answers(&program, &format!("load 0\n{calls}"))[1..].to_vec();
     assert_eq!(
         answers("pairs\npairs 40 7 41 8 40 9\nread 40\nread 41\n"),
         ["ok 0", "ok 0", "ok 9", "ok 8"]
@@ -167,7 +170,6 @@ fn lines_that_are_no_calls() {
         "pairs x",
         "pairs 1 x",
         "file -1",
-        "load",
         "image",
         "image -1",
         "image 4294967296",
@@ -183,4 +185,84 @@ fn lines_that_are_no_calls() {
         );
     }
     assert_eq!(printed("\n# a note\n").unwrap(), "");
+}
+
+/// The four settings are given together, or left out together.
+#[test]
+fn loads_that_are_no_calls() {
+    for line in [
+        "load",
+        "load x",
+        "load 0 5927",
+        "load 0 5927 31",
+        "load 0 5927 31 2048",
+        "load 0 5927 31 2048 x",
+        "load 0 5927 31 2048 99999 1",
+    ] {
+        let error = printed(&format!("load 0\n{line}\n")).unwrap_err();
+        assert_eq!(
+            error,
+            format!("line 2 is no call: {line} (a load takes a number E, or five: E CHECK DEPTH SAVED LIMIT)")
+        );
+    }
+}
+
+/// Function 1 jumps to itself, and has two local cells.
+fn jumping() -> Vec<u8> {
+    let function = Function {
+        first: 1,
+        local: 30,
+        locals: 2,
+        ..Function::default()
+    };
+    let program = Assembly {
+        statements: vec![[0, 0, 0, 0], [61, 0, 0, 0]],
+        functions: vec![Function::default(), function],
+        ..Assembly::default()
+    };
+    program.bytes()
+}
+
+#[rustfmt::skip]
+#[test]
+fn settings() {
+    assert_eq!(
+        answers(&jumping(), "load 0 5927 1 2 3\nenter 1\nenter 1\nrun 0 4\nrun 0 3\n"),
+        ["ok", "ok 0", "refused 22", "refused 28 0", "spent 0 3"]
+    );
+    assert_eq!(
+        answers(&jumping(), "load 0\nenter 1\nenter 1\nrun 0 4\nload 0 5927 31 1 9\nenter 1\nload 1 5927 31 2048 9\n"),
+        ["ok", "ok 0", "ok 0", "spent 0 4", "ok", "refused 23", "refused 13"]
+    );
+}
+
+/// What 64 bits can't hold is as far outside.
+#[test]
+fn settings_out_of_range() {
+    for bad in [
+        "-1",
+        "18446744073709551616",
+        "-18446744073709551616",
+        "100000",
+    ] {
+        for at in 1..5 {
+            let mut words = ["0", "5927", "31", "2048", "99999"];
+            words[at] = bad;
+            let load = format!("load {}", words.join(" "));
+            assert_eq!(answers(&jumping(), &load), ["refused 36"], "{load}");
+        }
+    }
+}
+
+#[test]
+fn another_check_number() {
+    let mut program = jumping();
+    program[4..6].copy_from_slice(&77_u16.to_le_bytes());
+    let length = program.len();
+    let loads = "load 0\nload 0 78 31 2048 99999\nload 0 77 31 2048 99999";
+    let written = format!("ok {length} {}", fnv(&program));
+    assert_eq!(
+        answers(&program, &format!("{loads}\nimage {length}\n")),
+        ["refused 3", "refused 3", "ok", &written]
+    );
 }

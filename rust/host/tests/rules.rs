@@ -99,7 +99,12 @@ fn the_captain_plays() {
     let entities = vec![0; 3 * Program::new(&program).entity_cells()];
     let mut machine =
         Machine::with_entities(program, vec![0; CELLS], vec![0; SAVED_STORE], entities);
-    machine.load_with(Settings { entities: 3 }).unwrap();
+    machine
+        .load_with(Settings {
+            entities: 3,
+            ..Settings::default()
+        })
+        .unwrap();
     let plays = function(&machine, "captain_plays");
     let current = machine.find_definition_by_name("self").unwrap().cell;
     let mut health = machine.field_mut(2, "health").unwrap();

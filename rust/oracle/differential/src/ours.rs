@@ -70,7 +70,7 @@ impl Ours {
         let mut entities = lent.cells.clone();
         entities.extend([FILL; MORE]);
         let mut machine = Machine::with_entities(bytes.to_vec(), vec![FILL; count + MORE], vec![FILL; 2_048 + MORE], entities);
-        match machine.load_with(Settings { entities: lent.number as i64 }) {
+        match machine.load_with(Settings { entities: lent.number as i64, ..Settings::default() }) {
             Ok(()) => Ok(Ours { machine, count, entity_cells: lent.cells.len() }),
             Err(LoadError::Refused(refusal)) => Err(refusal.number()),
             Err(error) => panic!("{error}"),
