@@ -17,3 +17,6 @@ pub mod Texts
 pub mod Pairs
 pub mod Opcodes
 pub mod Refusals
+pub mod StackLaws
+pub mod Passing
+pub mod StatementNumbers
