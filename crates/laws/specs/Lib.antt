@@ -20,3 +20,4 @@ pub mod Refusals
 pub mod StackLaws
 pub mod Passing
 pub mod StatementNumbers
+pub mod Longer
