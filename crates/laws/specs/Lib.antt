@@ -21,3 +21,5 @@ pub mod StackLaws
 pub mod Passing
 pub mod StatementNumbers
 pub mod Longer
+pub mod SavedSuffice
+pub mod NeverTwentySix
