@@ -15,5 +15,6 @@ pub mod RoundTrip
 pub mod Lookup
 pub mod Texts
 pub mod Pairs
+pub mod Engines
 pub mod Opcodes
 pub mod Refusals
