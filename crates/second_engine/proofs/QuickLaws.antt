@@ -3,6 +3,7 @@ use Prim.Native.Nat.{ℕ, zero, suc, _+_, _≤_, _<_}
 use mathlib.Core.Path.{_≡_, refl, sym, _∙_, ap}
 use mathlib.Core.List.{List, []}
 use mathlib.Core.Bool.{Bool, true, false, Bool·beq, cond}
+use native.Mathlib.Numerals.{add-one}
 use native.Mathlib.Omega.{arith}
 use borrow.Author.Tests.{lt-ltb}
 use lib.IntN.{ℤ, pos, _+ℤ_}
@@ -11,11 +12,11 @@ use Rattle.definition.specs.declared.FileRecord.{FileRecord}
 use Rattle.definition.specs.declared.Statement.{Statement}
 use Rattle.definition.specs.declared.Definition.{Definition}
 use Rattle.definition.specs.Checks.{judge}
-use Rattle.definition.specs.File.{Contents, contentsAt, records, u32At}
+use Rattle.definition.specs.File.{Contents, contentsAt, withStatements, records, u32At}
 use Rattle.definition.specs.RecordLaws.{length-records}
 use Rattle.definition.specs.Floats.{isZero}
 use Rattle.definition.specs.Cells.{signed, cellOf, Typing, typingOf, access, cellAccess, lookup, passes}
-use Rattle.definition.specs.Statements.{Entities, Does, next, Shape, branches, shapeOf, floatsEffect, effectDoes, branchesDo, tablesOf, executeAs, execute, doesAt}
+use Rattle.definition.specs.Statements.{Entities, Does, next, Shape, branches, opcodes, shapeOf, floatsEffect, effectDoes, branchesDo, tablesOf, executeAs, execute, doesAt}
 use Rattle.functions.specs.declared.fetch.Fetched.the-variants.{At}
 use Rattle.functions.specs.Answers.{fetched}
 use Rattle.functions.specs.Laws.{FetchedAt, fetch-accepts, does-fetched}
@@ -25,7 +26,7 @@ use Rattle.typed.specs.Laws.{judge-three}
 use Rattle.arithmetic.proofs.Arithmetic.{own-cell}
 use Rattle.execution.specs.Shapes.{isFloats}
 use Rattle.execution.proofs.Opcodes.{floats-are}
-use Rattle.second_engine.specs.Quickly.{AllFloats, QuicklyDoes, GoesOn}
+use Rattle.second_engine.specs.Quickly.{AllFloats, QuicklyDoes, Goes, GoesOn}
 
 -- ---- the cells that pass as floats
 
@@ -58,24 +59,53 @@ module _ (k : Contents) (p : ℤ) (e : Entities) (cells : List ℕ) (i : ℕ) (s
   own : (x : ℕ) → x < n → cellOf x ≡ x
   own x h = own-cell n most x h
 
+  abbrev g : Typing
+  g = typingOf k
+
+  effect : (x y z : ℕ) → x < n → y < n → z < n → (f : ℕ → ℕ → ℕ) (v : ℕ) → v ≡ f (getD cells x 0) (getD cells y 0) → (r : ℤ) → r ≡ p +ℤ pos 1
+      → next r (set cells z v) ≡ effectDoes p (floatsEffect f g (cellOf x) (cellOf y) (cellOf z) cells)
+  unfolding floatsEffect first
+  effect x y z a b c f v value r after =
+      rw (own x a, own y b, own z c, judge-three (access g 2 x) (access g 2 y) (access g 2 z), all x a, all y b, all z c, value, after)
+
   pub floats-do : isFloats (shapeOf (st .opcode)) ≡ true → st .arg1 < n → st .arg2 < n → st .arg3 < n
       → (v : ℕ) → v ≡ floatOp (st .opcode) (getD cells (st .arg1) 0) (getD cells (st .arg2) 0)
       → (r : ℤ) → r ≡ pos i +ℤ pos 1 → next r (set cells (st .arg3) v) ≡ doesAt k p e cells
-  floats-do is a b c v value r after = effect ∙ shaped _ (floats-are (st .opcode) is)
-    where
-      effect : next r (set cells (st .arg3) v)
-          ≡ effectDoes p (floatsEffect (floatOp (st .opcode)) (typingOf k) (cellOf (st .arg1)) (cellOf (st .arg2)) (cellOf (st .arg3)) cells)
-      unfolding floatsEffect first
-      effect =
-          rw (own (st .arg1) a, own (st .arg2) b, own (st .arg3) c, judge-three (access (typingOf k) 2 (st .arg1)) (access (typingOf k) 2 (st .arg2)) (access (typingOf k) 2 (st .arg3)), all (st .arg1) a, all (st .arg2) b, all (st .arg3) c, value, after, at .position)
+  floats-do is a b c v value r after =
+      effect (st .arg1) (st .arg2) (st .arg3) a b c (floatOp (st .opcode)) v value r (after ∙ ap (λ (z : ℤ). z +ℤ pos 1) (sym (at .position)))
+      ∙ shaped _ (floats-are (st .opcode) is)
+
+  branched : (when : Bool) (x : ℕ) → x < n → (by r : ℤ) → r ≡ p +ℤ cond (Bool·beq (isZero (getD cells x 0)) when) by (pos 1) → next r cells ≡ branchesDo when g p (cellOf x) by cells
+  unfolding branchesDo
+  branched when x a by r there = rw (own x a, all x a, there)
 
   pub branch-does : (when : Bool) → branches when ≡ shapeOf (st .opcode) → st .arg1 < n
       → (r : ℤ) → r ≡ pos i +ℤ cond (Bool·beq (isZero (getD cells (st .arg1) 0)) when) (signed (st .arg2)) (pos 1) → next r cells ≡ doesAt k p e cells
-  branch-does when is a r there = branched ∙ shaped (branches when) is
-    where
-      branched : next r cells ≡ branchesDo when (typingOf k) p (cellOf (st .arg1)) (signed (st .arg2)) cells
-      unfolding branchesDo
-      branched = rw (own (st .arg1) a, all (st .arg1) a, there, at .position)
+  branch-does when is a r there =
+      branched when (st .arg1) a (signed (st .arg2)) r (there ∙ ap (λ (z : ℤ). z +ℤ cond (Bool·beq (isZero (getD cells (st .arg1) 0)) when) (signed (st .arg2)) (pos 1)) (sym (at .position)))
+      ∙ shaped (branches when) is
+
+-- the opcodes of the branches
+pub if-shape : (op : ℕ) → op ≡ 49 → branches false ≡ shapeOf op
+unfolding shapeOf opcodes
+if-shape op e = rw e refl
+
+pub if-not-shape : (op : ℕ) → op ≡ 50 → branches true ≡ shapeOf op
+unfolding shapeOf opcodes
+if-not-shape op e = rw e refl
+
+-- where a branch leads, by what its cell is
+module _ (k v : ℕ) (when : Bool) (by : ℤ) (z : Bool) (zero-is : z ≡ isZero v) (q : ℤ) where
+  pub jumps : Bool·beq z when ≡ true → q ≡ pos k +ℤ by → q ≡ pos k +ℤ cond (Bool·beq (isZero v) when) by (pos 1)
+  jumps t e = e ∙ rw (← zero-is, t) refl
+
+  pub goes-past : Bool·beq z when ≡ false → q ≡ pos k +ℤ pos 1 → q ≡ pos k +ℤ cond (Bool·beq (isZero v) when) by (pos 1)
+  goes-past t e = e ∙ rw (← zero-is, t) refl
+
+-- what a statement does depends on no other statement
+pub same-tables : (k : Contents) (sts : List Statement) (p : ℤ) (st : Statement) (e : Entities) (cells : List ℕ) → execute k p st e cells ≡ execute (withStatements k sts) p st e cells
+unfolding execute
+same-tables k sts p st e cells = refl
 
 pub quickly : (done : Bool) (d : Does) (p : ℤ) (new old : List ℕ) → done ≡ true → next p new ≡ d → QuicklyDoes done d p new old
 quickly done d p new old e h = rw e h
@@ -91,10 +121,16 @@ was-not done d p new old e h = rw e at h
 
 -- ---- several
 
+pub goes-none : (does : ℤ → List ℕ → Does) (p : ℤ) (cells : List ℕ) → GoesOn does 0 p cells p cells
+goes-none does p cells = record { goes = (refl, refl) }
+
 pub goes-one : (does : ℤ → List ℕ → Does) (n : ℕ) (p : ℤ) (cells : List ℕ) (q : ℤ) (new : List ℕ) (q′ : ℤ) (new′ : List ℕ) → GoesOn does n p cells q new
     → next q′ new′ ≡ does q new → GoesOn does (n + 1) p cells q′ new′
-goes-one does n p cells q new q′ new′ g h = rw (native.Mathlib.Numerals.add-one n) (go n p cells g)
+goes-one does n p cells q new q′ new′ g h = rw (add-one n) (record { goes = go n p cells (g .goes) })
   where
-    go : (n : ℕ) (p : ℤ) (cells : List ℕ) → GoesOn does n p cells q new → GoesOn does (suc n) p cells q′ new′
+    go : (n : ℕ) (p : ℤ) (cells : List ℕ) → Goes does n p cells q new → Goes does (suc n) p cells q′ new′
     go zero p cells (here, same) = (q′, (new′, (rw (here, same) (sym h), (refl, refl))))
     go (suc n) p cells (p′, (cells′, (d, rest))) = (p′, (cells′, (d, go n p′ cells′ rest)))
+
+pub goes-same : (does : ℤ → List ℕ → Does) (n : ℕ) (p : ℤ) (cells : List ℕ) (q : ℤ) (new new′ : List ℕ) → new′ ≡ new → GoesOn does n p cells q new → GoesOn does n p cells q new′
+goes-same does n p cells q new new′ e g = rw e g

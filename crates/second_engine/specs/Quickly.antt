@@ -27,6 +27,9 @@ QuicklyDoes true d p new old = next p new ≡ d
 QuicklyDoes false d p new old = new ≡ old
 
 -- n statements that do nothing else, one after the other: from the position p and these cells to q and those
-abbrev pub GoesOn : (ℤ → List ℕ → Does) → ℕ → ℤ → List ℕ → ℤ → List ℕ → Type 0
-GoesOn does zero p cells q new = (p ≡ q) × (cells ≡ new)
-GoesOn does (suc n) p cells q new = (p′ : ℤ) × ((cells′ : List ℕ) × ((does p cells ≡ next p′ cells′) × GoesOn does n p′ cells′ q new))
+abbrev pub Goes : (ℤ → List ℕ → Does) → ℕ → ℤ → List ℕ → ℤ → List ℕ → Type 0
+Goes does zero p cells q new = (p ≡ q) × (cells ≡ new)
+Goes does (suc n) p cells q new = (p′ : ℤ) × ((cells′ : List ℕ) × ((does p cells ≡ next p′ cells′) × Goes does n p′ cells′ q new))
+
+pub record GoesOn (does : ℤ → List ℕ → Does) (n : ℕ) (p : ℤ) (cells : List ℕ) (q : ℤ) (new : List ℕ) : Type 0 where
+  pub goes : Goes does n p cells q new

@@ -15,7 +15,6 @@ ghost use Rattle.server.specs.Stepping.{ranOf, ranAs, notRun, Apart};
 ghost use Rattle.second_engine.specs.Quickly.{AllFloats};
 use definition::FUNCTION_SIZE;
 use definition::FileRecord;
-use definition::GREATEST_LIMIT;
 use definition::RunAnswer;
 use definition::StackFrame;
 use definition::UNPACKED_SIZE;
@@ -102,14 +101,7 @@ fn run_for(
     let mut now = context;
     let mut count: u32 = 0;
     while count < limit {
-        let went = quick::run(
-            buffer,
-            statement_count,
-            untyped,
-            cells,
-            now.pc,
-            limit - count,
-        );
+        let went = quick::do_common(buffer, statement_count, untyped, cells, now.pc, limit - count);
         now.pc = went.pc;
         count = count + went.count;
         if limit <= count {
@@ -126,6 +118,7 @@ fn run_for(
                 let entry = calls::enter_cells(
                     functions,
                     f,
+                    now.settings,
                     now.depth,
                     now.saved,
                     cell_count,
@@ -215,7 +208,8 @@ pub fn run_unpacked(
         return not_run(context, 37);
     }
     let most = fetch::place_of(0, limit);
-    if most == 0 || GREATEST_LIMIT < most {
+    let settings = context.settings;
+    if most == 0 || settings.limit < most {
         return not_run(context, 28);
     }
     let down = fetch::place_of(context.depth, target);

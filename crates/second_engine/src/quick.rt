@@ -14,13 +14,13 @@ use functions::fetch::Fetched;
 use functions::ops;
 
 // Whether a statement was done, and the position after it.
-struct Quick {
+struct Turn {
     done: bool,
     pc: i64,
 }
 
 // The position after statements that were done, and their number.
-pub struct Quickly {
+pub struct Turns {
     pub pc: i64,
     pub count: u32,
 }
@@ -51,30 +51,30 @@ fn common_op(op: u16, a: u32, b: u32) -> Common
 }
 
 // If (false) or IfNot (true) at statement k.
-fn branch(k: usize, when: bool, value: u32, by: u16) -> Quick
+fn branch(k: usize, when: bool, value: u32, by: u16) -> Turn
     requires { ⌜ k < 2147483648 ⌝ }
     ensures { λ r. ⌜ (r .done ≡ true) × (r .pc ≡ pos k +ℤ cond (Bool·beq (isZero value) when) (signed by) (pos 1)) ⌝ }
 {
     if floats::is_zero(value) == when {
-        return Quick {
+        return Turn {
             done: true,
             pc: fetch::jump(k, by),
         };
     }
-    Quick {
+    Turn {
         done: true,
         pc: fetch::after(k),
     }
 }
 
-fn not_done() -> Quick
+fn not_done() -> Turn
     ensures { λ r. ⌜ r .done ≡ false ⌝ }
 {
-    Quick { done: false, pc: 0 }
+    Turn { done: false, pc: 0 }
 }
 
 // Does the statement at a position, if it is a common one and its operands are below `untyped`, the cells that pass as floats.
-fn quick(buffer: &[u16], count: usize, untyped: usize, cells: &mut [u32], pc: i64) -> Quick
+fn do_one(buffer: &[u16], count: usize, untyped: usize, cells: &mut [u32], pc: i64) -> Turn
     requires { ⌜ (4 * count ≤ length (now buffer)) × (count < 2147483648) ⌝ }
     requires { ⌜ (untyped ≤ length (now cells)) × (untyped ≤ 32768) ⌝ }
     ensures { λ r. ⌜ ((k : Contents) (e : Entities) → k .statements ≡ unpackedStatements (now (buffer .entry)) count → AllFloats (typingOf k) untyped → QuicklyDoes (r .done) (doesAt k pc e (now (cells .entry))) (r .pc) (now (cells .exit)) (now (cells .entry))) ⌝ }
@@ -95,7 +95,10 @@ fn quick(buffer: &[u16], count: usize, untyped: usize, cells: &mut [u32], pc: i6
     }
     let y = s.arg2 as usize;
     let z = s.arg3 as usize;
-    if (untyped <= y) | (untyped <= z) {
+    if untyped <= y {
+        return not_done();
+    }
+    if untyped <= z {
         return not_done();
     }
     let common = common_op(s.opcode, cells[x], cells[y]);
@@ -103,37 +106,33 @@ fn quick(buffer: &[u16], count: usize, untyped: usize, cells: &mut [u32], pc: i6
         return not_done();
     };
     cells[z] = v;
-    Quick {
+    Turn {
         done: true,
         pc: fetch::after(k),
     }
 }
 
 // Does statements from a position on, at most so many, as long as they are common ones.
-pub fn run(
+pub fn do_common(
     buffer: &[u16],
     count: usize,
     untyped: usize,
     cells: &mut [u32],
     pc: i64,
     most: u32,
-) -> Quickly
+) -> Turns
     requires { ⌜ (4 * count ≤ length (now buffer)) × (count < 2147483648) ⌝ }
     requires { ⌜ (untyped ≤ length (now cells)) × (untyped ≤ 32768) ⌝ }
     ensures { λ r. ⌜ (r .count ≤ most) × ((k : Contents) (e : Entities) → k .statements ≡ unpackedStatements (now (buffer .entry)) count → AllFloats (typingOf k) untyped → GoesOn (λ p cs. doesAt k p e cs) (r .count) pc (now (cells .entry)) (r .pc) (now (cells .exit))) ⌝ }
 {
-    let mut at = pc;
-    let mut done: u32 = 0;
-    while done < most {
-        let step = quick(buffer, count, untyped, cells, at);
-        if !step.done {
+    let mut went = Turns { pc, count: 0 };
+    while went.count < most {
+        let turn = do_one(buffer, count, untyped, cells, went.pc);
+        if !turn.done {
             break;
         }
-        at = step.pc;
-        done += 1;
+        went.pc = turn.pc;
+        went.count = went.count + 1;
     }
-    Quickly {
-        pc: at,
-        count: done,
-    }
+    went
 }
