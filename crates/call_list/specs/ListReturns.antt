@@ -6,12 +6,13 @@ use mathlib.Core.List.{List, [], _∷_}
 use mathlib.Core.Bool.{Bool, true, false, cond}
 use lib.Dec.{eqb}
 use lib.IntN.{ℤ}
-use lib.ListN.{length}
+use lib.ListN.{length, take, drop}
 use Rattle.definition.specs.declared.Settings.{Settings}
 use Rattle.definition.specs.Checks.{accepted}
 use Rattle.definition.specs.Machine.{Config}
 use Rattle.definition.specs.Load.{load, programOf}
-use Rattle.definition.specs.Calls.{Call, after, smallSteps}
+use Rattle.definition.specs.Operations.{natural}
+use Rattle.definition.specs.Calls.{Call, enters, steps, runs, carries, abandons, reads, writes, writesAll, after, smallSteps}
 use Rattle.definition.specs.File.{records}
 use Rattle.definition.specs.Unpacked.{Ready, AllReady}
 use Rattle.definition.specs.Log.{Log}
@@ -33,11 +34,20 @@ last file Step At c l (k ∷ ks) t = last file Step At (after (programOf file) k
 
 -- no call in numbers is the second engine's
 call-ready : (file : List ℕ) (numbers : List ℤ) (k : ℕ) (a b : ℤ) → Ready file (callNumbered numbers k a b)
-call-ready file numbers k a b = choose (eqb k 0) tt (choose (eqb k 1) tt (choose (eqb k 2) tt (choose (eqb k 3) tt (choose (eqb k 4) tt (choose (eqb k 5) tt (choose (eqb k 6) tt tt))))))
+call-ready file numbers k a b = by (eqb k 0) (eqb k 1) (eqb k 2) (eqb k 3) (eqb k 4) (eqb k 5) (eqb k 6)
   where
-    choose : (t : Bool) {x y : Call} → Ready file x → Ready file y → Ready file (cond t x y)
-    choose true p q = p
-    choose false p q = q
+    by : (t0 t1 t2 t3 t4 t5 t6 : Bool)
+        → Ready file
+          (cond t0 (enters a) (cond t1 steps (cond t2 (runs a b) (cond t3 carries (cond t4 (abandons a) (cond t5 (reads a)
+          (cond t6 (writes a (natural b)) (writesAll (take (natural b) (drop (natural a) numbers))))))))))
+    by true t1 t2 t3 t4 t5 t6 = tt
+    by false true t2 t3 t4 t5 t6 = tt
+    by false false true t3 t4 t5 t6 = tt
+    by false false false true t4 t5 t6 = tt
+    by false false false false true t5 t6 = tt
+    by false false false false false true t6 = tt
+    by false false false false false false true = tt
+    by false false false false false false false = tt
 
 decoded-ready : (file : List ℕ) (list numbers : List ℤ) (n at : ℕ) → AllReady file (records (callIn list numbers) 3 n at)
 unfolding records callIn
