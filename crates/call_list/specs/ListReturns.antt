@@ -5,8 +5,8 @@ use mathlib.Core.Path.{_≡_, refl, sym, ap, subst}
 use mathlib.Core.List.{List, [], _∷_}
 use mathlib.Core.Bool.{Bool, true, false, cond}
 use lib.Dec.{eqb}
-use lib.IntN.{ℤ}
-use lib.ListN.{length, take, drop}
+use lib.IntN.{ℤ, pos}
+use lib.ListN.{length, getD, take, drop}
 use Rattle.definition.specs.declared.Settings.{Settings}
 use Rattle.definition.specs.Checks.{accepted}
 use Rattle.definition.specs.Machine.{Config}
@@ -19,7 +19,7 @@ use Rattle.definition.specs.Log.{Log}
 use Rattle.definition.specs.Trace.{StepProperty, logAfterSteps, Always}
 use Rattle.definition.specs.Returns.{DepthsMatch, StepCorrect, Demand3}
 use Rattle.definition.specs.ReturnsProof.{demand3}
-use Rattle.call_list.specs.Encoding.{callNumbered, callIn, wellFormed, decoded, afterAll, Outcome, performed}
+use Rattle.call_list.specs.Encoding.{callNumbered, kindIn, callIn, wellFormed, decoded, afterAll, Outcome, performed}
 
 -- the log after all of a list
 unfoldable pub logAll : List ℕ → List Call → Config → Log → Log
@@ -49,10 +49,14 @@ call-ready file numbers k a b = by (eqb k 0) (eqb k 1) (eqb k 2) (eqb k 3) (eqb 
     by false false false false false false true = tt
     by false false false false false false false = tt
 
+in-ready : (file : List ℕ) (list numbers : List ℤ) (at : ℕ) → Ready file (callIn list numbers at)
+unfolding callIn
+in-ready file list numbers at = call-ready file numbers (kindIn list at) (getD list (at + 1) (pos 0)) (getD list (at + 2) (pos 0))
+
 decoded-ready : (file : List ℕ) (list numbers : List ℤ) (n at : ℕ) → AllReady file (records (callIn list numbers) 3 n at)
-unfolding records callIn
+unfolding records
 decoded-ready file list numbers zero at = tt
-decoded-ready file list numbers (suc n) at = (call-ready file numbers _ _ _, decoded-ready file list numbers n (at + 3))
+decoded-ready file list numbers (suc n) at = (in-ready file list numbers at, decoded-ready file list numbers n (at + 3))
 
 -- "for every list of calls after one accepted load": of the configuration that performing the list leaves
 pub list-returns : (s : Settings) (file : List ℕ) (n : ℤ) (cells saved entities : List ℕ) (c : Config) → load s file n cells saved entities ≡ accepted c
