@@ -88,11 +88,11 @@ count-here c = ap (λ (r : FileRecord). r .globals .count) (c .before .before .b
 
 -- what a Call did to the cells
 entry-did : (c : tie.After-enter-cells Inv-loop μ-loop)
-    → let s = c .before .before .before .before .before .before .before .before .before .before .before .before .before .before .before .before .before .before .before .before .before .before .before .before .before .before .before .before .before .before .before .before .before .before .before .args in
-    entryOf (c .enter-cells .result) (c .enter-cells .last .1 .1 .1 .1 .1 .0) (c .enter-cells .last .1 .1 .1 .1 .1 .1 .0) ≡ entering (withUnpacked (programOf (s .file .now)) (s .buffer .now)) (c .before .before .before .before .before .before .before .done2 .given .0 .0) (movedTo (c .before .before .before .before .before .before .before .before .before .before .before .before .before .before .before .before .before .before .before .before .before .before .before .before .before .before .loop .now) (c .before .before .before .before .before .before .before .before .before .before .before .before .before .before .before .before .before .before .before .before .before .before .do-common .result .pc)) (c .before .before .before .before .before .before .before .before .before .before .before .before .before .does .last .1 .1 .1 .1 .0) (c .before .before .before .before .before .before .before .before .before .before .before .before .before .before .before .before .before .before .before .before .before .before .before .before .before .before .loop .store)
+    → let s = c .before .before .before .before .before .before .before .before .before .before .before .before .before .before .before .before .before .before .before .before .before .before .before .before .before .before .before .before .before .before .before .before .before .before .before .before .args in
+    entryOf (c .enter-cells .result) (c .enter-cells .last .1 .1 .1 .1 .1 .1 .0) (c .enter-cells .last .1 .1 .1 .1 .1 .1 .1 .0) ≡ entering (withUnpacked (programOf (s .file .now)) (s .buffer .now)) (c .before .before .before .before .before .before .before .before .done2 .given .0 .0) (movedTo (c .before .before .before .before .before .before .before .before .before .before .before .before .before .before .before .before .before .before .before .before .before .before .before .before .before .before .before .loop .now) (c .before .before .before .before .before .before .before .before .before .before .before .before .before .before .before .before .before .before .before .before .before .before .before .do-common .result .pc)) (c .before .before .before .before .before .before .before .before .before .before .before .before .before .before .does .last .1 .1 .1 .1 .0) (c .before .before .before .before .before .before .before .before .before .before .before .before .before .before .before .before .before .before .before .before .before .before .before .before .before .before .before .loop .store)
 entry-did c =
-    let s = c .before .before .before .before .before .before .before .before .before .before .before .before .before .before .before .before .before .before .before .before .before .before .before .before .before .before .before .before .before .before .before .before .before .before .before in
-    c .enter-cells .ensures (withUnpacked (programOf (s .args .file .now)) (s .args .buffer .now)) (functions-here _ _ (s .pre .0 .loaded) _ (c .before .before .before .before .before .before .before .before .before .before .before .before .before .before .before .before .before .before .before .before .before .before .before .before .before .before .before .before .part .ensures)) ∙ by-count _ _ (movedTo (c .before .before .before .before .before .before .before .before .before .before .before .before .before .before .before .before .before .before .before .before .before .before .before .before .before .before .loop .now) (c .before .before .before .before .before .before .before .before .before .before .before .before .before .before .before .before .before .before .before .before .before .before .do-common .result .pc)) _ _ _ (count-here (c .before .before .before .before .before .before .before .before .before .before .before .before .before .before .before .before .before .before .before .before .before .before .before .before .before .before))
+    let s = c .before .before .before .before .before .before .before .before .before .before .before .before .before .before .before .before .before .before .before .before .before .before .before .before .before .before .before .before .before .before .before .before .before .before .before .before in
+    c .enter-cells .ensures (withUnpacked (programOf (s .args .file .now)) (s .args .buffer .now)) (functions-here _ _ (s .pre .0 .loaded) _ (c .before .before .before .before .before .before .before .before .before .before .before .before .before .before .before .before .before .before .before .before .before .before .before .before .before .before .before .before .before .part .ensures)) ∙ by-count _ _ (movedTo (c .before .before .before .before .before .before .before .before .before .before .before .before .before .before .before .before .before .before .before .before .before .before .before .before .before .before .before .loop .now) (c .before .before .before .before .before .before .before .before .before .before .before .before .before .before .before .before .before .before .before .before .before .before .before .do-common .result .pc)) _ _ _ (count-here (c .before .before .before .before .before .before .before .before .before .before .before .before .before .before .before .before .before .before .before .before .before .before .before .before .before .before .before))
 
 -- what a Return did to the cells
 leaving-did : (c : tie.After-return-cells Inv-loop μ-loop)
@@ -102,8 +102,8 @@ leaving-did c =
     let s = c .before .before .before .before .before .before .before .before .before .before .before .before .before .before .before .before .before .before .before .before .before .before .before .before .before .before .before .before .before .before .before .before in
     c .return-cells .ensures (withUnpacked (programOf (s .args .file .now)) (s .args .buffer .now)) (functions-here _ _ (s .pre .0 .loaded) _ (c .before .before .before .before .before .before .before .before .before .before .before .before .before .before .before .before .before .before .before .before .before .before .before .before .before .part .ensures)) ∙ return-by-count _ _ (movedTo (c .before .before .before .before .before .before .before .before .before .before .before .before .before .before .before .before .before .before .before .before .before .before .before .loop .now) (c .before .before .before .before .before .before .before .before .before .before .before .before .before .before .before .before .before .before .before .do-common .result .pc)) _ _ _ (count-here (c .before .before .before .before .before .before .before .before .before .before .before .before .before .before .before .before .before .before .before .before .before .before .before))
 
-room : (c : tie.Else2 Inv-loop μ-loop) → (c .before .before .before .before .before .before .before .before .before .before .before .before .before .before .before .before .before .before .before .before .before .before .before .before .before .before .before .before .before .before .before .before .loop .now .depth < 31) × (c .before .before .before .before .before .before .before .before .before .before .before .before .before .before .before .before .before .before .before .before .before .before .before .before .before .before .before .before .before .before .before .before .loop .now .saved + c .before .before .before .before .before .before .enter-cells .result .locals ≤ 2048)
-room c = turn-room _ _ _ _ _ _ _ _ _ (went-left (c .before .before .before .before .before .before .before .before .before .before .before .before .before .before .before .before .before .before .before .before .before .before .before .before .before .before .before .before)) (more-left (c .before .before .before .before .before .before .before .before .before .before .before .before .before .before .before .before .before .before .before .before .before .before .before)) _ _ _ (did (c .before .before .before .before .before .before .before .before .before .before .before .before .before .before .before .before .before .before .before)) _ (c .before .before .before .before .before .before .before .before .before .before .before .before .before .done2 .given .1) _ _ _ (entry-did (c .before .before .before .before .before .before)) (c .if2 .left)
+room : (c : tie.Else2 Inv-loop μ-loop) → (c .before .before .before .before .before .before .before .before .before .before .before .before .before .before .before .before .before .before .before .before .before .before .before .before .before .before .before .before .before .before .before .before .before .loop .now .depth < 31) × (c .before .before .before .before .before .before .before .before .before .before .before .before .before .before .before .before .before .before .before .before .before .before .before .before .before .before .before .before .before .before .before .before .before .loop .now .saved + c .before .before .before .before .before .before .enter-cells .result .locals ≤ 2048)
+room c = turn-room _ _ _ _ _ _ _ _ _ (went-left (c .before .before .before .before .before .before .before .before .before .before .before .before .before .before .before .before .before .before .before .before .before .before .before .before .before .before .before .before .before)) (more-left (c .before .before .before .before .before .before .before .before .before .before .before .before .before .before .before .before .before .before .before .before .before .before .before .before)) _ _ _ (did (c .before .before .before .before .before .before .before .before .before .before .before .before .before .before .before .before .before .before .before .before)) (went-within (c .before .before .before .before .before .before .before .before .before .before .before .before .before .before .before .before .before .before .before .before .before .before .before .before .before .before .before .before .before) .range) _ (c .before .before .before .before .before .before .before .before .before .before .before .before .before .before .done2 .given .1) _ _ _ (entry-did (c .before .before .before .before .before .before)) (c .if2 .left)
 
 some-left : (c : tie.Else3 Inv-loop μ-loop) → (0 < c .before .before .before .before .before .before .before .before .before .before .before .before .before .before .before .before .before .before .before .before .before .before .before .before .before .before .before .loop .now .depth) × (c .before .before .before .before .return-cells .result .locals ≤ c .before .before .before .before .before .before .before .before .before .before .before .before .before .before .before .before .before .before .before .before .before .before .before .before .before .before .before .loop .now .saved)
 some-left c = turn-left _ _ _ _ _ _ _ _ _ (went-left (c .before .before .before .before .before .before .before .before .before .before .before .before .before .before .before .before .before .before .before .before .before .before .before)) (more-left (c .before .before .before .before .before .before .before .before .before .before .before .before .before .before .before .before .before .before)) _ _ _ (did (c .before .before .before .before .before .before .before .before .before .before .before .before .before .before)) _ (c .before .before .before .before .before .before .before .before .done3 .given .1) _ _ (leaving-did (c .before .before .before .before)) (c .if3 .left)
@@ -172,23 +172,23 @@ after-requires c κs =
 
 enter-cells-requires : tie.Need-enter-cells-requires Inv-loop μ-loop
 enter-cells-requires c κs =
-    let v = c .before .before .before .before .before .before .before .before .before .before .before .before .before .before .before .before .before .before .before .before .before .before .before .before .before .before .before .before .before .before .before .before .before .before .pre .0 in
-    let w = went-within (c .before .before .before .before .before .before .before .before .before .before .before .before .before .before .before .before .before .before .before .before .before) in
-    (w .held, w .store, omega (arith, v .lent, c .before .before .before .before .before .before .before .before .before .before .before .before .does .kept .1 .1 .1 .1 .0, c .before .before .before .before .before .before .before .before .before .before .before .before .before .before .before .before .before .before .before .before .before .do-common .kept .1 .1 .1 .0, c .before .before .before .before .before .before .before .before .before .before .before .before .before .before .before .before .before .before .before .before .before .before .before .before .before .loop .inv .0 .0 .0 .0))
+    let v = c .before .before .before .before .before .before .before .before .before .before .before .before .before .before .before .before .before .before .before .before .before .before .before .before .before .before .before .before .before .before .before .before .before .before .before .pre .0 in
+    let w = went-within (c .before .before .before .before .before .before .before .before .before .before .before .before .before .before .before .before .before .before .before .before .before .before) in
+    (w .held, w .range .saved-most, w .store, omega (arith, v .lent, c .before .before .before .before .before .before .before .before .before .before .before .before .before .does .kept .1 .1 .1 .1 .0, c .before .before .before .before .before .before .before .before .before .before .before .before .before .before .before .before .before .before .before .before .before .before .do-common .kept .1 .1 .1 .0, c .before .before .before .before .before .before .before .before .before .before .before .before .before .before .before .before .before .before .before .before .before .before .before .before .before .before .loop .inv .0 .0 .0 .0))
 
 same-length-4 : tie.Need-same-length-4 Inv-loop μ-loop
-same-length-4 c = c .before .before .before .before .before .before .before .enter-cells .kept .1 .1 .1 .1 .1 .0 ∙ c .before .before .before .before .before .before .before .before .before .before .before .before .before .before .before .before .before .before .before .before .does .kept .1 .1 .1 .1 .0 ∙ c .before .before .before .before .before .before .before .before .before .before .before .before .before .before .before .before .before .before .before .before .before .before .before .before .before .before .before .before .before .do-common .kept .1 .1 .1 .0 ∙ c .before .before .before .before .before .before .before .before .before .before .before .before .before .before .before .before .before .before .before .before .before .before .before .before .before .before .before .before .before .before .before .before .before .loop .inv .0 .0 .0 .0
+same-length-4 c = c .before .before .before .before .before .before .before .enter-cells .kept .1 .1 .1 .1 .1 .1 .0 ∙ c .before .before .before .before .before .before .before .before .before .before .before .before .before .before .before .before .before .before .before .before .before .does .kept .1 .1 .1 .1 .0 ∙ c .before .before .before .before .before .before .before .before .before .before .before .before .before .before .before .before .before .before .before .before .before .before .before .before .before .before .before .before .before .before .do-common .kept .1 .1 .1 .0 ∙ c .before .before .before .before .before .before .before .before .before .before .before .before .before .before .before .before .before .before .before .before .before .before .before .before .before .before .before .before .before .before .before .before .before .before .loop .inv .0 .0 .0 .0
 
 same-length-5 : tie.Need-same-length-5 Inv-loop μ-loop
-same-length-5 c = c .before .before .before .before .before .before .before .enter-cells .kept .1 .1 .1 .1 .1 .1 .0 ∙ c .before .before .before .before .before .before .before .before .before .before .before .before .before .before .before .before .before .before .before .before .before .before .before .before .before .before .before .before .before .before .before .before .before .loop .inv .0 .0 .0 .1
+same-length-5 c = c .before .before .before .before .before .before .before .enter-cells .kept .1 .1 .1 .1 .1 .1 .1 .0 ∙ c .before .before .before .before .before .before .before .before .before .before .before .before .before .before .before .before .before .before .before .before .before .before .before .before .before .before .before .before .before .before .before .before .before .before .loop .inv .0 .0 .0 .1
 
 same-length-6 : tie.Need-same-length-6 Inv-loop μ-loop
-same-length-6 c = c .before .before .before .before .before .before .before .before .before .before .before .before .before .before .before .before .before .before .before .before .does .kept .1 .1 .1 .1 .1 .0 ∙ c .before .before .before .before .before .before .before .before .before .before .before .before .before .before .before .before .before .before .before .before .before .before .before .before .before .before .before .before .before .before .before .before .before .loop .inv .0 .0 .0 .2
+same-length-6 c = c .before .before .before .before .before .before .before .before .before .before .before .before .before .before .before .before .before .before .before .before .before .does .kept .1 .1 .1 .1 .1 .0 ∙ c .before .before .before .before .before .before .before .before .before .before .before .before .before .before .before .before .before .before .before .before .before .before .before .before .before .before .before .before .before .before .before .before .before .before .loop .inv .0 .0 .0 .2
 
 returns-2 : tie.Need-returns-2 Inv-loop μ-loop
 returns-2 c =
-    let g = went-fits (c .before .before .before .before .before .before .before .before .before .before .before .before .before .before .before .before .before .before .before .before .before .before .before .before .before .before .before .before .before) in
-    turn-entry-refused _ _ _ _ _ _ _ _ _ (went-left (c .before .before .before .before .before .before .before .before .before .before .before .before .before .before .before .before .before .before .before .before .before .before .before .before .before .before .before .before .before)) (more-left (c .before .before .before .before .before .before .before .before .before .before .before .before .before .before .before .before .before .before .before .before .before .before .before .before)) _ _ _ (did (c .before .before .before .before .before .before .before .before .before .before .before .before .before .before .before .before .before .before .before .before)) _ (c .before .before .before .before .before .before .before .before .before .before .before .before .before .before .done2 .given .1) _ _ _ (entry-did (c .before .before .before .before .before .before .before)) (c .before .if2 .taken) _ (rw (toZ-ofZ g) at (c .ends2 .ensures))
+    let g = went-fits (c .before .before .before .before .before .before .before .before .before .before .before .before .before .before .before .before .before .before .before .before .before .before .before .before .before .before .before .before .before .before) in
+    turn-entry-refused _ _ _ _ _ _ _ _ _ (went-left (c .before .before .before .before .before .before .before .before .before .before .before .before .before .before .before .before .before .before .before .before .before .before .before .before .before .before .before .before .before .before)) (more-left (c .before .before .before .before .before .before .before .before .before .before .before .before .before .before .before .before .before .before .before .before .before .before .before .before .before)) _ _ _ (did (c .before .before .before .before .before .before .before .before .before .before .before .before .before .before .before .before .before .before .before .before .before)) (went-within (c .before .before .before .before .before .before .before .before .before .before .before .before .before .before .before .before .before .before .before .before .before .before .before .before .before .before .before .before .before .before) .range) _ (c .before .before .before .before .before .before .before .before .before .before .before .before .before .before .before .done2 .given .1) _ _ _ (entry-did (c .before .before .before .before .before .before .before)) (c .before .if2 .taken) _ (rw (toZ-ofZ g) at (c .ends2 .ensures))
 
 mul-frame : tie.Need-mul-frame Inv-loop μ-loop
 mul-frame c = omega (arith, room c .0)
@@ -295,20 +295,20 @@ loop-again c =
     ((((k ∙ c .before .before .before .before .before .before .before .before .before .before .before .before .before .before .before .before .do-common .kept .1 .1 .1 .0 ∙ i .0 .0 .0 .0, i .0 .0 .0 .1, h ∙ i .0 .0 .0 .2, i .0 .0 .0 .3), rw (toZ-ofZ g) (within-lent _ _ _ _ _ _ _ _ (next-within _ _ _ _ _ w _) k refl h)), i .0 .1), rw (toZ-ofZ g) (turn-next _ _ _ _ _ _ _ _ _ (went-left (c .before .before .before .before .before .before .before .before .before .before .before .before .before .before .before .before)) (more-left (c .before .before .before .before .before .before .before .before .before .before .before)) _ _ _ (did (c .before .before .before .before .before .before .before)) _ _ (c .before .done .given .1) refl))
 
 loop-less-2 : tie.Need-loop-less-2 Inv-loop μ-loop
-loop-less-2 c = let m = more-left (c .before .before .before .before .before .before .before .before .before .before .before .before .before .before .before .before .before .before .before .before .before .before .before .before .before) in omega (arith, m)
+loop-less-2 c = let m = more-left (c .before .before .before .before .before .before .before .before .before .before .before .before .before .before .before .before .before .before .before .before .before .before .before .before .before .before) in omega (arith, m)
 
 loop-again-2 : tie.Need-loop-again-2 Inv-loop μ-loop
 loop-again-2 c =
     let n = c .before .before .before .before .before .before .before .before .enter-cells in
-    let i = c .before .before .before .before .before .before .before .before .before .before .before .before .before .before .before .before .before .before .before .before .before .before .before .before .before .before .before .before .before .before .before .before .before .before .loop .inv in
-    let w = went-within (c .before .before .before .before .before .before .before .before .before .before .before .before .before .before .before .before .before .before .before .before .before .before .before .before .before .before .before .before .before .before) in
-    let k = n .kept .1 .1 .1 .1 .1 .0 ∙ c .before .before .before .before .before .before .before .before .before .before .before .before .before .before .before .before .before .before .before .before .before .does .kept .1 .1 .1 .1 .0 in
-    let m = n .kept .1 .1 .1 .1 .1 .1 .0 in
-    let h = c .before .before .before .before .before .before .before .before .before .before .before .before .before .before .before .before .before .before .before .before .before .does .kept .1 .1 .1 .1 .1 .0 in
-    let a = c .before .before .before .before .before .before .before .before .before .before .before .after in
+    let i = c .before .before .before .before .before .before .before .before .before .before .before .before .before .before .before .before .before .before .before .before .before .before .before .before .before .before .before .before .before .before .before .before .before .before .before .loop .inv in
+    let w = went-within (c .before .before .before .before .before .before .before .before .before .before .before .before .before .before .before .before .before .before .before .before .before .before .before .before .before .before .before .before .before .before .before) in
+    let k = n .kept .1 .1 .1 .1 .1 .1 .0 ∙ c .before .before .before .before .before .before .before .before .before .before .before .before .before .before .before .before .before .before .before .before .before .before .does .kept .1 .1 .1 .1 .0 in
+    let m = n .kept .1 .1 .1 .1 .1 .1 .1 .0 in
+    let h = c .before .before .before .before .before .before .before .before .before .before .before .before .before .before .before .before .before .before .before .before .before .before .does .kept .1 .1 .1 .1 .1 .0 in
+    let a = c .before .before .before .before .before .before .before .before .before .before .before .before .after in
     let f : SFits w64 (n .result .first) = search needs in
-    let back = a .ensures ∙ ap (λ (j : ℕ). pos j +ℤ pos 1) (place (c .before .before .before .before .before .before .before .before .before .before .before .before)) in
-    ((((k ∙ c .before .before .before .before .before .before .before .before .before .before .before .before .before .before .before .before .before .before .before .before .before .before .before .before .before .before .before .before .before .before .do-common .kept .1 .1 .1 .0 ∙ i .0 .0 .0 .0, m ∙ i .0 .0 .0 .1, h ∙ i .0 .0 .0 .2, i .0 .0 .0 .3), rw (toZ-ofZ f, toZ-ofZ {w = w64} {z = a .result} (record { sfits = a .ok })) (within-lent _ _ _ _ _ _ _ _ (entered-within _ _ _ _ _ w _ _ _ _ (room (c .before .before))) k m h)), (λ u. i .0 .1 (omega (arith, u)))), rw (toZ-ofZ f, toZ-ofZ {w = w64} {z = a .result} (record { sfits = a .ok })) (turn-enters _ _ _ _ _ _ _ _ _ (went-left (c .before .before .before .before .before .before .before .before .before .before .before .before .before .before .before .before .before .before .before .before .before .before .before .before .before .before .before .before .before .before)) (more-left (c .before .before .before .before .before .before .before .before .before .before .before .before .before .before .before .before .before .before .before .before .before .before .before .before .before)) _ _ _ (did (c .before .before .before .before .before .before .before .before .before .before .before .before .before .before .before .before .before .before .before .before .before)) _ (c .before .before .before .before .before .before .before .before .before .before .before .before .before .before .before .done2 .given .1) _ _ _ (entry-did (c .before .before .before .before .before .before .before .before)) (c .before .before .if2 .left) (i .0 .1) (called-at (c .before .before .before .before .before .before .before .before .before .before .before .before .before .before .before)) _ back))
+    let back = a .ensures ∙ ap (λ (j : ℕ). pos j +ℤ pos 1) (place (c .before .before .before .before .before .before .before .before .before .before .before .before .before)) in
+    ((((k ∙ c .before .before .before .before .before .before .before .before .before .before .before .before .before .before .before .before .before .before .before .before .before .before .before .before .before .before .before .before .before .before .before .do-common .kept .1 .1 .1 .0 ∙ i .0 .0 .0 .0, m ∙ i .0 .0 .0 .1, h ∙ i .0 .0 .0 .2, i .0 .0 .0 .3), rw (toZ-ofZ f, toZ-ofZ {w = w64} {z = a .result} (record { sfits = a .ok })) (within-lent _ _ _ _ _ _ _ _ (entered-within _ _ _ _ _ w _ _ _ _ (room (c .before .before))) k m h)), (λ u. i .0 .1 (omega (arith, u)))), rw (toZ-ofZ f, toZ-ofZ {w = w64} {z = a .result} (record { sfits = a .ok })) (turn-enters _ _ _ _ _ _ _ _ _ (went-left (c .before .before .before .before .before .before .before .before .before .before .before .before .before .before .before .before .before .before .before .before .before .before .before .before .before .before .before .before .before .before .before)) (more-left (c .before .before .before .before .before .before .before .before .before .before .before .before .before .before .before .before .before .before .before .before .before .before .before .before .before .before)) _ _ _ (did (c .before .before .before .before .before .before .before .before .before .before .before .before .before .before .before .before .before .before .before .before .before .before)) (went-within (c .before .before .before .before .before .before .before .before .before .before .before .before .before .before .before .before .before .before .before .before .before .before .before .before .before .before .before .before .before .before .before) .range) _ (c .before .before .before .before .before .before .before .before .before .before .before .before .before .before .before .before .done2 .given .1) _ _ _ (entry-did (c .before .before .before .before .before .before .before .before)) (c .before .before .if2 .left) (i .0 .1) (called-at (c .before .before .before .before .before .before .before .before .before .before .before .before .before .before .before .before)) _ back))
 
 loop-less-3 : tie.Need-loop-less-3 Inv-loop μ-loop
 loop-less-3 c = let m = more-left (c .before .before .before .before .before .before .before .before .before .before .before .before .before .before .before .before .before .before .before .before .before .before) in omega (arith, m)

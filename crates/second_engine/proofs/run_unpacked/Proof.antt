@@ -42,9 +42,9 @@ most c =
     let g : SFits w64 (s .limit) = search needs in
     (rw (toZ-ofZ g) at (c .place-of .ensures))
 
-down : (c : tie.After-place-of2) → let s = c .before .before .before .before .before .before .before .before .before .before .before .before .before .before .before .before .before .before .args in c .place-of2 .result ≡ placeOf (s .context .depth) (s .target)
+down : (c : tie.After-place-of2) → let s = c .before .before .before .before .before .before .before .before .before .before .before .before .before .before .before .before .before .before .before .before .args in c .place-of2 .result ≡ placeOf (s .context .depth) (s .target)
 down c =
-    let s = c .before .before .before .before .before .before .before .before .before .before .before .before .before .before .before .before .before .before .args in
+    let s = c .before .before .before .before .before .before .before .before .before .before .before .before .before .before .before .before .before .before .before .before .args in
     let g : SFits w64 (s .target) = search needs in
     (rw (toZ-ofZ g) at (c .place-of2 .ensures))
 
@@ -59,27 +59,30 @@ returns-2 c = run-37 _ _ _ _ _ _ _ (sound-there (c .before .before .before .befo
 
 returns-3 : tie.Need-returns-3
 returns-3 c =
-    let m = c .before .before in
+    let m = c .before .before .before in
     ⊎-elim
-    (λ z. run-28-none _ _ _ _ _ _ _ (sound-there (c .before .before .before .before .before .before .before)) (room (c .before .before .before)) _ (most m) (z .taken) _ (c .not-run3 .ensures))
-    (λ z. run-28-over _ _ _ _ _ _ _ (sound-there (c .before .before .before .before .before .before .before)) (room (c .before .before .before)) _ (most m) (ltb-true _ _ (z .1 .taken)) _ (c .not-run3 .ensures))
+    (λ z. run-28-none _ _ _ _ _ _ _ (sound-there (c .before .before .before .before .before .before .before .before)) (room (c .before .before .before .before)) _ (most m) (z .taken) _ (c .not-run3 .ensures))
+    (λ z. run-28-over _ _ _ _ _ _ _ (sound-there (c .before .before .before .before .before .before .before .before)) (room (c .before .before .before .before)) _ (most m) (ltb-true _ _ (z .2 .taken)) _ (c .not-run3 .ensures))
     (c .before .if3 .came)
 
 returns-4 : tie.Need-returns-4
 returns-4 c =
-    let m = c .before .before .before .before .before .before in
-    run-29 _ _ _ _ _ _ _ (sound-there (c .before .before .before .before .before .before .before .before .before .before .before)) (room (c .before .before .before .before .before .before .before)) _ (most m) (c .before .before .before .before .before .if3 .left) (ltb-false _ _ (c .before .before .before .before .if4 .left)) _ (down (c .before .before .before)) (c .before .if5 .taken) _ (c .not-run4 .ensures)
+    let m = c .before .before .before .before .before .before .before .before in
+    run-29 _ _ _ _ _ _ _ (sound-there (c .before .before .before .before .before .before .before .before .before .before .before .before .before)) (room (c .before .before .before .before .before .before .before .before .before)) _ (most m) (c .before .before .before .before .before .before .if3 .left) (ltb-false _ _ (c .before .before .before .before .if4 .left)) _ (down (c .before .before .before)) (c .before .if5 .taken) _ (c .not-run4 .ensures)
 
 cast-run-for : tie.Need-cast-run-for
-cast-run-for c = let few = ltb-false 99999 (c .before .before .before .before .before .place-of .result) (c .before .before .before .if4 .left) in omega (arith, few)
+cast-run-for c =
+    let few = ltb-false (c .before .before .before .before .before .before .before .before .before .before .before .before .before .before .before .before .before .before .before .before .before .before .args .context .settings .limit) (c .before .before .before .before .before .before .before .place-of .result) (c .before .before .before .if4 .left) in
+    let w = within (c .before .before .before .before .before .before .before .before .before .before .before .before) in
+    omega (arith, few, w .range .limit-most)
 
 run-for-requires : tie.Need-run-for-requires
-run-for-requires c κs = (within (c .before .before .before .before .before .before .before .before .before .before .before .before .before), ((λ h. absurd (omega (arith, h, c .before .before .before .if5 .left))), c .before .before .before .before .before .before .before .before .before .if2 .left))
+run-for-requires c κs = (within (c .before .before .before .before .before .before .before .before .before .before .before .before .before .before .before), ((λ h. absurd (omega (arith, h, c .before .before .before .if5 .left))), c .before .before .before .before .before .before .before .before .before .before .before .if2 .left))
 
 returns-5 : tie.Need-returns-5
 returns-5 c =
-    let m = c .before .before .before .before .before .before .before .before .before .before .before .before .before .before .before in
-    run-goes _ _ _ _ _ _ _ (sound-there (c .before .before .before .before .before .before .before .before .before .before .before .before .before .before .before .before .before .before .before .before)) (room (c .before .before .before .before .before .before .before .before .before .before .before .before .before .before .before .before)) _ (most m) (c .before .before .before .before .before .before .before .before .before .before .before .before .before .before .if3 .left) (ltb-false _ _ (c .before .before .before .before .before .before .before .before .before .before .before .before .before .if4 .left)) _ (down (c .before .before .before .before .before .before .before .before .before .before .before .before)) (c .before .before .before .before .before .before .before .before .before .before .if5 .left) _ (c .before .before .before .before .before .before .run-for .ensures)
+    let m = c .before .before .before .before .before .before .before .before .before .before .before .before .before .before .before .before .before in
+    run-goes _ _ _ _ _ _ _ (sound-there (c .before .before .before .before .before .before .before .before .before .before .before .before .before .before .before .before .before .before .before .before .before .before)) (room (c .before .before .before .before .before .before .before .before .before .before .before .before .before .before .before .before .before .before)) _ (most m) (c .before .before .before .before .before .before .before .before .before .before .before .before .before .before .before .if3 .left) (ltb-false _ _ (c .before .before .before .before .before .before .before .before .before .before .before .before .before .if4 .left)) _ (down (c .before .before .before .before .before .before .before .before .before .before .before .before)) (c .before .before .before .before .before .before .before .before .before .before .if5 .left) _ (c .before .before .before .before .before .before .run-for .ensures)
 
 pub run-unpacked-spec : {M : Type 1} → statement M
 run-unpacked-spec =
