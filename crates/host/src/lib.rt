@@ -221,8 +221,5 @@ pub extern "C" fn host_unpack(
     ensures { λ r. ⌜ unpackingOf r (now (buffer .exit)) ≡ afterUnpacking (now (file .entry)) (now (buffer .entry)) context (now (cells .entry)) (now (store .entry)) (now (entities .entry)) ⌝ }
 {
     let answer = unpacked::unpack(context, file, buffer, cells, store, entities);
-    call_list::reply_answer(Answered {
-        context,
-        answer,
-    })
+    call_list::reply_answer(Answered { context, answer })
 }
