@@ -38,8 +38,8 @@ call-ready file numbers k a b = by (eqb k 0) (eqb k 1) (eqb k 2) (eqb k 3) (eqb 
   where
     by : (t0 t1 t2 t3 t4 t5 t6 : Bool)
         → Ready file
-          (cond t0 (enters a) (cond t1 steps (cond t2 (runs a b) (cond t3 carries (cond t4 (abandons a) (cond t5 (reads a)
-          (cond t6 (writes a (natural b)) (writesAll (take (natural b) (drop (natural a) numbers))))))))))
+        (cond t0 (enters a) (cond t1 steps (cond t2 (runs a b) (cond t3 carries (cond t4 (abandons a) (cond t5 (reads a)
+        (cond t6 (writes a (natural b)) (writesAll (take (natural b) (drop (natural a) numbers))))))))))
     by true t1 t2 t3 t4 t5 t6 = tt
     by false true t2 t3 t4 t5 t6 = tt
     by false false true t3 t4 t5 t6 = tt

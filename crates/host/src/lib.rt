@@ -10,10 +10,10 @@ ghost use Rattle.host.specs.Loading.{afterLoad};
 ghost use Rattle.host.specs.Unpacking.{unpackingOf, afterUnpacking};
 ghost use Rattle.host.specs.Writing.{writingOf, afterWriting};
 use call_list::Replied;
-use definition::Answer;
 use definition::ReadAnswer;
 use definition::Settings;
 use definition::WriteAnswer;
+use progs::Answered;
 use progs::ExecutionContext;
 use progs::load;
 
@@ -220,8 +220,6 @@ pub extern "C" fn host_unpack(
 ) -> Replied
     ensures { λ r. ⌜ unpackingOf r (now (buffer .exit)) ≡ afterUnpacking (now (file .entry)) (now (buffer .entry)) context (now (cells .entry)) (now (store .entry)) (now (entities .entry)) ⌝ }
 {
-    match unpacked::unpack(context, file, buffer, cells, store, entities) {
-        Answer::Accepted => return call_list::reply_read(context, ReadAnswer::Value(0)),
-        Answer::Refused(n) => return call_list::reply_read(context, ReadAnswer::Refused(n)),
-    }
+    let answer = unpacked::unpack(context, file, buffer, cells, store, entities);
+    call_list::reply_answer(Answered { context, answer })
 }
