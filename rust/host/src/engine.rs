@@ -21,7 +21,7 @@ const NUMBERS: usize = 4;
 #[derive(Clone, Debug, Default)]
 pub struct Unpacked {
     numbers: Vec<u16>,
-    /// Whether the program's bytes and the context are those that were unpacked from.
+    /// Whether they were unpacked from the program's bytes as they are.
     current: bool,
 }
 
@@ -34,7 +34,7 @@ impl Unpacked {
         self.current
     }
 
-    /// The program's bytes, or what the context says of them, may be others from now on.
+    /// The program's bytes may be others from now on.
     pub fn set_outdated(&mut self) {
         self.current = false;
     }

@@ -9,6 +9,9 @@
 //! [`Machine::field`] and [`Machine::field_mut`] read and set the fields of entities, by name and type. What a run answers,
 //! [`Run`], prints as a sentence for a display. [`load_file`] makes heavy files for benches.
 //!
+//! A run goes by the second [`Engine`], from statements that the machine unpacks at a load and again where the program's bytes were changed; the
+//! first can be asked for, and gives the same.
+//!
 //! What the library promises is proved. What this crate does around it is not: it is Rust, tested. A load checks what
 //! both stand on: that the library is the crate's own, and the processor's floating-point mode ([`LoadError`]).
 //!

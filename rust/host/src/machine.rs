@@ -268,8 +268,8 @@ impl Machine {
 
     /// Unpacks the program's statements for the second engine.
     ///
-    /// A load does, and so does the first run after [`Machine::program_mut`] or [`Machine::set_context`]. A host that wants
-    /// this time to be spent before the run calls it itself. Refused 13 as every operation.
+    /// A load does, and so does the first run after [`Machine::program_mut`]. A host that wants this time to be spent before the
+    /// run calls it itself. Refused 13 as every operation.
     ///
     /// ```
     /// use host::assemble::{Assembly, Function};
@@ -627,7 +627,7 @@ impl Machine {
 
     /// Puts another context in place. One that doesn't belong to the buffers is refused 13 by every operation.
     pub fn set_context(&mut self, context: Context) {
-        self.unpacked.set_outdated();
+        // What is unpacked stays right: a context that isn't refused 13 records the statements of the program's bytes.
         self.reply.context = context;
     }
 
