@@ -17,6 +17,7 @@ use Rattle.definition.specs.RecordLaws.{length-records}
 use Rattle.definition.specs.Floats.{isZero}
 use Rattle.definition.specs.Cells.{signed, cellOf, Typing, typingOf, access, cellAccess, lookup, passes}
 use Rattle.definition.specs.Statements.{Entities, Does, next, Shape, branches, opcodes, shapeOf, floatsEffect, effectDoes, branchesDo, tablesOf, executeAs, execute, doesAt}
+use Rattle.definition.specs.Statements as shapes
 use Rattle.functions.specs.declared.fetch.Fetched.the-variants.{At}
 use Rattle.functions.specs.Answers.{fetched}
 use Rattle.functions.specs.Laws.{FetchedAt, fetch-accepts, does-fetched}
@@ -84,6 +85,21 @@ module _ (k : Contents) (p : ℤ) (e : Entities) (cells : List ℕ) (i : ℕ) (s
   branch-does when is a r there =
       branched when (st .arg1) a (signed (st .arg2)) r (there ∙ ap (λ (z : ℤ). z +ℤ cond (Bool·beq (isZero (getD cells (st .arg1) 0)) when) (signed (st .arg2)) (pos 1)) (sym (at .position)))
       ∙ shaped (branches when) is
+
+  pub goto-does : shapes.jumps ≡ shapeOf (st .opcode) → (r : ℤ) → r ≡ pos i +ℤ signed (st .arg1) → next r cells ≡ doesAt k p e cells
+  goto-does is r there = ap (λ (z : ℤ). next z cells) (there ∙ ap (λ (z : ℤ). z +ℤ signed (st .arg1)) (sym (at .position))) ∙ shaped shapes.jumps is
+
+  pub return-does : shapes.return ≡ shapeOf (st .opcode) → (a : ℕ) → a ≡ cellOf (st .arg1) → shapes.returns a ≡ doesAt k p e cells
+  return-does is a there = ap shapes.returns there ∙ shaped shapes.return is
+
+-- the opcodes of Goto and Return
+pub goto-shape : (op : ℕ) → op ≡ 61 → shapes.jumps ≡ shapeOf op
+unfolding shapeOf opcodes
+goto-shape op e = rw e refl
+
+pub return-shape : (op : ℕ) → op ≡ 43 → shapes.return ≡ shapeOf op
+unfolding shapeOf opcodes
+return-shape op e = rw e refl
 
 -- the opcodes of the branches
 pub if-shape : (op : ℕ) → op ≡ 49 → branches false ≡ shapeOf op

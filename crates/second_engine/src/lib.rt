@@ -21,6 +21,7 @@ use definition::UNPACKED_SIZE;
 use execution::Executed;
 use functions::fetch;
 use functions::fetch::Fetched;
+use functions::ops;
 use functions::parts;
 use progs::ExecutionContext;
 use progs::calls;
@@ -60,6 +61,13 @@ fn does(
     match fetched {
         Fetched::Refused(n) => return Executed::Refused(n),
         Fetched::At(k, s) => {
+            // These two check nothing, and need no call.
+            if s.opcode == ops::GOTO {
+                return Executed::Next(fetch::jump(k, s.arg1));
+            }
+            if s.opcode == ops::RETURN {
+                return Executed::Returns(fetch::cell_of(s.arg1));
+            }
             return execution::execute(file, recorded, number, cells, entities, k, s);
         }
     }
