@@ -109,7 +109,14 @@ fn run_for(
     let mut now = context;
     let mut count: u32 = 0;
     while count < limit {
-        let went = quick::do_common(buffer, statement_count, untyped, cells, now.pc, limit - count);
+        let went = quick::do_common(
+            buffer,
+            statement_count,
+            untyped,
+            cells,
+            now.pc,
+            limit - count,
+        );
         now.pc = went.pc;
         count = count + went.count;
         if limit <= count {
