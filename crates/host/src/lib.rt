@@ -3,7 +3,7 @@
 // what they are said to be.
 ghost use mathlib.Core.Path.{_≡_};
 ghost use Rattle.definition.specs.Load.{programOf};
-ghost use Rattle.definition.specs.Calls.{enters, steps, runs, runsUnpacked, carries, abandons, reads, writes, writesAll};
+ghost use Rattle.definition.specs.Calls.{enters, runsUnpacked, carries, abandons, reads, writes, writesAll};
 ghost use Rattle.progs.specs.Contexts.{config};
 ghost use Rattle.call_list.specs.Encoding.{repliedOf, afterCall};
 ghost use Rattle.host.specs.Loading.{afterLoad};
@@ -51,36 +51,6 @@ pub extern "C" fn host_enter(
 {
     let entered = context.enter(file, function, cells, store, entities);
     call_list::reply_answer(entered)
-}
-
-#[no_mangle]
-pub extern "C" fn host_statement(
-    context: ExecutionContext,
-    file: &[u8],
-    cells: &mut [u32],
-    store: &mut [u32],
-    entities: &mut [u32],
-) -> Replied
-    ensures { λ r. ⌜ repliedOf r (now (cells .exit)) (now (store .exit)) (now (entities .exit)) ≡ afterCall (programOf (now (file .entry))) steps (config context (now (cells .entry)) (now (store .entry)) (now (entities .entry))) ⌝ }
-{
-    let stepped = stepping::step_once(context, file, cells, store, entities);
-    call_list::reply_statement(stepped)
-}
-
-#[no_mangle]
-pub extern "C" fn host_run(
-    context: ExecutionContext,
-    file: &[u8],
-    target: i64,
-    limit: i64,
-    cells: &mut [u32],
-    store: &mut [u32],
-    entities: &mut [u32],
-) -> Replied
-    ensures { λ r. ⌜ repliedOf r (now (cells .exit)) (now (store .exit)) (now (entities .exit)) ≡ afterCall (programOf (now (file .entry))) (runs target limit) (config context (now (cells .entry)) (now (store .entry)) (now (entities .entry))) ⌝ }
-{
-    let ran = server::run(context, file, target, limit, cells, store, entities);
-    call_list::reply_run(ran)
 }
 
 // A run of the second engine, from the buffer (document 02, R-12).
