@@ -102,12 +102,12 @@ load-untouched s file n cells saved entities = go (load s file n cells saved ent
 
 -- ---- statements and runs
 
-abbrev WhenCompleted : (Config → Type 0) → Stepped → Type 0
+abbrev pub WhenCompleted : (Config → Type 0) → Stepped → Type 0
 WhenCompleted Q (completed c) = Q c
 WhenCompleted Q (refusedStep n) = Unit {0}
 WhenCompleted Q (handedStep h) = Unit {0}
 
-as-step : (Q : Config → Type 0) (x : Checked Config) → WhenAccepted Q x → WhenCompleted Q (asStep x)
+pub as-step : (Q : Config → Type 0) (x : Checked Config) → WhenAccepted Q x → WhenCompleted Q (asStep x)
 as-step Q (refused n) h = tt
 as-step Q (accepted c) h = h
 

@@ -17,3 +17,9 @@ pub mod Texts
 pub mod Pairs
 pub mod Opcodes
 pub mod Refusals
+pub mod StackLaws
+pub mod Passing
+pub mod StatementNumbers
+pub mod Longer
+pub mod SavedSuffice
+pub mod NeverTwentySix

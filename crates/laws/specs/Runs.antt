@@ -14,6 +14,7 @@ use Rattle.definition.specs.Machine.{Program, Config, withEntities, Stepped, co
 use Rattle.definition.specs.Operations.{hostEnter, statement, run, carryOn, abandon, rawWrite, writeAll}
 use Rattle.definition.specs.Answers.{kept, statementOutcome}
 use Rattle.definition.specs.Calls.{enters, steps, runs, carries, abandons, reads, writes, writesAll, lends, after}
+use Rattle.laws.specs.Entities.{WhenCompleted}
 
 -- "Spent is given when the limit's statements are completed and the target isn't reached"; a run that ended stands at its target; one that was refused
 -- or handed over stands at a statement that is
@@ -57,6 +58,43 @@ pub run-goes-on : (P : Program) (n target : ℕ) (c c′ : Config) → step P c 
     → runFor P (suc n) target c ≡ oneMore (runFor P n target c′)
 unfolding runFor
 run-goes-on P n target c c′ e d = rw (e, d)
+
+-- ---- a run: what every statement that doesn't reach the target keeps, holds where the run stops without having ended
+
+abbrev pub UnlessEnded : RunAnswer → Type 0 → Type 0
+UnlessEnded Ended A = Unit {0}
+UnlessEnded Spent A = A
+UnlessEnded (Refused n) A = A
+UnlessEnded (HandedOver h) A = A
+
+-- of a statement that completes without reaching the target
+abbrev pub WhenShort : ℕ → (Config → Type 0) → Stepped → Type 0
+WhenShort target Q s = WhenCompleted (λ (c : Config). eqb (c .state .depth) target ≡ false → Q c) s
+
+module _ (P : Program) (target : ℕ) (K : Config → Type 0) (kept : (c : Config) → K c → WhenShort target K (step P c)) where
+  abbrev Kept : Ran → Type 0
+  Kept r = UnlessEnded (r .answer) (K (r .config))
+
+  kept-on : (c : Config) (b : Bool) (rest : Config → Ran) → eqb (c .state .depth) target ≡ b → (eqb (c .state .depth) target ≡ false → K c)
+      → ((c′ : Config) → K c′ → Kept (rest c′)) → Kept (oneMore (goOn b c rest))
+  kept-on c true rest e k go = tt
+  kept-on c false rest e k go = go c (k e)
+
+  kept-as : (s : Stepped) (c : Config) (rest : Config → Ran) → K c → WhenShort target K s → ((c′ : Config) → K c′ → Kept (rest c′)) → Kept (runAs s target c rest)
+  kept-as (completed c′) c rest k h go = kept-on c′ (eqb (c′ .state .depth) target) rest refl h go
+  kept-as (refusedStep n) c rest k h go = k
+  kept-as (handedStep x) c rest k h go = k
+
+  pub run-keeps : (n : ℕ) (c : Config) → K c → Kept (runFor P n target c)
+  unfolding runFor
+  run-keeps zero c k = k
+  run-keeps (suc n) c k = kept-as (step P c) c (λ c′. runFor P n target c′) k (kept c k) (λ c′ k′. run-keeps n c′ k′)
+
+-- what every completed statement keeps is kept by those that don't reach a target
+pub always-short : (target : ℕ) (Q : Config → Type 0) (s : Stepped) → WhenCompleted Q s → WhenShort target Q s
+always-short target Q (completed c) h = λ e. h
+always-short target Q (refusedStep n) h = tt
+always-short target Q (handedStep x) h = tt
 
 -- ---- what a call of demand 3's lists leaves is what the operation of demand 2 gives
 
