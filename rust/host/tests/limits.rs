@@ -4,7 +4,8 @@ mod common;
 
 use common::{random_machine, Chance};
 use host::{
-    load_file, Context, Engine, Machine, Outcome, Refusal, Run, RunOutcome, Settings, CELLS, SAVED_STORE,
+    load_file, Context, Engine, Machine, Outcome, Refusal, Run, RunOutcome, Settings, CELLS,
+    SAVED_STORE,
 };
 
 /// The state and the buffers, all that a run may change.
