@@ -237,5 +237,6 @@ def load_file():
 LOAD_FILES = [
     ("making a load file of 1,000 drawn statements, 8,405 bytes", "make", lambda times: 8_405 * times),
     ("loading it, and a call of its function: 1,001 statements", "load", lambda times: 1_001 * times),
+    ("unpacking its 1,002 statements", "unpack", lambda times: times),
 ]
 LOAD_FILE_TIMES = (10, 110), (100, 1_600)

@@ -1,13 +1,13 @@
 #!/usr/bin/env python3
 """Runs the host's replay program on lists of calls and compares what it prints with what the model of tests/model answers.
 
-    python3 tests/run_replay.py REPLAY      the lists of calls.txt, images.txt, outcomes.txt, pairs.txt and settings.txt of tests/model/cases, the load files of
+    python3 tests/run_replay.py REPLAY      the lists of calls.txt, images.txt, outcomes.txt, pairs.txt, settings.txt and engines.txt of tests/model/cases, the load files of
                                             load_files.txt, the list of rust/host/tests/replay, the rule files of tests/rules written, and lists
                                             made by chance
     python3 tests/run_replay.py --write     writes the list of rust/host/tests/replay, with what the model prints for it
     python3 tests/run_replay.py --check     says whether the committed one is that
 
-REPLAY is the built program, as rust/host/target/debug/examples/replay. Lists of calls.txt that change a state's numbers, or
+REPLAY is the built program, as rust/host/target/debug/examples/replay. Each list is played again with every run by the second engine. Lists of calls.txt that change a state's numbers, or
 entity cells between calls, can't be replayed, and are left out.
 """
 import os
@@ -23,7 +23,7 @@ RULES = os.path.join(ROOT, "tests/rules")
 sys.path.insert(0, os.path.join(ROOT, "tests/model"))
 import model
 from common import Xorshift, random_program
-from replay import bytes_of, lines_of
+from replay import bytes_of, lines_of, second_run
 
 FNV_BASIS, FNV_PRIME = 14695981039346656037, 1099511628211
 # how many lists are made by chance
@@ -33,7 +33,7 @@ EDGES = [-2**64, -2**63, -2**31 - 1, -1, 0, 30, 31, 63, 64, 2048, 100000, 2**31 
 # what calls.txt calls otherwise
 NAMES = {"get": "read", "put": "write", "byte": "poke"}
 # the case files that have lists of calls
-LISTS = "calls.txt", "images.txt", "outcomes.txt", "pairs.txt", "settings.txt"
+LISTS = "calls.txt", "images.txt", "outcomes.txt", "pairs.txt", "settings.txt", "engines.txt"
 # what each byte of an output or display buffer that is lent holds
 UNWRITTEN = 238
 # what only calls.txt has; its `lend` is of entity cells alone
@@ -111,9 +111,12 @@ class Lent:
         machine.state = self.state
         if name in ("write", "pairs"):
             given[1::2] = [value % 2**32 for value in given[1::2]]
-        answer = machine.write_pairs(given) if name == "pairs" else self.operation(machine, name)(*given)
+        if name == "run2":
+            answer = second_run(machine, *given)
+        else:
+            answer = machine.write_pairs(given) if name == "pairs" else self.operation(machine, name)(*given)
         self.state = machine.state
-        if name == "run":
+        if name in ("run", "run2"):
             self.outcome = model.outcome_of(answer, machine.state)
         return words_of(name, answer)
 
@@ -152,7 +155,7 @@ def load_file(seed, n, room):
 
 
 def words_of(name, answer):
-    if name == "run":
+    if name in ("run", "run2"):
         return "%s %d %d" % (answer.word, answer.detail, answer.count)
     if answer.word == "accepted":
         return "%s %d" % ("completed" if name == "statement" else "ok", answer.detail)
@@ -179,6 +182,11 @@ def lists(file):
         left_out = left_out or name in LEFT_OUT
         calls.append(" ".join([NAMES.get(name, name)] + words[:words.index("=")]))
     yield program, [] if left_out else calls
+
+
+def by_second(lines):
+    """The same calls, or what is printed for them, with every run by the second engine."""
+    return ["run2" + line[3:] if line.startswith("run ") else line for line in lines]
 
 
 def in_turn(count):
@@ -456,6 +464,54 @@ def fixed_list():
         enter 4
         run 0 1
         run 0 2
+        run2 0 1
+        run2 0 2
+        poke 4 39
+        poke 68 6
+        poke 60 0
+        load 0
+        run2 0 5
+        enter 1
+        run2 0 1
+        sentence 120
+        run 0 1
+        run2 0 5
+        carry
+        run 0 5
+        run2 0 5
+        sentence 120
+        carry
+        run2 0 2
+        run 0 5
+        enter 5
+        run2 0 77
+        run2 1 5
+        run2 0 0
+        run2 0 100000
+        run2 18446744073709551616 18446744073709551616
+        run2 -9223372036854775808 1
+        poke 116 66
+        run2 0 5
+        run 0 5
+        poke 116 61
+        poke 118 2
+        run2 0 5
+        poke 12 11
+        run2 0 5
+        poke 12 12
+        lend 64 2047 0
+        run2 0 5
+        lend 64 2048 211
+        load 2
+        enter 6
+        run2 0 2
+        run 0 1
+        run2 0 1
+        sentence 120
+        file %(short)d
+        run2 0 5
+        file %(length)d
+        run2 0 5
     """ % {"length": len(data), "short": len(data) - 1, "spare": len(data) + 40, "most": in_turn(64), "more": in_turn(65), "odd": in_turn(64) + " 0"}
     return data, [line.strip() for line in calls.strip().splitlines()]
 
@@ -493,7 +549,7 @@ def random_call(chance, length):
     if kind < 45:
         return "statement"
     if kind < 65:
-        return "run %d %d" % (chance.below(4) - 1, chance.below(60))
+        return "%s %d %d" % (chance.pick(("run", "run2")), chance.below(4) - 1, chance.below(60))
     if kind < 75:
         return "carry"
     if kind < 82:
@@ -529,7 +585,7 @@ def random_load(chance, entities):
 def edged(chance, call):
     """A call, now and then with a number at an edge."""
     name, *numbers = call.split()
-    if numbers and name in ("enter", "run", "abandon", "read", "write", "pairs", "load") and chance.below(12) == 0:
+    if numbers and name in ("enter", "run", "run2", "abandon", "read", "write", "pairs", "load") and chance.below(12) == 0:
         numbers[chance.below(len(numbers))] = str(chance.pick(EDGES))
     return " ".join([name, *numbers])
 
@@ -593,12 +649,14 @@ def compare(replay):
         if not calls:
             left_out += 1
             continue
-        got, wanted = run(replay, program, calls), expected(program, calls)
-        counted += len(wanted)
-        pairs = [pair for pair in zip(got, wanted) if pair[0] != pair[1]]
-        if got != wanted:
-            differ += 1
-            print(pairs[0] if pairs else "%d lines instead of %d" % (len(got), len(wanted)))
+        answers = expected(program, calls)
+        for asked, wanted in ((calls, answers), (by_second(calls), by_second(answers))):
+            got = run(replay, program, asked)
+            counted += len(wanted)
+            pairs = [pair for pair in zip(got, wanted) if pair[0] != pair[1]]
+            if got != wanted:
+                differ += 1
+                print(pairs[0] if pairs else "%d lines instead of %d" % (len(got), len(wanted)))
     print("%d calls replayed, %d lists differ, %d lists left out" % (counted, differ, left_out))
     return differ
 

@@ -1,5 +1,5 @@
 """Writes the case files: cases/statements.txt, files.txt, calls.txt, traces.txt, images.txt, pads.txt, sentences.txt,
-outcomes.txt, pairs.txt, load_files.txt and settings.txt.
+outcomes.txt, pairs.txt, load_files.txt, settings.txt, engines.txt and unpacked.txt.
 
 What is expected in them is what model.py answers.  README.md says how to read them.  The same
 files come out every time: the only chance numbers are those of a xorshift with fixed seeds.
@@ -8,6 +8,7 @@ files come out every time: the only chance numbers are those of a xorshift with 
 import os
 
 from call_cases import call_cases
+from engine_cases import engine_cases, unpacked_cases
 from file_cases import file_cases
 from image_cases import image_cases
 from load_file_cases import load_file_cases
@@ -27,6 +28,7 @@ def make():
     makers |= {"traces.txt": trace_cases(), "images.txt": image_cases(), "pads.txt": pad_cases()}
     makers |= {"sentences.txt": sentence_cases(), "outcomes.txt": outcome_cases(), "pairs.txt": pair_cases()}
     makers |= {"load_files.txt": load_file_cases(), "settings.txt": settings_cases()}
+    makers |= {"engines.txt": engine_cases(), "unpacked.txt": unpacked_cases()}
     texts = {name: "\n".join(maker.lines) + "\n" for name, maker in makers.items()}
     return texts, makers
 

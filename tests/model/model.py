@@ -253,6 +253,12 @@ Definition = namedtuple("Definition", "type cell name")
 Function = namedtuple("Function", "first local locals profile name source arguments sizes")
 
 
+def unpacked_statement(unpacked, index):
+    """R-12: "four to a statement in the file's order", the operands signed as in the file."""
+    numbers = unpacked[4 * index : 4 * index + 4]
+    return Statement(*[number - 0x10000 if number >= 0x8000 else number for number in numbers])
+
+
 def read_header(file):
     """Fifteen signed 32-bit numbers: version, check number, six lumps, cells per entity."""
     numbers = struct.unpack_from("<15i", file, 0)
@@ -405,6 +411,7 @@ class Machine:
         self.fewest_cells = fewest_cells
         self.state = State()
         self._written = []  # (buffer, index, what stood there), to undo a refusal
+        self._unpacked = None  # R-12: the buffer that the second engine's run reads
 
     # -- the operations ------------------------------------------------------------------------
 
@@ -429,6 +436,14 @@ class Machine:
 
     def run(self, target, limit):
         return self._operation(lambda: self._run(target, limit))
+
+    def unpack(self, unpacked):
+        """R-12: writes the statements into the unpack buffer, numbers of 16 bits without a sign."""
+        return self._operation(lambda: self._unpack(unpacked))
+
+    def run_unpacked(self, unpacked, target, limit):
+        """R-12: the second engine's run."""
+        return self._operation(lambda: self._run_unpacked(unpacked, target, limit))
 
     def carry_on(self):
         return self._operation(self._carry_on)
@@ -634,7 +649,10 @@ class Machine:
 
     def _fetch(self):
         check(0 <= self.state.position < self._program.count(STATEMENTS), 14)
-        statement = self._program.statement(self.state.position)
+        if self._unpacked is None:
+            statement = self._program.statement(self.state.position)
+        else:
+            statement = unpacked_statement(self._unpacked, self.state.position)
         check(0 <= statement.opcode < len(OPCODES), 7)
         return statement
 
@@ -912,6 +930,28 @@ class Machine:
         for index, byte in enumerate(file):
             output[index] = byte
         return Answer("accepted", len(file))
+
+    # -- unpacked statements (R-12) ------------------------------------------------------------
+
+    def _check_unpacked(self, unpacked):
+        # "An unpack buffer shorter than four numbers a statement is refused 37, at unpacking and at each run, after 13 and
+        # before 28, and stays untouched."
+        check(len(unpacked) >= 4 * self._program.count(STATEMENTS), 37)
+
+    def _unpack(self, unpacked):
+        self._check_unpacked(unpacked)
+        for index in range(self._program.count(STATEMENTS)):
+            for i, number in enumerate(self._program.statement(index)):
+                unpacked[4 * index + i] = number & 0xFFFF  # numbers past the last statement stay
+
+    def _run_unpacked(self, unpacked, target, limit):
+        """As the first engine's run, but for where a statement is read."""
+        self._check_unpacked(unpacked)
+        self._unpacked = unpacked
+        try:
+            return self._run(target, limit)
+        finally:
+            self._unpacked = None
 
     # -- run, carry on, abandon ----------------------------------------------------------------
 

@@ -851,6 +851,66 @@ MUTANTS = [
     ("written(self.state.cells_per_entity, self.state.settings.check_number)", "written(self.state.cells_per_entity, read_header(self.file)[1])"),
     ("written(self.state.cells_per_entity, self.state.settings.check_number)", "written(self.state.cells_per_entity, self.state.settings.check_number % 256)"),
     ("written(self.state.cells_per_entity, self.state.settings.check_number)", "written(self.state.cells_per_entity, struct.unpack(\"<h\", struct.pack(\"<H\", self.state.settings.check_number))[0])"),
+    # what is unpacked
+    ("            for i, number in enumerate(self._program.statement(index)):\n", "            opcode, a, b, c = self._program.statement(index)\n            for i, number in enumerate((opcode, b, a, c)):\n"),
+    ("            for i, number in enumerate(self._program.statement(index)):\n", "            opcode, a, b, c = self._program.statement(index)\n            for i, number in enumerate((opcode, a, c, b)):\n"),
+    ("            for i, number in enumerate(self._program.statement(index)):\n", "            opcode, a, b, c = self._program.statement(index)\n            for i, number in enumerate((a, b, c, opcode)):\n"),
+    ("            for i, number in enumerate(self._program.statement(index)):\n", "            for i, number in enumerate(self._program.statement(index)[:3]):\n"),
+    ("            for i, number in enumerate(self._program.statement(index)):\n", "            check(0 <= self._program.statement(index).opcode < len(OPCODES), 7)\n            for i, number in enumerate(self._program.statement(index)):\n"),
+    # one statement too few, one too many, by the buffer's length
+    ("        self._check_unpacked(unpacked)\n        for index in range(self._program.count(STATEMENTS)):\n", "        self._check_unpacked(unpacked)\n        for index in range(self._program.count(STATEMENTS) - 1):\n"),
+    ("        self._check_unpacked(unpacked)\n        for index in range(self._program.count(STATEMENTS)):\n", "        self._check_unpacked(unpacked)\n        for index in range(1, self._program.count(STATEMENTS)):\n"),
+    ("        self._check_unpacked(unpacked)\n        for index in range(self._program.count(STATEMENTS)):\n", "        self._check_unpacked(unpacked)\n        for index in range(len(unpacked) // 4):\n"),
+    # numbers past the last statement written over
+    ("        self._check_unpacked(unpacked)\n        for index in range(self._program.count(STATEMENTS)):\n", "        self._check_unpacked(unpacked)\n        unpacked[:] = [0] * len(unpacked)\n        for index in range(self._program.count(STATEMENTS)):\n"),
+    ("        self._check_unpacked(unpacked)\n        for index in range(self._program.count(STATEMENTS)):\n", "        self._check_unpacked(unpacked)\n        if len(unpacked) > 4 * self._program.count(STATEMENTS):\n            unpacked[4 * self._program.count(STATEMENTS)] = 0\n        for index in range(self._program.count(STATEMENTS)):\n"),
+    # lump by lump of numbers: all opcodes, then all first operands ..
+    ("                unpacked[4 * index + i] = number & 0xFFFF  #", "                unpacked[self._program.count(STATEMENTS) * i + index] = number & 0xFFFF  #"),
+    ("                unpacked[4 * index + i] = number & 0xFFFF  #", "                unpacked[4 * index + i] = number & 0xFF if i == 0 else number & 0xFFFF  #"),
+    ("                unpacked[4 * index + i] = number & 0xFFFF  #", "                unpacked[4 * index + i] = max(number, 0)  #"),
+    ("                unpacked[4 * index + i] = number & 0xFFFF  #", "                unpacked[4 * index + i] = (number & 0xFF) << 8 | (number >> 8 & 0xFF)  #"),
+    # 37 and its place
+    ("        check(len(unpacked) >= 4 * self._program.count(STATEMENTS), 37)\n", "        pass\n"),
+    ("        check(len(unpacked) >= 4 * self._program.count(STATEMENTS), 37)\n", "        check(len(unpacked) > 4 * self._program.count(STATEMENTS), 37)\n"),
+    ("        check(len(unpacked) >= 4 * self._program.count(STATEMENTS), 37)\n", "        check(len(unpacked) >= 4 * self._program.count(STATEMENTS) - 3, 37)\n"),
+    ("        check(len(unpacked) >= 4 * self._program.count(STATEMENTS), 37)\n", "        check(len(unpacked) >= self._program.count(STATEMENTS), 37)\n"),
+    ("        check(len(unpacked) >= 4 * self._program.count(STATEMENTS), 37)\n", "        check(len(unpacked) == 4 * self._program.count(STATEMENTS), 37)\n"),
+    ("        check(len(unpacked) >= 4 * self._program.count(STATEMENTS), 37)\n", "        check(len(unpacked) >= 4 * self._program.count(STATEMENTS), 12)\n"),
+    ("        check(len(unpacked) >= 4 * self._program.count(STATEMENTS), 37)\n", "        check(len(unpacked) >= 4 * self._program.count(STATEMENTS), 34)\n"),
+    ("        check(len(unpacked) >= 4 * self._program.count(STATEMENTS), 37)\n", "        check(len(unpacked) >= 4 * (self._program.count(STATEMENTS) & 0xFFFF), 37)\n"),
+    # written as far as there is room, then refused
+    ("        self._check_unpacked(unpacked)\n        for index in range(self._program.count(STATEMENTS)):\n", "        for index in range(min(self._program.count(STATEMENTS), len(unpacked) // 4)):\n            unpacked[4 * index : 4 * index + 4] = [number & 0xFFFF for number in self._program.statement(index)]\n        self._check_unpacked(unpacked)\n        for index in range(self._program.count(STATEMENTS)):\n"),
+    ("        check(len(unpacked) >= 4 * self._program.count(STATEMENTS), 37)\n", "        if len(unpacked) < 4 * self._program.count(STATEMENTS):\n            unpacked[:] = [0] * len(unpacked)\n            raise Refused(37)\n"),
+    # before 13, at unpacking or at a run; without 13
+    ("        return self._operation(lambda: self._unpack(unpacked))\n", "        if len(unpacked) < 4 * self.state.lumps[1]:\n            return Answer(\"refused\", 37)\n        return self._operation(lambda: self._unpack(unpacked))\n"),
+    ("        return self._operation(lambda: self._unpack(unpacked))\n", "        if not unpacked:\n            return Answer(\"refused\", 37)\n        return self._operation(lambda: self._unpack(unpacked))\n"),
+    ("        return self._operation(lambda: self._unpack(unpacked))\n", "        if len(self.file) < HEADER_SIZE:\n            return Answer(\"refused\", 13)\n        try:\n            self._unpack(unpacked)\n        except Refused as refusal:\n            return Answer(\"refused\", refusal.number)\n        return Answer(\"accepted\")\n"),
+    ("        return self._operation(lambda: self._run_unpacked(unpacked, target, limit))\n", "        if len(unpacked) < 4 * self.state.lumps[1]:\n            return Answer(\"refused\", 37)\n        return self._operation(lambda: self._run_unpacked(unpacked, target, limit))\n"),
+    # after 28, after 29, left out at a run
+    ("        self._check_unpacked(unpacked)\n        self._unpacked = unpacked\n", "        check(1 <= limit <= self.state.settings.limit, 28)\n        self._check_unpacked(unpacked)\n        self._unpacked = unpacked\n"),
+    ("        self._check_unpacked(unpacked)\n        self._unpacked = unpacked\n", "        check(not 1 <= limit <= self.state.settings.limit or 0 <= target < self.state.depth, 29)\n        self._check_unpacked(unpacked)\n        self._unpacked = unpacked\n"),
+    ("        self._check_unpacked(unpacked)\n        self._unpacked = unpacked\n", "        self._unpacked = unpacked\n"),
+    # unpacks by itself; from the file all the same
+    ("        self._check_unpacked(unpacked)\n        self._unpacked = unpacked\n", "        self._unpack(unpacked)\n        self._unpacked = unpacked\n"),
+    ("        self._check_unpacked(unpacked)\n        self._unpacked = unpacked\n", "        self._check_unpacked(unpacked)\n"),
+    # 14 by the buffer's length, 7 by the file's opcode
+    ("        check(0 <= self.state.position < self._program.count(STATEMENTS), 14)\n", "        count = self._program.count(STATEMENTS) if self._unpacked is None else len(self._unpacked) // 4\n        check(0 <= self.state.position < count, 14)\n"),
+    ("            statement = unpacked_statement(self._unpacked, self.state.position)\n", "            statement = unpacked_statement(self._unpacked, self.state.position)\n            check(0 <= self._program.statement(self.state.position).opcode < len(OPCODES), 7)\n"),
+    ("            statement = unpacked_statement(self._unpacked, self.state.position)\n", "            statement = unpacked_statement(self._unpacked, self.state.position)._replace(opcode=self._program.statement(self.state.position).opcode)\n"),
+    ("            statement = unpacked_statement(self._unpacked, self.state.position)\n", "            statement = self._program.statement(self.state.position)._replace(opcode=unpacked_statement(self._unpacked, self.state.position).opcode)\n"),
+    ("            statement = unpacked_statement(self._unpacked, self.state.position)\n", "            statement = unpacked_statement(self._unpacked, self.state.position)\n            statement = statement._replace(opcode=statement.opcode & 0xFF)\n"),
+    ("            statement = unpacked_statement(self._unpacked, self.state.position)\n", "            statement = unpacked_statement(self._unpacked, self.state.position % 65536)\n"),
+    # what is read from the buffer
+    ("    return Statement(*[number - 0x10000 if number >= 0x8000 else number for number in numbers])\n", "    return Statement(*numbers)\n"),
+    ("    return Statement(*[number - 0x10000 if number >= 0x8000 else number for number in numbers])\n", "    opcode, a, b, c = [number - 0x10000 if number >= 0x8000 else number for number in numbers]\n    return Statement(opcode, b, a, c)\n"),
+    ("    return Statement(*[number - 0x10000 if number >= 0x8000 else number for number in numbers])\n", "    opcode, a, b, c = [number - 0x10000 if number >= 0x8000 else number for number in numbers]\n    return Statement(opcode, a, c, b)\n"),
+    ("    return Statement(*[number - 0x10000 if number >= 0x8000 else number for number in numbers])\n", "    opcode, a, b, c = [number - 0x10000 if number >= 0x8000 else number for number in numbers]\n    return Statement(opcode if 0 <= opcode < 66 else 0, a, b, c)\n"),
+    ("    numbers = unpacked[4 * index : 4 * index + 4]\n", "    numbers = unpacked[3 * index : 3 * index + 4]\n"),
+    # the second engine's outcome: spent before the end, no count, carried on by the buffer, a run of one statement
+    ("            return self._run(target, limit)\n        finally:\n", "            return self._run(target, limit)._replace(count=0)\n        finally:\n"),
+    ("            return self._run(target, limit)\n        finally:\n", "            return self._run(target, 1 if limit > 1 else limit)\n        finally:\n"),
+    ("            return self._run(target, limit)\n        finally:\n            self._unpacked = None\n", "            return self._run(target, limit)\n        finally:\n            pass\n"),
+    ("            return self._run(target, limit)\n        finally:\n", "            answer = self._run(target, limit)\n            return Answer(\"refused\", 7, answer.count) if answer.word == \"opcode\" else answer\n        finally:\n"),
 ]
 
 

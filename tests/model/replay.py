@@ -153,6 +153,14 @@ def replay_settings(model):
     yield from replay_lists(model, "settings.txt")
 
 
+def replay_engines(model):
+    yield from replay_lists(model, "engines.txt")
+
+
+def replay_unpacked(model):
+    yield from replay_lists(model, "unpacked.txt")
+
+
 def replay_sentences(model):
     for line in lines_of("sentences.txt"):
         given, expected = line.split(" = ")
@@ -197,18 +205,43 @@ def replay_lists(model, name):
             entity_cells = [0xCAFE0000 + i for i in range(int(words[2]))]
             machine = model.Machine(bytes_of(words[3], words[4]), cells, saved, entity_cells)
             outcome = model.Outcome()  # the last run's
+            unpacked = []
             continue
         at = words.index("=")
         if kind == "sentence":
             display = bytearray([238] * int(words[0]))
             answer, output = model.compose(outcome, display), [fnv(bytes(display))]
+        elif kind in BUFFER_CALLS:
+            answer, output = buffer_call(model, machine, unpacked, kind, [int(word) for word in words[:at]])
         else:
             answer, output = call(model, machine, kind, [int(word) for word in words[:at]])
-        if kind == "run":
+        if kind in ("run", "run2"):
             outcome = model.outcome_of(answer, machine.state)
         state = machine.state
         got = [answer.detail, answer.count, state.position, state.function, state.depth, state.saved]
         yield line, words[at + 1 :], [answer.word, *map(str, got), digest(machine), *output]
+
+
+BUFFER_CALLS = ("buffer", "set", "unpack", "runs2")
+
+
+def buffer_call(model, machine, unpacked, kind, given):
+    """The answer of a call with the unpack buffer, and the digest of the buffer where the line has it."""
+    if kind == "buffer":
+        unpacked[:] = [(given[1] + i) % 2**16 for i in range(given[0])]
+        return model.Answer("accepted"), []
+    if kind == "set":
+        unpacked[given[0]] = given[1]
+        return model.Answer("accepted"), []
+    answer = machine.unpack(unpacked) if kind == "unpack" else machine.run_unpacked(unpacked, *given)
+    return answer, [fnv(struct.pack(f"<{len(unpacked)}H", *unpacked))]
+
+
+def second_run(machine, target, limit):
+    """`run2`: from zeros, four for each statement that the state records, unpacked just before."""
+    unpacked = [0] * 4 * machine.state.lumps[1]
+    machine.unpack(unpacked)
+    return machine.run_unpacked(unpacked, target, limit)
 
 
 def call(model, machine, kind, given):
@@ -219,6 +252,8 @@ def call(model, machine, kind, given):
         return getattr(machine, operations[kind])(*given), []
     if kind == "pairs":
         return machine.write_pairs(given), []
+    if kind == "run2":
+        return second_run(machine, *given), []
     if kind == "image":
         output = bytearray([238] * given[0])
         return machine.image(output), [fnv(bytes(output))]
@@ -277,6 +312,7 @@ def replay_traces(model):
 
 REPLAYS = (replay_statements, replay_calls, replay_files, replay_traces, replay_images, replay_pads)
 REPLAYS += (replay_sentences, replay_outcomes, replay_pairs, replay_load_files, replay_settings)
+REPLAYS += (replay_engines, replay_unpacked)
 
 
 def differences(model):

@@ -13,6 +13,7 @@ import struct
 import subprocess
 import tempfile
 import unittest
+from unittest import mock
 
 import make_cases
 import model
@@ -21,7 +22,7 @@ from common import CHANCE_FLOATS, STANDARD, Xorshift, flt, random_program, tripl
 from model import (
     BUILTINS, CELLS, ENTITY, FIELD, FIELD_DEFS, FLOAT, FUNCTION, FUNCTIONS, GLOBAL_DEFS, HOST_OPCODES, INFINITY,
     OPCODES, POINTER, QUIET_NAN, SAVE_FLAG, SIGN, STATEMENTS, STRING, STRINGS, VECTOR, VOID, Answer, Assembly, Frame,
-    Machine, Settings, State, function, replace, show,
+    Machine, State, function, replace, show,
 )
 from pad_cases import pad_cases
 from sentence_cases import sentence_cases
@@ -1381,6 +1382,15 @@ def with_check_number(file, check_number):
     return bytearray(file[:4] + struct.pack("<i", check_number) + file[8:])
 
 
+def random_operation(chance):
+    """The name and the numbers of a call of the machine."""
+    return chance.pick((
+        ("enter", 1 + chance.below(5)), ("enter", 1 + chance.below(5)), ("run", chance.below(3), 1 + chance.below(40)), ("statement",),
+        ("carry_on",), ("abandon", chance.below(5)), ("write", 28 + chance.below(30), chance.pick(CHANCE_FLOATS)),
+        ("write", 40 + chance.below(4), chance.below(8)), ("read", chance.below(66)),
+    ))
+
+
 class HouseLimits(unittest.TestCase):
     """R-11: settings given at load and held in the state.  Function 1 goes on without end, 2 has three locals and calls itself, 3 has
     one and returns."""
@@ -1487,14 +1497,6 @@ class HouseLimits(unittest.TestCase):
             self.assertEqual(machine.run(0, 0), refused(28))
             self.assertEqual(machine.run(0, min(greatest, 99)), Answer("spent", 0, min(greatest, 99)))
 
-    def call(self, chance):
-        """The name and the numbers of a call."""
-        return chance.pick((
-            ("enter", 1 + chance.below(5)), ("enter", 1 + chance.below(5)), ("run", chance.below(3), 1 + chance.below(40)), ("statement",),
-            ("carry_on",), ("abandon", chance.below(5)), ("write", 28 + chance.below(30), chance.pick(CHANCE_FLOATS)),
-            ("write", 40 + chance.below(4), chance.below(8)), ("read", chance.below(66)),
-        ))
-
     def test_narrower_settings(self):
         """Where 22, 23 or 28 doesn't refuse, all goes as under 01's settings; the depth and the saved count stay within them."""
         narrowed = {22: 0, 23: 0, 28: 0}
@@ -1505,7 +1507,7 @@ class HouseLimits(unittest.TestCase):
             narrow, wide = (Machine(bytearray(file), [0] * 64, [0] * 2048, [0] * 315) for _ in range(2))
             self.assertEqual((narrow.load(3, *settings), wide.load(3)), (ACCEPTED, ACCEPTED))
             for _ in range(40):
-                name, *numbers = self.call(chance)
+                name, *numbers = random_operation(chance)
                 before = narrow.state
                 answer, other = getattr(narrow, name)(*numbers), getattr(wide, name)(*numbers)
                 if answer != other:
@@ -1555,6 +1557,137 @@ class HouseLimits(unittest.TestCase):
             machine, _ = self.load(file=file, depth=1, saved=0, limit=n)
             machine.enter(1)
             self.assertEqual(machine.run(0, n + 1), refused(28))
+
+
+class BothEngines(Machine):
+    """Each run is done by both engines, which must agree, the second from statements unpacked just before."""
+
+    def run(self, target, limit):
+        first = Machine(self.file, list(self.cells), list(self.saved_store), list(self.entity_cells), self.fewest_cells)
+        first.state = self.state
+        wanted, answer = first.run(target, limit), replay.second_run(self, target, limit)
+        assert (answer, *everything(self)[:4]) == (wanted, *everything(first)[:4])
+        return answer
+
+
+class SecondEngine(unittest.TestCase):
+    """R-12: statements unpacked into a lent buffer, and the engine that runs from it."""
+
+    STATEMENTS = [("Goto", 1), ("SubF", 28, 29, 30), ("If", 28, -2), ("Return", 30)]
+    # Goto is 61, SubF 8, If 49, Return 43; -2 is 65534
+    UNPACKED = [61, 1, 0, 0, 8, 28, 29, 30, 49, 28, 65534, 0, 43, 30, 0, 0]
+
+    def machine(self):
+        cells = {28: 0, 29: flt(2.0), 31: ONE}
+        return loaded(*self.STATEMENTS, functions=[function()], cells=cells)
+
+    def test_by_hand(self):
+        machine = self.machine()
+        for spare in (0, 1, 5):
+            unpacked = [7] * (16 + spare)
+            before = everything(machine)
+            self.assertEqual(machine.unpack(unpacked), ACCEPTED)
+            self.assertEqual(unpacked, self.UNPACKED + [7] * spare)
+            self.assertEqual(everything(machine), before)
+        machine.enter(1)
+        self.assertEqual(machine.run_unpacked(unpacked, 0, 2), Answer("spent", 0, 2))
+        self.assertEqual((machine.cells[30], machine.state.position), (flt(-2.0), 2))
+        self.assertEqual(machine.run_unpacked(unpacked, 0, 9), Answer("ended", 0, 2))
+        self.assertEqual(unpacked, self.UNPACKED + [7] * 5)
+
+    def test_too_short(self):
+        machine = self.machine()
+        machine.enter(1)
+        for size in range(16):
+            unpacked, before = [7] * size, everything(machine)
+            self.assertEqual(machine.unpack(unpacked), refused(37))
+            for target, limit in ((0, 5), (0, 0), (-1, 5), (5, 100_000)):
+                self.assertEqual(machine.run_unpacked(unpacked, target, limit), refused(37))
+            self.assertEqual((unpacked, everything(machine)), ([7] * size, before))
+        machine.state = replace(machine.state, saved=1)
+        for size in (0, 15, 16):
+            unpacked = [7] * size
+            self.assertEqual((machine.unpack(unpacked), machine.run_unpacked(unpacked, 0, 0)), (refused(13), refused(13)))
+            self.assertEqual(unpacked, [7] * size)
+
+    def test_28_and_29(self):
+        machine = self.machine()
+        machine.enter(1)
+        for target, limit, number in ((0, 0, 28), (0, 100_000, 28), (-1, 0, 28), (-1, 1, 29), (1, 1, 29)):
+            self.assertEqual(machine.run_unpacked(self.UNPACKED, target, limit), refused(number))
+
+    def test_other_contents(self):
+        """What the buffer holds is what runs, and 14 is by the file's count."""
+        for numbers, answer in (
+            ([66, 0, 0, 0], refused(7)),
+            ([65535, 0, 0, 0], refused(7)),
+            ([256 + 61, 0, 0, 0], refused(7)),
+            ([60, 0, 0, 0], Answer("opcode", 60)),
+            ([61, 4, 0, 0], refused(14, 1)),
+            ([61, 65535, 0, 0], refused(14, 1)),
+            ([61, 3, 0, 0], Answer("ended", 0, 2)),
+            ([8, 28, 29, 64], refused(15)),
+            ([8, 28, 29, 65535], refused(15)),
+            ([44, 28, 1, 30], refused(18)),
+            ([0, 28, 1, 2], Answer("ended", 0, 1)),
+        ):
+            machine = self.machine()
+            machine.enter(1)
+            unpacked = numbers + self.UNPACKED[4:] + [61, 0, 0, 0] * 2
+            self.assertEqual(machine.run_unpacked(unpacked, 0, 9), answer, numbers)
+
+    def test_changed_bytes(self):
+        machine = self.machine()
+        unpacked = list(self.UNPACKED)
+        machine.file[machine.assembly.place(STATEMENTS, 0)] = 66
+        machine.enter(1)
+        self.assertEqual(machine.run(0, 9), refused(7))
+        self.assertEqual(machine.run_unpacked(unpacked, 0, 9), Answer("ended", 0, 4))
+        self.assertEqual(machine.unpack(unpacked), ACCEPTED)
+        self.assertEqual(unpacked, [66] + self.UNPACKED[1:])
+
+    def test_the_same_as_the_first(self):
+        """Programs made by chance, unpacked once; runs of either engine in lists that mix them with other calls."""
+        words = set()
+        for seed in range(1, 201):
+            chance = Xorshift(seed * 2654435761 % 2**32)
+            file = random_program(chance, hosts=True, entities=True).bytes()
+            first, mixed = (Machine(bytearray(file), [0] * 64, [0] * 2048, [0] * 315) for _ in range(2))
+            settings = STANDARD._replace(depth=3 + chance.below(29), saved=40 + chance.below(2_000), limit=30 + chance.below(9_970))
+            self.assertEqual((first.load(3, *settings), mixed.load(3, *settings)), (ACCEPTED, ACCEPTED))
+            unpacked = [chance.below(65_536) for _ in range(4 * mixed.state.lumps[1] + chance.below(4))]
+            self.assertEqual(mixed.unpack(unpacked), ACCEPTED)
+            kept = list(unpacked)
+            for _ in range(30):
+                name, *numbers = random_operation(chance)
+                answer = getattr(first, name)(*numbers)
+                if name == "run" and chance.below(3):
+                    other = mixed.run_unpacked(unpacked, *numbers)
+                    words.add(other.word)
+                else:
+                    other = getattr(mixed, name)(*numbers)
+                self.assertEqual(answer, other)
+                self.assertEqual(everything(first), everything(mixed))
+                self.assertEqual(unpacked, kept)
+        self.assertEqual(words, {"ended", "spent", "refused", "builtin", "opcode"})
+
+    def test_any_contents(self):
+        """Buffers of chance numbers, or opcodes with chance operands: every run has an answer, at most the limit's count, and 13 still holds."""
+        for seed in range(1, 201):
+            chance = Xorshift(seed * 2654435761 % 2**32)
+            assembly = random_program(chance, hosts=True, entities=True)
+            machine = Machine(assembly.bytes(), [0] * 64, [0] * 2048, [0] * 315)
+            machine.load(3)
+            unpacked = [chance.below(65_536) for _ in range(4 * assembly.lumps[1])]
+            if chance.below(4):
+                unpacked[::4] = [chance.below(66) for _ in range(assembly.lumps[1])]
+                unpacked[1::4] = [chance.below(64) for _ in range(assembly.lumps[1])]
+            for _ in range(10):
+                machine.enter(1 + chance.below(5))
+                limit = 1 + chance.below(30)
+                answer = machine.run_unpacked(unpacked, chance.below(3), limit)
+                self.assertLessEqual(answer.count, limit)
+                self.assertEqual(machine.read(1).word, "accepted")
 
 
 class PairsOfWrites(unittest.TestCase):
@@ -1752,11 +1885,13 @@ class CaseFiles(unittest.TestCase):
                 self.assertTrue(file.read() == text, f"{name} isn't what make_cases.py makes")
 
     def test_readable(self):
-        self.assertEqual(list(replay.differences(model)), [])
+        """Each run by both engines."""
+        with mock.patch.object(model, "Machine", BothEngines):
+            self.assertEqual(list(replay.differences(model)), [])
 
     def test_lists_can_be_replayed(self):
         """tests/run_replay.py plays every list of these: nothing in them changes what replay can't."""
-        for name in ("images.txt", "outcomes.txt", "pairs.txt", "settings.txt"):
+        for name in ("images.txt", "outcomes.txt", "pairs.txt", "settings.txt", "engines.txt"):
             calls = {call.split(" ")[0] for call, _ in self.makers[name].seen}
             self.assertFalse(calls & {"field", "lend", "eput"})
 
@@ -1801,8 +1936,10 @@ class CaseFiles(unittest.TestCase):
         self.assertEqual(loads, {34, 35})
         settings = {answer.detail for call, answer in self.makers["settings.txt"].seen if call.startswith("load ") and answer.word == "refused"}
         self.assertEqual(settings, {36, *range(1, 9), 10, 11, 12, 13})
+        unpacked = {answer.detail for call, answer in self.makers["unpacked.txt"].seen if call == "unpack" and answer.word == "refused"}
+        self.assertEqual(unpacked, {13, 37})
         # 26 can't be met after 13; 8 and 9 are a field definition's in the files
-        self.assertEqual(calls | files | images | loads | settings, set(range(1, 37)) - {26})
+        self.assertEqual(calls | files | images | loads | settings | unpacked, set(range(1, 38)) - {26})
         # a file alone can't reach these: nothing lent is short, no state is made up, nothing changed
         self.assertEqual(set(range(1, 25)) - files, {12, 13})
         # without entities 31 isn't reached

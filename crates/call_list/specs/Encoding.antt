@@ -16,11 +16,11 @@ use Rattle.definition.specs.declared.RunAnswer.{RunAnswer}
 use Rattle.definition.specs.declared.Handover.{Handover}
 use Rattle.definition.specs.File.{records}
 use Rattle.definition.specs.Statements.{placeOf}
-use Rattle.definition.specs.Machine.{Program, Config}
+use Rattle.definition.specs.Machine.{Program, withUnpacked, Config}
 use Rattle.definition.specs.Operations.{natural, below, hostEnter, statement, run, carryOn, abandon, rawRead, rawWrite, writeAll}
 use Rattle.definition.specs.Answers.{answerOf, readAnswer, statementOutcome}
 use Rattle.definition.specs.Answers.{Word, ended, spent, completedWord, refusedWord, builtin, opcode, handoverWord, handoverNumber, outcomeWord, outcomeDetail, statementWord, statementDetail}
-use Rattle.definition.specs.Calls.{Call, enters, steps, runs, carries, abandons, reads, writes, writesAll, lends, after}
+use Rattle.definition.specs.Calls.{Call, enters, steps, runs, runsUnpacked, carries, abandons, reads, writes, writesAll, lends, after}
 use Rattle.progs.specs.declared.ExecutionContext.{ExecutionContext}
 use Rattle.progs.specs.Contexts.{config}
 use Rattle.call_list.specs.declared.ListAnswer.{ListAnswer}
@@ -34,7 +34,8 @@ use Rattle.call_list.specs.declared.Listed.{Listed}
 abbrev pub writeNumbered : List ℤ → ℕ → ℤ → ℤ → Call
 writeNumbered numbers k a b = cond (eqb k 6) (writes a (natural b)) (writesAll (take (natural b) (drop (natural a) numbers)))
 
--- 0 entry, 1 statement, 2 run, 3 carry on, 4 abandonment, 5 read. (Other entity cells are lent between lists: `lends` has no numbers.)
+-- 0 entry, 1 statement, 2 run, 3 carry on, 4 abandonment, 5 read. (Other entity cells are lent between lists, and the second
+-- engine has runs of its own: `lends` and `runsUnpacked` have no numbers.)
 abbrev pub callNumbered : List ℤ → ℕ → ℤ → ℤ → Call
 callNumbered numbers k a b =
     cond (eqb k 0) (enters a)
@@ -111,6 +112,7 @@ unfoldable pub reply : Program → Call → Config → Reply
 reply P (enters f) c = answerReply (answerOf (hostEnter P f c))
 reply P steps c = statementReply (statementOutcome c (statement P c) .answer)
 reply P (runs target limit) c = runReply (run P target limit c .answer) (run P target limit c .count)
+reply P (runsUnpacked buffer target limit) c = let ran = run (withUnpacked P buffer) target limit c in runReply (ran .answer) (ran .count)
 reply P carries c = answerReply (answerOf (carryOn P c))
 reply P (abandons target) c = answerReply (answerOf (abandon P target c))
 reply P (reads a) c = readReply (readAnswer (rawRead P a c))

@@ -5,7 +5,7 @@ use mathlib.Core.Bool.{Bool, true, false}
 use lib.IntN.{ℤ}
 use lib.Dec.{eqb}
 use Rattle.definition.specs.Checks.{Checked, refused, accepted, judge}
-use Rattle.definition.specs.Machine.{Program, Config, withEntities, left, Stepped, completed, refusedStep, handedStep, step}
+use Rattle.definition.specs.Machine.{Program, withUnpacked, Config, withEntities, left, Stepped, completed, refusedStep, handedStep, step}
 use Rattle.definition.specs.Operations.{natural, hostEnter, statement, runConditions, run, carryOn, leavingsTo, abandonConditions, abandon, rawWrite, writeAll}
 use Rattle.definition.specs.Answers.{kept, statementOutcome}
 
@@ -15,6 +15,8 @@ pub data Call : Type 0 where
   steps : Call
   -- target, limit
   runs : ℤ → ℤ → Call
+  -- R-12: the second engine's, from this buffer
+  runsUnpacked : List ℕ → ℤ → ℤ → Call
   carries : Call
   abandons : ℤ → Call
   reads : ℤ → Call
@@ -29,6 +31,7 @@ unfoldable pub after : Program → Call → Config → Config
 after P (enters f) c = kept c (hostEnter P f c)
 after P steps c = statementOutcome c (statement P c) .config
 after P (runs target limit) c = run P target limit c .config
+after P (runsUnpacked buffer target limit) c = run (withUnpacked P buffer) target limit c .config
 after P carries c = kept c (carryOn P c)
 after P (abandons target) c = kept c (abandon P target c)
 after P (reads a) c = c
@@ -65,6 +68,9 @@ abbrev pub runStepsAfter : ℕ → Program → ℕ → ℕ → Config → List C
 runStepsAfter zero P target limit c = runSteps P limit target c
 runStepsAfter (suc n) P target limit c = []
 
+abbrev pub stepsOfRun : Program → ℤ → ℤ → Config → List Config
+stepsOfRun P target limit c = runStepsAfter (judge (runConditions P target limit c)) P (natural target) (natural limit) c
+
 -- the leavings of an abandonment
 unfoldable pub leavings : Program → ℕ → Config → List Config
 leavings P zero c = []
@@ -77,7 +83,8 @@ leavingsAfter (suc m) P n c = []
 unfoldable pub smallSteps : Program → Call → Config → List Config
 smallSteps P (enters f) c = ifAccepted (hostEnter P f c)
 smallSteps P steps c = ifCompleted (statement P c)
-smallSteps P (runs target limit) c = runStepsAfter (judge (runConditions P target limit c)) P (natural target) (natural limit) c
+smallSteps P (runs target limit) c = stepsOfRun P target limit c
+smallSteps P (runsUnpacked buffer target limit) c = stepsOfRun (withUnpacked P buffer) target limit c
 smallSteps P carries c = ifAccepted (carryOn P c)
 smallSteps P (abandons target) c = leavingsAfter (judge (abandonConditions P target c)) P (leavingsTo target c) c
 smallSteps P (reads a) c = []

@@ -223,6 +223,37 @@ contentsAt r file =
 abbrev pub contentsOf : List ℕ → Contents
 contentsOf file = contentsAt (fileOf file) file
 
+-- ---- unpacked statements (R-12): "a lent buffer of 16-bit numbers, four to a statement in the file's order"
+
+abbrev pub unpackedSize : ℕ
+unpackedSize = 4
+
+abbrev pub readUnpacked : List ℕ → ℕ → Statement
+readUnpacked buffer at =
+    record { opcode = getD buffer at 0; arg1 = getD buffer (at + 1) 0; arg2 = getD buffer (at + 2) 0; arg3 = getD buffer (at + 3) 0 }
+
+-- the first n statements of a buffer
+abbrev pub unpackedStatements : List ℕ → ℕ → List Statement
+unpackedStatements buffer n = records (readUnpacked buffer) unpackedSize n 0
+
+-- the numbers of statements
+unfoldable pub numbersOf : List Statement → List ℕ
+numbersOf [] = []
+numbersOf (st ∷ sts) = st .opcode ∷ st .arg1 ∷ st .arg2 ∷ st .arg3 ∷ numbersOf sts
+
+-- the contents with other statements
+abbrev pub withStatements : Contents → List Statement → Contents
+withStatements k statements =
+    record {
+      statements = statements;
+      globaldefs = k .globaldefs;
+      fielddefs = k .fielddefs;
+      functions = k .functions;
+      strings = k .strings;
+      globals = k .globals;
+      entityfields = k .entityfields;
+    }
+
 -- ---- functions and builtins
 
 abbrev pub noFunction : FunctionDef

@@ -12,15 +12,17 @@ use lib.Dec.{eqb, ltb}
 use Rattle.definition.specs.Checks.{Condition, Conditions, judge, Checked, refused, accepted, guard}
 use Rattle.definition.specs.File.{Contents, contentsOf}
 use Rattle.definition.specs.Statements.{Does, next, puts, calls, returns, refuses, handsOver}
-use Rattle.definition.specs.Machine.{Program, Config, entitiesOf, countOf, withCells, withEntities, advanced, entryConditions, entered, enter, leaveConditions, left, leave, returnConditions, returned}
+use Rattle.definition.specs.Machine.{Program, withUnpacked, Config, entitiesOf, countOf, withCells, withEntities, advanced, entryConditions, entered, enter, leaveConditions, left, leave, returnConditions, returned}
 use Rattle.definition.specs.Machine.{Stepped, completed, refusedStep, handedStep, asStep, stepAs, step, Ran, goOn, runAs, runFor}
 use Rattle.definition.specs.Load.{programOf}
 use Rattle.definition.specs.Operations.{sound, natural, below, hostEnter, stepIf, statement, runConditions, runAfter, run, carryOnConditions, carryOn}
 use Rattle.definition.specs.Operations.{leftTimes, leavingsConditions, leavingsTo, abandonConditions, abandon, rawConditions, rawWrite, pairConditions, pairsConditions, pairsWritten, writeAll}
 use Rattle.definition.specs.Answers.{kept, statementOutcome}
-use Rattle.definition.specs.Calls.{Call, enters, steps, runs, carries, abandons, reads, writes, writesAll, lends, after, ifAccepted, ifCompleted, unlessEnded, stepsAs, runSteps, runStepsAfter, leavings, leavingsAfter, smallSteps}
+use Rattle.definition.specs.Calls.{Call, enters, steps, runs, runsUnpacked, carries, abandons, reads, writes, writesAll, lends, after, ifAccepted, ifCompleted, unlessEnded, stepsAs, runSteps, runStepsAfter, stepsOfRun, leavings, leavingsAfter, smallSteps}
 use Rattle.definition.specs.Log.{Log, Kind, entry, leaving, other, statementKind, kindOf}
 use Rattle.definition.specs.Trace.{kindAt, logAfter, Transition, StepProperty, StateProperty, Trace, logAfterSteps, Counted, Always}
+use Rattle.definition.specs.Unpacked.{Unpacked, Ready, AllReady}
+use Rattle.definition.specs.UnpackedLaws.{same-program}
 use Rattle.definition.specs.CheckLaws.{All, judge-passed, judge-all, all-front, all-back, WhenAccepted, guarded, guard-accepts}
 use Rattle.definition.specs.PlaceLaws.{below-natural}
 use Rattle.definition.specs.StatementLaws.{Keeps, keeps-all, keeps-set, keeps-one, HasKind, beforeIn, statement-has-kind}
@@ -47,11 +49,16 @@ count-after : (m : ℕ) (P : Program) (target limit : ℕ) (c : Config) → leng
 count-after zero P target limit c = count-run P limit target c
 count-after (suc m) P target limit c = refl
 
+count-all : (P : Program) (target limit : ℤ) (c : Config) → length (stepsOfRun P target limit c) ≡ run P target limit c .count
+unfolding run
+count-all P target limit c = count-after (judge (runConditions P target limit c)) P (natural target) (natural limit) c
+
 counted : (file : List ℕ) (k : Call) (c : Config) → Counted file k c
-unfolding smallSteps run
+unfolding smallSteps
 counted file (enters f) c = tt
 counted file steps c = tt
-counted file (runs target limit) c = count-after (judge (runConditions (programOf file) target limit c)) (programOf file) (natural target) (natural limit) c
+counted file (runs target limit) c = count-all (programOf file) target limit c
+counted file (runsUnpacked buffer target limit) c = count-all (withUnpacked (programOf file) buffer) target limit c
 counted file carries c = tt
 counted file (abandons target) c = tt
 counted file (reads a) c = tt
@@ -170,31 +177,49 @@ module _ (file : List ℕ) (K : StateProperty) (Step : StepProperty) (S : Induct
   unless-ended x c l true go ran k r = none x c l k
   unless-ended x c l false go ran k r = r
 
-  abbrev runCall : ℤ → ℤ → Call
-  runCall target limit = runs target limit
+  -- a run of either engine: each of its small steps is a statement of the program
+  module _ (x : Call) (own : (c c₁ : Config) → step P c ≡ completed c₁ → Transition file x c c₁)
+      (kind : (c : Config) → kindAt file x c ≡ statementKind file (c .state .pc) (c .cells)) where
+    step-then : (c : Config) (l : Log) (s : Stepped) (target : ℕ) (go : Config → List Config) (ran : Config → Ran) → step P c ≡ s → K c l
+        → WhenCompleted (Preserved (kindAt file x c) c l) s
+        → ((c₁ : Config) (l₁ : Log) → K c₁ l₁ → Preserving x c₁ l₁ (go c₁) (ran c₁ .config))
+        → Preserving x c l (stepsAs s target go) (runAs s target c ran .config)
+    step-then c l (completed c₁) target go ran is k g r =
+        let l₁ = logAfter file (kindAt file x c) c l in
+        more x c l c₁ (unlessEnded (eqb (c₁ .state .depth) target) c₁ go) _ (own c c₁ is) g
+        (unless-ended x c₁ l₁ (eqb (c₁ .state .depth) target) go ran (g .1) (r c₁ l₁ (g .1)))
+    step-then c l (refusedStep n) target go ran is k g r = none x c l k
+    step-then c l (handedStep h) target go ran is k g r = none x c l k
 
-  step-then : (t m : ℤ) (c : Config) (l : Log) (s : Stepped) (target : ℕ) (go : Config → List Config) (ran : Config → Ran) → step P c ≡ s → K c l
-      → WhenCompleted (Preserved (kindAt file (runs t m) c) c l) s
-      → ((c₁ : Config) (l₁ : Log) → K c₁ l₁ → Preserving (runs t m) c₁ l₁ (go c₁) (ran c₁ .config))
-      → Preserving (runs t m) c l (stepsAs s target go) (runAs s target c ran .config)
-  step-then t m c l (completed c₁) target go ran own k g r =
-      let l₁ = logAfter file (kindAt file (runs t m) c) c l in
-      more (runs t m) c l c₁ (unlessEnded (eqb (c₁ .state .depth) target) c₁ go) _ own g
-      (unless-ended (runs t m) c₁ l₁ (eqb (c₁ .state .depth) target) go ran (g .1) (r c₁ l₁ (g .1)))
-  step-then t m c l (refusedStep n) target go ran own k g r = none (runs t m) c l k
-  step-then t m c l (handedStep h) target go ran own k g r = none (runs t m) c l k
+    run-preserves : (n target : ℕ) (c : Config) (l : Log) → K c l → Preserving x c l (runSteps P n target c) (runFor P n target c .config)
+    unfolding runSteps runFor
+    run-preserves zero target c l k = none x c l k
+    run-preserves (suc n) target c l k =
+        step-then c l (step P c) target (λ c₁. runSteps P n target c₁) (λ c₁. runFor P n target c₁) refl k
+        (subst (λ (κ : Kind). WhenCompleted (Preserved κ c l) (step P c)) (sym (kind c)) (step-preserves c l k))
+        (λ c₁ l₁ k₁. run-preserves n target c₁ l₁ k₁)
 
-  run-preserves : (t m : ℤ) (n target : ℕ) (c : Config) (l : Log) → K c l → Preserving (runs t m) c l (runSteps P n target c) (runFor P n target c .config)
-  unfolding runSteps runFor kindOf
-  run-preserves t m zero target c l k = none (runs t m) c l k
-  run-preserves t m (suc n) target c l k =
-      step-then t m c l (step P c) target (λ c₁. runSteps P n target c₁) (λ c₁. runFor P n target c₁) refl k (step-preserves c l k)
-      (λ c₁ l₁ k₁. run-preserves t m n target c₁ l₁ k₁)
+    run-after-preserves : (n target limit : ℕ) (c : Config) (l : Log) → K c l
+        → Preserving x c l (runStepsAfter n P target limit c) (runAfter n P target limit c .config)
+    run-after-preserves zero target limit c l k = run-preserves limit target c l k
+    run-after-preserves (suc n) target limit c l k = none x c l k
 
-  run-after-preserves : (t m : ℤ) (n target limit : ℕ) (c : Config) (l : Log) → K c l
-      → Preserving (runs t m) c l (runStepsAfter n P target limit c) (runAfter n P target limit c .config)
-  run-after-preserves t m zero target limit c l k = run-preserves t m limit target c l k
-  run-after-preserves t m (suc n) target limit c l k = none (runs t m) c l k
+    run-all-preserves : (target limit : ℤ) (c : Config) (l : Log) → K c l → Preserving x c l (stepsOfRun P target limit c) (run P target limit c .config)
+    unfolding run
+    run-all-preserves target limit c l k = run-after-preserves (judge (runConditions P target limit c)) (natural target) (natural limit) c l k
+
+  runs-preserve : (target limit : ℤ) (c : Config) (l : Log) → K c l → Preserving (runs target limit) c l (stepsOfRun P target limit c) (run P target limit c .config)
+  unfolding kindOf
+  runs-preserve target limit = run-all-preserves (runs target limit) (λ c c₁ is. is) (λ c. refl) target limit
+
+  -- R-12: on the condition, the second engine's program is the first's
+  runs-unpacked-preserve : (buffer : List ℕ) (target limit : ℤ) → Unpacked file buffer → (c : Config) (l : Log) → K c l
+      → Preserving (runsUnpacked buffer target limit) c l (stepsOfRun (withUnpacked P buffer) target limit c) (run (withUnpacked P buffer) target limit c .config)
+  unfolding kindOf
+  runs-unpacked-preserve buffer target limit u c l k =
+      let same : withUnpacked P buffer ≡ P = same-program file buffer u in
+      subst (λ (Q : Program). Preserving (runsUnpacked buffer target limit) c l (stepsOfRun Q target limit c) (run Q target limit c .config)) (sym same)
+      (run-all-preserves (runsUnpacked buffer target limit) (λ c₁ c₂ is. ap (λ (Q : Program). step Q c₁) same ∙ is) (λ c₁. refl) target limit c l k)
 
   -- ---- an abandonment
 
@@ -225,30 +250,31 @@ module _ (file : List ℕ) (K : StateProperty) (Step : StepProperty) (S : Induct
   entry-preserves (negsuc f) c l k =
       guarded (Preserved (entry 0 (c .state .pc)) c l) _ _ λ h. absurd (omega (arith, ltb-true (length (P .functions)) (length (P .functions)) (h .1 .0)))
 
-  call-preserves : (x : Call) (c : Config) (l : Log) → K c l → Preserving x c l (smallSteps P x c) (after P x c)
-  unfolding smallSteps after statement run carryOn carryOnConditions rawWrite writeAll pairsConditions kindOf
-  call-preserves (enters f) c l k = if-accepted (enters f) c l (hostEnter P f c) (λ c₁ e. e) k (entry-preserves f c l k)
-  call-preserves steps c l k = if-completed c l (sound P c) (step P c) refl k (step-preserves c l k)
-  call-preserves (runs target limit) c l k = run-after-preserves target limit (judge (runConditions P target limit c)) (natural target) (natural limit) c l k
-  call-preserves carries c l k =
+  call-preserves : (x : Call) → Ready file x → (c : Config) (l : Log) → K c l → Preserving x c l (smallSteps P x c) (after P x c)
+  unfolding smallSteps after statement carryOn carryOnConditions rawWrite writeAll pairsConditions kindOf
+  call-preserves (enters f) ready c l k = if-accepted (enters f) c l (hostEnter P f c) (λ c₁ e. e) k (entry-preserves f c l k)
+  call-preserves steps ready c l k = if-completed c l (sound P c) (step P c) refl k (step-preserves c l k)
+  call-preserves (runs target limit) ready c l k = runs-preserve target limit c l k
+  call-preserves (runsUnpacked buffer target limit) ready c l k = runs-unpacked-preserve buffer target limit ready c l k
+  call-preserves carries ready c l k =
       if-accepted carries c l (carryOn P c) (λ c₁ e. e) k
       (guarded (Preserved other c l) _ _ λ h. S .plain c l (c .state .pc +ℤ pos 1) (c .cells) (c .entities) k (keeps-all _ (c .cells)) (keeps-all _ (c .entities)))
-  call-preserves (abandons target) c l k = abandon-preserves target c l k
-  call-preserves (reads a) c l k = none (reads a) c l k
-  call-preserves (writes a v) c l k =
+  call-preserves (abandons target) ready c l k = abandon-preserves target c l k
+  call-preserves (reads a) ready c l k = none (reads a) c l k
+  call-preserves (writes a v) ready c l k =
       if-accepted (writes a v) c l (rawWrite P a v c) (λ c₁ e. e) k
       (guarded (Preserved other c l) _ _ λ h.
       S .writing c l (set (c .cells) (natural a) v) k (keeps-one (countOf c) (c .cells) (natural a) v (below-natural (countOf c) a (h .1 .0))))
-  call-preserves (writesAll numbers) c l k =
+  call-preserves (writesAll numbers) ready c l k =
       if-accepted (writesAll numbers) c l (writeAll P numbers c) (λ c₁ e. e) k
       (guarded (Preserved other c l) _ _ λ h.
       S .writing c l (pairsWritten numbers (c .cells)) k (pairs-keep (countOf c) (c .cells) numbers (c .cells) (h .1 .1 .1) (keeps-all (countOf c) (c .cells))))
-  call-preserves (lends entities) c l k = one (lends entities) c l (withEntities c entities) refl (S .lending c l entities k)
+  call-preserves (lends entities) ready c l k = one (lends entities) c l (withEntities c entities) refl (S .lending c l entities k)
 
   -- what K shows, holds between the calls, and Step of every small step
   pub always : (At : StateProperty) → ((c : Config) (l : Log) → K c l → At c l)
-      → (c : Config) (l : Log) (xs : List Call) → K c l → Always file Step At c l xs
-  always At at c l [] k = at c l k
-  always At at c l (x ∷ xs) k =
-      let trace = call-preserves x c l k in
-      (at c l k, trace .0, counted file x c, always At at (after P x c) (logAfterSteps file x c l (smallSteps P x c)) xs (trace .1))
+      → (c : Config) (l : Log) (xs : List Call) → AllReady file xs → K c l → Always file Step At c l xs
+  always At at c l [] ready k = at c l k
+  always At at c l (x ∷ xs) ready k =
+      let trace = call-preserves x (ready .0) c l k in
+      (at c l k, trace .0, counted file x c, always At at (after P x c) (logAfterSteps file x c l (smallSteps P x c)) xs (ready .1) (trace .1))

@@ -1,7 +1,7 @@
 -- THE LOAD. Document 02's 36, document 01's refusals 1 to 12, in the table's order, and 02's 13 after them; what an accepted load leaves; and the program of a file.
-use Prim.Native.Nat.{ℕ, _+_}
+use Prim.Native.Nat.{ℕ, _+_, _*_}
 use mathlib.Core.List.{List, [], _∷_, _++_}
-use mathlib.Core.Bool.{Bool, not, _&&_}
+use mathlib.Core.Bool.{Bool, true, not, _&&_}
 use lib.IntN.{ℤ}
 use lib.ListN.{length, drop}
 use lib.Dec.{leb, ltb, eqb}
@@ -13,10 +13,10 @@ use Rattle.definition.specs.declared.Definition.{Definition}
 use Rattle.definition.specs.declared.FunctionDef.{FunctionDef}
 use Rattle.definition.specs.Checks.{Condition, Conditions, _otherwise_, Checked, guard}
 use Rattle.definition.specs.File.{version, opcodeCount, greatestType, saveFlag, leastCells, mostEntities, savedStore, versionOf, checkNumberOf, fileOf, lengthFits, lumpsFit, cellsFit, entityFits, settingsFit}
-use Rattle.definition.specs.File.{Contents, contentsAt, contentsOf, builtinKnown}
+use Rattle.definition.specs.File.{Contents, contentsAt, contentsOf, unpackedSize, unpackedStatements, withStatements, builtinKnown}
 use Rattle.definition.specs.Cells.{typeOf}
 use Rattle.definition.specs.Statements.{placeOf, fetchConditions, doesAt}
-use Rattle.definition.specs.Machine.{Program, Config, startState, entitiesFit}
+use Rattle.definition.specs.Machine.{Fetch, Program, Config, startState, entitiesFit}
 
 -- ---- the records, each along its row
 
@@ -136,15 +136,27 @@ recordedIn least file r lent =
     && entityFits r
     && leb (r .globals .count) lent
 
+-- R-12: the statements are as many as the file has, read from the buffer, and all else is the file's; "shorter than four numbers a statement is refused 37"
+abbrev pub fetchUnpacked : ℕ → Contents → List ℕ → Fetch
+fetchUnpacked n k buffer =
+    let from = withStatements k (unpackedStatements buffer n) in
+    record {
+      room = leb (unpackedSize * n) (length buffer);
+      fetching = fetchConditions (from .statements);
+      does = doesAt from;
+    }
+
 -- with the lumps where a record of the file has them, and the least number of cells that 13 takes
 unfoldable pub programWith : ℕ → FileRecord → List ℕ → Program
 programWith least r file =
     let k = contentsAt r file in
     record {
       functions = k .functions;
+      room = true;
       fetching = fetchConditions (k .statements);
       does = doesAt k;
       recorded = recordedIn least file;
+      unpacked = fetchUnpacked (r .statements .count) k;
     }
 
 abbrev pub programAt : FileRecord → List ℕ → Program

@@ -11,7 +11,7 @@ use Rattle.definition.specs.File.{contentsOf, noFunction, negative, betw
 use Rattle.definition.specs.Cells.{cellOf}
 use Rattle.definition.specs.Statements.{statementAt}
 use Rattle.definition.specs.Operations.{natural}
-use Rattle.definition.specs.Calls.{Call, enters, steps, runs, carries, abandons, reads, writes, writesAll, lends}
+use Rattle.definition.specs.Calls.{Call, enters, steps, runs, runsUnpacked, carries, abandons, reads, writes, writesAll, lends}
 
 -- what is noted at an entry: "the function entered, the position to be recorded, and, as just before it, the current function and the cells of the
 -- entered function's local range"
@@ -52,6 +52,7 @@ unfoldable pub kindOf : List ℕ → Call → ℤ → List ℕ → Kind
 kindOf file (enters f) p cells = entry (natural f) p
 kindOf file steps p cells = statementKind file p cells
 kindOf file (runs target limit) p cells = statementKind file p cells
+kindOf file (runsUnpacked buffer target limit) p cells = statementKind file p cells
 kindOf file carries p cells = other
 kindOf file (abandons target) p cells = leaving
 kindOf file (reads a) p cells = other

@@ -20,14 +20,38 @@ use Rattle.definition.specs.Statements.{Entities, Does, next, puts, call
 
 -- ---- the program
 
-pub record Program : Type 0 where
-  pub functions : List FunctionDef
+-- where statements are fetched from
+pub record Fetch : Type 0 where
+  -- there is room for all statements (37)
+  pub room : Bool
   -- 14 and 7, at a position
   pub fetching : ℤ → Conditions
   -- what the statement at a position does, with the entities and the cells as they are
   pub does : ℤ → Entities → List ℕ → Does
+
+pub record Program : Type 0 where
+  pub functions : List FunctionDef
+  -- the fetch of the program's engine: of the first, from the file's bytes, which always have room
+  pub room : Bool
+  pub fetching : ℤ → Conditions
+  pub does : ℤ → Entities → List ℕ → Does
   -- the file is as a state records, with so many lent cells (the first of 13's conditions)
   pub recorded : FileRecord → ℕ → Bool
+  -- R-12: the fetch from "statements unpacked once into a lent buffer"
+  pub unpacked : List ℕ → Fetch
+
+-- R-12: "A second engine runs from statements unpacked": the same program, with its fetch from this buffer
+abbrev pub withUnpacked : Program → List ℕ → Program
+withUnpacked P buffer =
+    let from = P .unpacked buffer in
+    record {
+      functions = P .functions;
+      room = from .room;
+      fetching = from .fetching;
+      does = from .does;
+      recorded = P .recorded;
+      unpacked = P .unpacked;
+    }
 
 abbrev pub functionOf : Program → ℕ → FunctionDef
 functionOf P f = getD (P .functions) f noFunction

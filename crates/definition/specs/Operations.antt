@@ -80,10 +80,11 @@ stepIf false s = refusedStep 13
 unfoldable pub statement : Program → Config → Stepped
 statement P c = stepIf (sound P c) (step P c)
 
--- "28: limit outside 1 to 99,999" (R-11: to the greatest run limit of the settings); "29: target below 0, or not below the depth"
+-- "28: limit outside 1 to 99,999" (R-11: to the greatest run limit of the settings); "29: target below 0, or not below the depth"; R-12: 37 "after 13 and before 28"
 unfoldable pub runConditions : Program → ℤ → ℤ → Config → Conditions
 runConditions P target limit c =
     (sound P c otherwise 13)
+    ∷ (P .room otherwise 37)
     ∷ (permitted limit (c .state .settings .limit) otherwise 28)
     ∷ (below target (c .state .depth) otherwise 29)
     ∷ []

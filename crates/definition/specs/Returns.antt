@@ -10,6 +10,7 @@ use Rattle.definition.specs.Checks.{accepted}
 use Rattle.definition.specs.Machine.{Config}
 use Rattle.definition.specs.Load.{load}
 use Rattle.definition.specs.Calls.{Call}
+use Rattle.definition.specs.Unpacked.{AllReady}
 use Rattle.definition.specs.Log.{Note, Log, functionIn, localCells, Kind, entry, leaving, other}
 use Rattle.definition.specs.Trace.{StepProperty, StateProperty, logAfter, Always}
 
@@ -48,10 +49,11 @@ pub record StepCorrect (s : Settings) (file : List ℕ) (k : Kind) (c : Config) 
   pub depths : DepthsMatch s file c′ (logAfter file k c l)
 
 -- for every file, every accepted load of it under any settings and with any number of entities, and every list of calls after that, from an empty log:
--- every small step is correct, and between the calls the depths match
+-- every small step is correct, and between the calls the depths match. R-12: "Every guarantee about returns is then stated for both, and for lists that mix them, on that condition wherever the second runs"
 unfoldable pub Demand3 : Type 0
 Demand3 =
     (s : Settings) (file : List ℕ) (n : ℤ) (cells saved entities : List ℕ) (c : Config)
     → load s file n cells saved entities ≡ accepted c
     → (calls : List Call)
+    → AllReady file calls
     → Always file (StepCorrect s file) (DepthsMatch s file) c [] calls

@@ -292,6 +292,6 @@ loaded-matches s file n cells saved entities =
 
 pub demand3 : Demand3
 unfolding Demand3
-demand3 s file n cells saved entities c accepts calls =
-    always file (StackMatches s file) (StepCorrect s file) (matches-inductive s file) (DepthsMatch s file) (λ c′ l k. k .depths) c [] calls
+demand3 s file n cells saved entities c accepts calls ready =
+    always file (StackMatches s file) (StepCorrect s file) (matches-inductive s file) (DepthsMatch s file) (λ c′ l k. k .depths) c [] calls ready
     (subst (WhenAccepted (λ (c′ : Config). StackMatches s file c′ [])) accepts (loaded-matches s file n cells saved entities))

@@ -5,10 +5,10 @@ use mathlib.Core.Path.{_≡_}
 use mathlib.Core.List.{List, [], _∷_}
 use lib.ListN.{length}
 use Rattle.definition.specs.Checks.{accepted}
-use Rattle.definition.specs.Machine.{Program, Config, withEntities, leave, completed, step}
+use Rattle.definition.specs.Machine.{Program, withUnpacked, Config, withEntities, leave, completed, step}
 use Rattle.definition.specs.Load.{programOf}
 use Rattle.definition.specs.Operations.{hostEnter, run, carryOn, rawWrite, writeAll}
-use Rattle.definition.specs.Calls.{Call, enters, steps, runs, carries, abandons, reads, writes, writesAll, lends, after, smallSteps}
+use Rattle.definition.specs.Calls.{Call, enters, steps, runs, runsUnpacked, carries, abandons, reads, writes, writesAll, lends, after, smallSteps}
 use Rattle.definition.specs.Log.{Log, Kind, kindOf, noted}
 
 -- the log after a small step of that kind from c
@@ -20,6 +20,7 @@ abbrev pub Transition : List ℕ → Call → Config → Config → Type 0
 Transition file (enters f) c c′ = hostEnter (programOf file) f c ≡ accepted c′
 Transition file steps c c′ = step (programOf file) c ≡ completed c′
 Transition file (runs target limit) c c′ = step (programOf file) c ≡ completed c′
+Transition file (runsUnpacked buffer target limit) c c′ = step (withUnpacked (programOf file) buffer) c ≡ completed c′
 Transition file carries c c′ = carryOn (programOf file) c ≡ accepted c′
 Transition file (abandons target) c c′ = leave (programOf file) c ≡ accepted c′
 Transition file (reads a) c c′ = ⊥
@@ -55,6 +56,8 @@ abbrev pub Counted : List ℕ → Call → Config → Type 0
 Counted file (enters f) c = Unit {0}
 Counted file steps c = Unit {0}
 Counted file (runs target limit) c = length (smallSteps (programOf file) (runs target limit) c) ≡ run (programOf file) target limit c .count
+Counted file (runsUnpacked buffer target limit) c =
+    length (smallSteps (programOf file) (runsUnpacked buffer target limit) c) ≡ run (withUnpacked (programOf file) buffer) target limit c .count
 Counted file carries c = Unit {0}
 Counted file (abandons target) c = Unit {0}
 Counted file (reads a) c = Unit {0}

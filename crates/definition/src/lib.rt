@@ -17,6 +17,9 @@ pub const FUNCTION_SIZE: usize = 36;
 
 pub const CELL_SIZE: usize = 4;
 
+// Document 02, R-12: "a lent buffer of 16-bit numbers, four to a statement"
+pub const UNPACKED_SIZE: usize = 4;
+
 // "1: length under 60 or over 1,048,576"
 pub const HEADER_LENGTH: usize = 60;
 

@@ -3,15 +3,17 @@
 // what they are said to be.
 ghost use mathlib.Core.Path.{_≡_};
 ghost use Rattle.definition.specs.Load.{programOf};
-ghost use Rattle.definition.specs.Calls.{enters, steps, runs, carries, abandons, reads, writes, writesAll};
+ghost use Rattle.definition.specs.Calls.{enters, runsUnpacked, carries, abandons, reads, writes, writesAll};
 ghost use Rattle.progs.specs.Contexts.{config};
 ghost use Rattle.call_list.specs.Encoding.{repliedOf, afterCall};
 ghost use Rattle.host.specs.Loading.{afterLoad};
+ghost use Rattle.host.specs.Unpacking.{unpackingOf, afterUnpacking};
 ghost use Rattle.host.specs.Writing.{writingOf, afterWriting};
 use call_list::Replied;
 use definition::ReadAnswer;
 use definition::Settings;
 use definition::WriteAnswer;
+use progs::Answered;
 use progs::ExecutionContext;
 use progs::load;
 
@@ -51,33 +53,30 @@ pub extern "C" fn host_enter(
     call_list::reply_answer(entered)
 }
 
+// A run of the second engine, from the buffer (document 02, R-12).
 #[no_mangle]
-pub extern "C" fn host_statement(
+pub extern "C" fn host_run_unpacked(
     context: ExecutionContext,
     file: &[u8],
-    cells: &mut [u32],
-    store: &mut [u32],
-    entities: &mut [u32],
-) -> Replied
-    ensures { λ r. ⌜ repliedOf r (now (cells .exit)) (now (store .exit)) (now (entities .exit)) ≡ afterCall (programOf (now (file .entry))) steps (config context (now (cells .entry)) (now (store .entry)) (now (entities .entry))) ⌝ }
-{
-    let stepped = stepping::step_once(context, file, cells, store, entities);
-    call_list::reply_statement(stepped)
-}
-
-#[no_mangle]
-pub extern "C" fn host_run(
-    context: ExecutionContext,
-    file: &[u8],
+    buffer: &[u16],
     target: i64,
     limit: i64,
     cells: &mut [u32],
     store: &mut [u32],
     entities: &mut [u32],
 ) -> Replied
-    ensures { λ r. ⌜ repliedOf r (now (cells .exit)) (now (store .exit)) (now (entities .exit)) ≡ afterCall (programOf (now (file .entry))) (runs target limit) (config context (now (cells .entry)) (now (store .entry)) (now (entities .entry))) ⌝ }
+    ensures { λ r. ⌜ repliedOf r (now (cells .exit)) (now (store .exit)) (now (entities .exit)) ≡ afterCall (programOf (now (file .entry))) (runsUnpacked (now (buffer .entry)) target limit) (config context (now (cells .entry)) (now (store .entry)) (now (entities .entry))) ⌝ }
 {
-    let ran = server::run(context, file, target, limit, cells, store, entities);
+    let ran = second_engine::run_unpacked(
+        context,
+        file,
+        buffer,
+        target,
+        limit,
+        cells,
+        store,
+        entities,
+    );
     call_list::reply_run(ran)
 }
 
@@ -177,4 +176,20 @@ pub extern "C" fn host_write_file(
         ),
         WriteAnswer::Refused(n) => return call_list::reply_read(context, ReadAnswer::Refused(n)),
     }
+}
+
+// The file's statements at the front of the buffer (document 02, R-12).
+#[no_mangle]
+pub extern "C" fn host_unpack(
+    context: ExecutionContext,
+    file: &[u8],
+    buffer: &mut [u16],
+    cells: &[u32],
+    store: &[u32],
+    entities: &[u32],
+) -> Replied
+    ensures { λ r. ⌜ unpackingOf r (now (buffer .exit)) ≡ afterUnpacking (now (file .entry)) (now (buffer .entry)) context (now (cells .entry)) (now (store .entry)) (now (entities .entry)) ⌝ }
+{
+    let answer = unpacked::unpack(context, file, buffer, cells, store, entities);
+    call_list::reply_answer(Answered { context, answer })
 }

@@ -18,6 +18,7 @@ use Rattle.definition.specs.Machine.{entryConditions, entered, leaveConditions,
 use Rattle.definition.specs.Load.{load, loaded, programOf}
 use Rattle.definition.specs.Operations.{enteredAt, enteredFunctions, sound, natural, leftTimes, leavingsConditions, leavingsTo, abandonConditions, abandon}
 use Rattle.definition.specs.Calls.{Call}
+use Rattle.definition.specs.Unpacked.{AllReady}
 use Rattle.definition.specs.Log.{Log, Kind, entry, leaving, other}
 use Rattle.definition.specs.Trace.{StepProperty, Always}
 use Rattle.definition.specs.CheckLaws.{All, all-both, WhenAccepted, guarded, guard-accepts}
@@ -126,17 +127,17 @@ pub record CanLeave (file : List ℕ) (c : Config) (l : Log) : Type 0 where
   pub leaves : 0 < c .state .depth → All (leaveConditions (programOf file) c)
   pub abandons-to : Suffice file c → (target : ℕ) → target ≤ c .state .depth → (c′ : Config) × (abandon (programOf file) (pos target) c ≡ accepted c′)
 
-pub always-can-leave : (s : Settings) (file : List ℕ) (n : ℤ) (cells saved entities : List ℕ) (c : Config) → load s file n cells saved entities ≡ accepted c → (calls : List Call) → Always file AnyStep (CanLeave file) c [] calls
-always-can-leave s file n cells saved entities c accepts calls =
+pub always-can-leave : (s : Settings) (file : List ℕ) (n : ℤ) (cells saved entities : List ℕ) (c : Config) → load s file n cells saved entities ≡ accepted c → (calls : List Call) → AllReady file calls → Always file AnyStep (CanLeave file) c [] calls
+always-can-leave s file n cells saved entities c accepts calls ready =
     always file (λ c′ l. RangesPresent file c′) AnyStep (ranges-inductive file) (CanLeave file)
     (λ c′ l k. record { leaves = can-leave file c′ k; abandons-to = λ lent t h. abandons file c′ k lent t h })
-    c [] calls
+    c [] calls ready
     (subst (WhenAccepted (RangesPresent file)) accepts (loaded-ranges file s n cells saved entities))
 
 -- so in a list in which every lending is of entity cells enough, or in one without lendings, an abandonment is accepted at any time
 pub always-abandons : (s : Settings) (file : List ℕ) (n : ℤ) (cells saved entities : List ℕ) (c : Config) → load s file n cells saved entities ≡ accepted c
-    → (calls : List Call) → LendEnough (roomIn file c) calls
+    → (calls : List Call) → AllReady file calls → LendEnough (roomIn file c) calls
     → Always file AnyStep (λ c′ l. (target : ℕ) → target ≤ c′ .state .depth → (c″ : Config) × (abandon (programOf file) (pos target) c′ ≡ accepted c″)) c [] calls
-always-abandons s file n cells saved entities c accepts calls lent =
+always-abandons s file n cells saved entities c accepts calls ready lent =
     while-enough file AnyStep (CanLeave file) _ (λ c′ l k enough. k .abandons-to enough)
-    c [] calls (load-suffices s file n cells saved entities c accepts) lent (always-can-leave s file n cells saved entities c accepts calls)
+    c [] calls ready (load-suffices s file n cells saved entities c accepts) lent (always-can-leave s file n cells saved entities c accepts calls ready)

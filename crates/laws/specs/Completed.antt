@@ -10,11 +10,11 @@ use Rattle.definition.specs.declared.Handover.{Handover}
 use Rattle.definition.specs.Checks.{Condition, Conditions, judge, Checked, refused, accepted, decided, guard}
 use Rattle.definition.specs.File.{contentsOf}
 use Rattle.definition.specs.Statements.{Does, next, puts, calls, returns, refuses, handsOver}
-use Rattle.definition.specs.Machine.{Program, Config, entitiesOf, advanced, entryConditions, entered, returnConditions, returned, Stepped, completed, refusedStep, handedStep, asStep, stepAs, step, Ran, runAs, runFor}
+use Rattle.definition.specs.Machine.{Program, withUnpacked, Config, entitiesOf, advanced, entryConditions, entered, returnConditions, returned, Stepped, completed, refusedStep, handedStep, asStep, stepAs, step, Ran, runAs, runFor}
 use Rattle.definition.specs.Load.{programOf}
 use Rattle.definition.specs.Operations.{natural, hostEnter, statement, runConditions, runAfter, run, carryOn, abandon, rawRead, rawWrite, writeAll}
 use Rattle.definition.specs.Answers.{statementOutcome}
-use Rattle.definition.specs.Calls.{Call, enters, steps, runs, carries, abandons, reads, writes, writesAll, lends, after}
+use Rattle.definition.specs.Calls.{Call, enters, steps, runs, runsUnpacked, carries, abandons, reads, writes, writesAll, lends, after}
 use Rattle.definition.specs.Log.{Kind, entry, leaving, other, statementKind}
 use Rattle.definition.specs.StatementLaws.{HasKind, beforeIn, statement-has-kind}
 
@@ -57,6 +57,7 @@ abbrev pub RefusedCall : Program → Call → Config → Type 0
 RefusedCall P (enters f) c = (n : ℕ) × (hostEnter P f c ≡ refused n)
 RefusedCall P steps c = (n : ℕ) × (statement P c ≡ refusedStep n)
 RefusedCall P (runs target limit) c = run P target limit c .count ≡ 0
+RefusedCall P (runsUnpacked buffer target limit) c = run (withUnpacked P buffer) target limit c .count ≡ 0
 RefusedCall P carries c = (n : ℕ) × (carryOn P c ≡ refused n)
 RefusedCall P (abandons target) c = (n : ℕ) × (abandon P target c ≡ refused n)
 RefusedCall P (reads a) c = Unit {0}
@@ -80,12 +81,17 @@ none-after : (m : ℕ) (P : Program) (target limit : ℕ) (c : Config) → runAf
 none-after zero P target limit c e = none-run P limit target c e
 none-after (suc m) P target limit c e = refl
 
+none-all : (P : Program) (target limit : ℤ) (c : Config) → run P target limit c .count ≡ 0 → run P target limit c .config ≡ c
+unfolding run
+none-all P target limit c e = none-after (judge (runConditions P target limit c)) P (natural target) (natural limit) c e
+
 -- a refusal leaves state, cells, saved store and entity cells; of a run, those after its last completed statement, which are the last of its trace
 pub refusal-leaves : (P : Program) (k : Call) (c : Config) → RefusedCall P k c → after P k c ≡ c
-unfolding after run
+unfolding after
 refusal-leaves P (enters f) c (n, e) = rw e
 refusal-leaves P steps c (n, e) = ap (λ (s : Stepped). statementOutcome c s .config) e
-refusal-leaves P (runs target limit) c e = none-after (judge (runConditions P target limit c)) P (natural target) (natural limit) c e
+refusal-leaves P (runs target limit) c e = none-all P target limit c e
+refusal-leaves P (runsUnpacked buffer target limit) c e = none-all (withUnpacked P buffer) target limit c e
 refusal-leaves P carries c (n, e) = rw e
 refusal-leaves P (abandons target) c (n, e) = rw e
 refusal-leaves P (reads a) c u = refl

@@ -29,7 +29,9 @@ use Rattle.definition.specs.Machine.{Program, Config, entitiesOf, withEntities,
 use Rattle.definition.specs.Load.{loaded, load, programWith, programOf}
 use Rattle.definition.specs.Operations.{sound, natural, hostEnter, stepIf, statement, runConditions, runAfter, run, isHandedOver, carryOnConditions, carryOn, leftTimes, abandon, rawWrite, writeAll}
 use Rattle.definition.specs.Answers.{kept, statementOutcome, loadOutcome}
-use Rattle.definition.specs.Calls.{Call, enters, steps, runs, carries, abandons, reads, writes, writesAll, lends, after, smallSteps}
+use Rattle.definition.specs.Calls.{Call, enters, steps, runs, runsUnpacked, carries, abandons, reads, writes, writesAll, lends, after, smallSteps}
+use Rattle.definition.specs.Unpacked.{Ready, AllReady}
+use Rattle.definition.specs.UnpackedLaws.{same-run}
 use Rattle.definition.specs.Log.{Log, Kind, entry, leaving, other, statementKind}
 use Rattle.definition.specs.Trace.{StepProperty, StateProperty, logAfterSteps, Always}
 use Rattle.definition.specs.Returns.{DepthsMatch, StepCorrect, Demand3}
@@ -117,6 +119,7 @@ LendEnough room [] = Unit {0}
 LendEnough room (enters f ∷ ks) = LendEnough room ks
 LendEnough room (steps ∷ ks) = LendEnough room ks
 LendEnough room (runs target limit ∷ ks) = LendEnough room ks
+LendEnough room (runsUnpacked buffer target limit ∷ ks) = LendEnough room ks
 LendEnough room (carries ∷ ks) = LendEnough room ks
 LendEnough room (abandons target ∷ ks) = LendEnough room ks
 LendEnough room (reads a ∷ ks) = LendEnough room ks
@@ -188,6 +191,7 @@ module _ (file : List ℕ) where
   EntitiesBy (enters f) c c′ = Same c c′
   EntitiesBy steps c c′ = Kept file c c′
   EntitiesBy (runs target limit) c c′ = Kept file c c′
+  EntitiesBy (runsUnpacked buffer target limit) c c′ = Kept file c c′
   EntitiesBy carries c c′ = Same c c′
   EntitiesBy (abandons target) c c′ = Same c c′
   EntitiesBy (reads a) c c′ = Same c c′
@@ -195,17 +199,22 @@ module _ (file : List ℕ) where
   EntitiesBy (writesAll numbers) c c′ = Same c c′
   EntitiesBy (lends entities) c c′ = c′ ≡ withEntities c entities
 
-  pub entities-by : (k : Call) (c : Config) → EntitiesBy k c (after P k c)
-  unfolding after hostEnter statement run carryOn abandon rawWrite writeAll
-  entities-by (enters f) c = kept-same c (hostEnter P f c) (guarded (Same c) _ _ λ h. entered-same P _ (c .state .pc) c)
-  entities-by steps c = statement-kept c (sound P c) (step P c) (step-kept c)
-  entities-by (runs target limit) c = run-after-kept (judge (runConditions P target limit c)) (natural target) (natural limit) c
-  entities-by carries c = kept-same c (carryOn P c) (guarded (Same c) _ _ λ h. record { number = refl; cells = refl })
-  entities-by (abandons target) c = kept-same c (abandon P target c) (guarded (Same c) _ _ λ h. left-times-same P _ c)
-  entities-by (reads a) c = same c
-  entities-by (writes a v) c = kept-same c (rawWrite P a v c) (guarded (Same c) _ _ λ h. record { number = refl; cells = refl })
-  entities-by (writesAll numbers) c = kept-same c (writeAll P numbers c) (guarded (Same c) _ _ λ h. record { number = refl; cells = refl })
-  entities-by (lends entities) c = refl
+  run-kept : (target limit : ℤ) (c : Config) → Kept file c (run P target limit c .config)
+  unfolding run
+  run-kept target limit c = run-after-kept (judge (runConditions P target limit c)) (natural target) (natural limit) c
+
+  pub entities-by : (k : Call) → Ready file k → (c : Config) → EntitiesBy k c (after P k c)
+  unfolding after hostEnter statement carryOn abandon rawWrite writeAll
+  entities-by (enters f) ready c = kept-same c (hostEnter P f c) (guarded (Same c) _ _ λ h. entered-same P _ (c .state .pc) c)
+  entities-by steps ready c = statement-kept c (sound P c) (step P c) (step-kept c)
+  entities-by (runs target limit) ready c = run-kept target limit c
+  entities-by (runsUnpacked buffer target limit) ready c = subst (λ (r : Ran). Kept file c (r .config)) (sym (same-run file buffer ready target limit c)) (run-kept target limit c)
+  entities-by carries ready c = kept-same c (carryOn P c) (guarded (Same c) _ _ λ h. record { number = refl; cells = refl })
+  entities-by (abandons target) ready c = kept-same c (abandon P target c) (guarded (Same c) _ _ λ h. left-times-same P _ c)
+  entities-by (reads a) ready c = same c
+  entities-by (writes a v) ready c = kept-same c (rawWrite P a v c) (guarded (Same c) _ _ λ h. record { number = refl; cells = refl })
+  entities-by (writesAll numbers) ready c = kept-same c (writeAll P numbers c) (guarded (Same c) _ _ λ h. record { number = refl; cells = refl })
+  entities-by (lends entities) ready c = refl
 
   -- ---- lent entity cells enough
 
@@ -224,6 +233,7 @@ module _ (file : List ℕ) where
   enough-after (enters f) ks c c′ by enough lent = kept-enough c c′ ks enough lent (as-kept c c′ by)
   enough-after steps ks c c′ by enough lent = kept-enough c c′ ks enough lent by
   enough-after (runs target limit) ks c c′ by enough lent = kept-enough c c′ ks enough lent by
+  enough-after (runsUnpacked buffer target limit) ks c c′ by enough lent = kept-enough c c′ ks enough lent by
   enough-after carries ks c c′ by enough lent = kept-enough c c′ ks enough lent (as-kept c c′ by)
   enough-after (abandons target) ks c c′ by enough lent = kept-enough c c′ ks enough lent (as-kept c c′ by)
   enough-after (reads a) ks c c′ by enough lent = kept-enough c c′ ks enough lent (as-kept c c′ by)
@@ -233,14 +243,14 @@ module _ (file : List ℕ) where
 
   -- what holds between the calls of a list where the lent entity cells suffice, holds throughout where every lending is of enough
   pub while-enough : (Step : StepProperty) (At At′ : StateProperty) → ((c : Config) (l : Log) → At c l → Suffice c → At′ c l)
-      → (c : Config) (l : Log) (ks : List Call) → Suffice c → LendEnough (roomIn file c) ks → Always file Step At c l ks → Always file Step At′ c l ks
-  while-enough Step At At′ then c l [] enough lent h = then c l h enough
-  while-enough Step At At′ then c l (k ∷ ks) enough lent h =
-      let later = enough-after k ks c (after P k c) (entities-by k c) enough lent in (
+      → (c : Config) (l : Log) (ks : List Call) → AllReady file ks → Suffice c → LendEnough (roomIn file c) ks → Always file Step At c l ks → Always file Step At′ c l ks
+  while-enough Step At At′ then c l [] ready enough lent h = then c l h enough
+  while-enough Step At At′ then c l (k ∷ ks) ready enough lent h =
+      let later = enough-after k ks c (after P k c) (entities-by k (ready .0) c) enough lent in (
         then c l (h .0) enough,
         h .1,
         h .2,
-        while-enough Step At At′ then (after P k c) (logAfterSteps file k c l (smallSteps P k c)) ks (later .0) (later .1) (h .3),
+        while-enough Step At At′ then (after P k c) (logAfterSteps file k c l (smallSteps P k c)) ks (ready .1) (later .0) (later .1) (h .3),
       )
 
 -- ---- which entity cells a statement writes
@@ -626,12 +636,12 @@ transfers-inductive file =
       leave-one = λ c l k h. (left-same (programOf file) c, tt);
     }
 
-pub transfers-keep : (file : List ℕ) (c : Config) (l : Log) (ks : List Call) → Always file TransfersKeep (λ c′ l′. Unit {0}) c l ks
-transfers-keep file c l ks = always file (λ c′ l′. Unit {0}) TransfersKeep (transfers-inductive file) (λ c′ l′. Unit {0}) (λ c′ l′ k. tt) c l ks tt
+pub transfers-keep : (file : List ℕ) (c : Config) (l : Log) (ks : List Call) → AllReady file ks → Always file TransfersKeep (λ c′ l′. Unit {0}) c l ks
+transfers-keep file c l ks ready = always file (λ c′ l′. Unit {0}) TransfersKeep (transfers-inductive file) (λ c′ l′. Unit {0}) (λ c′ l′ k. tt) c l ks ready tt
 
 -- "The return guarantee then also covers runs that write entities", "though between calls the host may change any": demand 3 holds of a list in which others
 -- are lent after any call
 pub returns-over-lendings : (s : Settings) (file : List ℕ) (n : ℤ) (cells saved entities : List ℕ) (c : Config) → load s file n cells saved entities ≡ accepted c
-    → (ks : List Call) (lent : List ℕ) (more : List Call) → Always file (StepCorrect s file) (DepthsMatch s file) c [] (ks ++ (lends lent ∷ more))
+    → (ks : List Call) (lent : List ℕ) (more : List Call) → AllReady file (ks ++ (lends lent ∷ more)) → Always file (StepCorrect s file) (DepthsMatch s file) c [] (ks ++ (lends lent ∷ more))
 unfolding Demand3
-returns-over-lendings s file n cells saved entities c accepts ks lent more = demand3 s file n cells saved entities c accepts (ks ++ (lends lent ∷ more))
+returns-over-lendings s file n cells saved entities c accepts ks lent more ready = demand3 s file n cells saved entities c accepts (ks ++ (lends lent ∷ more)) ready

@@ -18,6 +18,7 @@ use Rattle.definition.specs.Machine.{Program, Config, zeroFrame, copied, succes
 use Rattle.definition.specs.Machine.{entryConditions, entered, left}
 use Rattle.definition.specs.Load.{load, programOf}
 use Rattle.definition.specs.Calls.{Call}
+use Rattle.definition.specs.Unpacked.{AllReady}
 use Rattle.definition.specs.Log.{Log, Kind, entry, leaving, other}
 use Rattle.definition.specs.Trace.{StepProperty, Always}
 use Rattle.definition.specs.CheckLaws.{All}
@@ -119,11 +120,11 @@ module _ (file : List ℕ) where
         leave-one = λ c l k h. left-frames c l k;
       }
 
-pub frames-by : (s : Settings) (file : List ℕ) (n : ℤ) (cells saved entities : List ℕ) (c : Config) → load s file n cells saved entities ≡ accepted c → (calls : List Call)
+pub frames-by : (s : Settings) (file : List ℕ) (n : ℤ) (cells saved entities : List ℕ) (c : Config) → load s file n cells saved entities ≡ accepted c → (calls : List Call) → AllReady file calls
     → Always file FramesBy (λ c′ l. ZeroAbove c′) c [] calls
-frames-by s file n cells saved entities c accepts calls =
+frames-by s file n cells saved entities c accepts calls ready =
     let started = load-starts s file n cells saved entities c accepts in
-    always file (λ c′ l. ZeroAndBound c′) FramesBy (frames-inductive file) (λ c′ l. ZeroAbove c′) (λ c′ l k. record { number = k .number; zeros = k .zeros }) c [] calls
+    always file (λ c′ l. ZeroAndBound c′) FramesBy (frames-inductive file) (λ c′ l. ZeroAbove c′) (λ c′ l k. record { number = k .number; zeros = k .zeros }) c [] calls ready
     (record {
       number = ap length (started .frames) ∙ length-replicate greatestDepth zeroFrame;
       zeros = λ i le. ap (λ (fs : List StackFrame). getD fs i zeroFrame) (started .frames) ∙ all-zeros greatestDepth i;

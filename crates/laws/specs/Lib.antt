@@ -15,6 +15,7 @@ pub mod RoundTrip
 pub mod Lookup
 pub mod Texts
 pub mod Pairs
+pub mod Engines
 pub mod Opcodes
 pub mod Refusals
 pub mod StackLaws

@@ -17,7 +17,7 @@ use Rattle.definition.specs.declared.RunAnswer.the-variants.{Ended, Spent, Refu
 use Rattle.definition.specs.Checks.{Conditions, _otherwise_, judge, guard}
 use Rattle.definition.specs.File.{greatestDepth}
 use Rattle.definition.specs.Statements.{Does, next, puts, calls, returns, refuses, handsOver}
-use Rattle.definition.specs.Machine.{Program, Config, entitiesOf, entryConditions, entered, enter, left, returnConditions, returned}
+use Rattle.definition.specs.Machine.{Program, withUnpacked, Config, entitiesOf, entryConditions, entered, enter, left, returnConditions, returned}
 use Rattle.definition.specs.Machine.{Stepped, completed, refusedStep, handedStep, stepAs, step, Ran, oneMore, goOn, runAs, runFor}
 use Rattle.definition.specs.Load.{programOf}
 use Rattle.definition.specs.Operations.{sound, natural, below, permitted, runConditions, runAfter, run}
@@ -27,7 +27,7 @@ use Rattle.definition.specs.PlaceLaws.{below-natural}
 use Rattle.laws.specs.Entities.{WhenCompleted, as-step}
 use Rattle.laws.specs.Runs.{Says, run-says, UnlessEnded, WhenShort, run-keeps}
 use Rattle.laws.specs.Passing.{KeepsNumbers, Passing, sound-passing, passing-sound, run-passing}
-use Rattle.laws.specs.StatementNumbers.{keeps-numbers}
+use Rattle.laws.specs.StatementNumbers.{keeps-numbers, unpacked-keeps-numbers}
 
 -- "a run that ended, was refused or was handed over": every answer but spent
 abbrev pub IsVerdict : RunAnswer → Type 0
@@ -309,35 +309,36 @@ module _ (P : Program) (more : FileRecord → Conditions) where
           ∙ ap (λ (j : ℕ). runSteps P n t c ++ runStepsAfter j P t m (first .config)) (sym second-passed)
           ∙ ap (λ (j : ℕ). runStepsAfter j P t n c ++ stepsBy target (pos m) (first .config)) (sym passed)
 
--- ---- the run that a host calls: nothing is checked between 13 and 28
+-- ---- the run that a host calls, by either engine: R-12's 37, which depends on no state, is between 13 and 28
 
-abbrev nothing : FileRecord → Conditions
-nothing r = []
+abbrev roomFor : Program → FileRecord → Conditions
+roomFor P r = (P .room otherwise 37) ∷ []
 
 -- "From the same state and buffers, a run that ended, was refused or was handed over under one permitted limit gives the same outcome, count, state and
--- buffers under every larger permitted one." A run that 13 or 29 refuses is such a one too, and is refused the same under the larger limit; 28 refuses
+-- buffers under every larger permitted one." A run that 13, 37 or 29 refuses is such a one too, and is refused the same under the larger limit; 28 refuses
 -- neither, both limits being permitted.
 pub verdict-kept : (P : Program) (target : ℤ) (n m : ℕ) (c : Config) → Permitted c n → Permitted c m → n ≤ m
     → IsVerdict (run P target (pos n) c .answer) → run P target (pos m) c ≡ run P target (pos n) c
 unfolding run runConditions
-verdict-kept P target n m c p q h v = verdict-kept-by P nothing target n m c p q h v
+verdict-kept P target n m c p q h v = verdict-kept-by P (roomFor P) target n m c p q h v
 
--- from a run that was spent, to any target, with the bytes of any file, and in any state with the 31 frames that a context has
-module _ (file : List ℕ) (target : ℤ) (n m : ℕ) (c : Config) (frames : greatestDepth ≤ length (c .state .frames)) where
-  abbrev P : Program
-  P = programOf file
-
+-- from a run that was spent, to any target, and in any state with the 31 frames that a context has
+module _ (P : Program) (keeps : KeepsNumbers P) (target : ℤ) (n m : ℕ) (c : Config) (frames : greatestDepth ≤ length (c .state .frames)) where
   -- "A run that was spent after n"
   pub spent-after : run P target (pos n) c .answer ≡ Spent → run P target (pos n) c .count ≡ n
   unfolding run runConditions
-  spent-after spent = spent-after-by P nothing target n c spent
+  spent-after spent = spent-after-by P (roomFor P) target n c spent
 
   -- "A run that was spent after n, resumed to the same target with m and nothing changed between, equals a run of n plus m, counts added, where m and n
-  -- plus m are permitted." The second run passes 13 and 29 as the first did, and that n is permitted follows.
-  pub resumed : run P target (pos n) c .answer ≡ Spent → Permitted c m → Permitted c (n + m)
+  -- plus m are permitted." The second run passes 13, 37 and 29 as the first did, and that n is permitted follows.
+  abbrev pub Resumes : Type 0
+  Resumes =
+      run P target (pos n) c .answer ≡ Spent → Permitted c m → Permitted c (n + m)
       → run P target (pos (n + m)) c ≡ countsAdded (run P target (pos n) c) (run P target (pos m) (run P target (pos n) c .config))
+
+  pub resumed : Resumes
   unfolding run runConditions
-  resumed spent p q = resumed-by P nothing target n c spent (keeps-numbers file) frames m p q
+  resumed spent p q = resumed-by P (roomFor P) target n c spent keeps frames m p q
 
   -- For operators: what a spent run leaves, its depth, position and cells and all, is what the longer run passes through. Its statements are the first of the
   -- longer run's, and it leaves what the last of them does.
@@ -346,4 +347,13 @@ module _ (file : List ℕ) (target : ℤ) (n m : ℕ) (c : Config) (frames : gre
       ≡ smallSteps P (runs target (pos n)) c ++ smallSteps P (runs target (pos m)) (run P target (pos n) c .config))
       × (endOf c (smallSteps P (runs target (pos n)) c) ≡ run P target (pos n) c .config)
   unfolding run runConditions smallSteps
-  passes-through spent p q = (passes-by P nothing target n c spent (keeps-numbers file) frames m p q, stands-by P nothing target n c spent)
+  passes-through spent p q = (passes-by P (roomFor P) target n c spent keeps frames m p q, stands-by P (roomFor P) target n c spent)
+
+-- both engines are such programs, with the bytes of any file, and the second with any buffer
+pub first-resumed : (file : List ℕ) (target : ℤ) (n m : ℕ) (c : Config) (frames : greatestDepth ≤ length (c .state .frames))
+    → Resumes (programOf file) (keeps-numbers file) target n m c frames
+first-resumed file target n m c frames = resumed (programOf file) (keeps-numbers file) target n m c frames
+
+pub second-resumed : (file buffer : List ℕ) (target : ℤ) (n m : ℕ) (c : Config) (frames : greatestDepth ≤ length (c .state .frames))
+    → Resumes (withUnpacked (programOf file) buffer) (unpacked-keeps-numbers file buffer) target n m c frames
+second-resumed file buffer target n m c frames = resumed (withUnpacked (programOf file) buffer) (unpacked-keeps-numbers file buffer) target n m c frames

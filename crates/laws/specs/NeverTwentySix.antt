@@ -11,9 +11,9 @@ use lib.Dec.{eqb, ltb, leb}
 use Rattle.definition.specs.declared.RunAnswer.{RunAnswer}
 use Rattle.definition.specs.declared.RunAnswer.the-variants.{Ended, Spent, Refused, HandedOver}
 use Rattle.definition.specs.Checks.{Conditions, _otherwise_, judge, Checked, refused, accepted, decided, guard}
-use Rattle.definition.specs.File.{greatestDepth, contentsAt, fileOf}
+use Rattle.definition.specs.File.{greatestDepth, contentsAt, fileOf, unpackedStatements, withStatements}
 use Rattle.definition.specs.Statements.{Entities, Does, next, puts, calls, returns, refuses, handsOver, placeOf, doesAt}
-use Rattle.definition.specs.Machine.{Program, functionOf, Config, entitiesOf, countOf, present, entryConditions, enter, leaveConditions, left, returnConditions, returned}
+use Rattle.definition.specs.Machine.{Program, withUnpacked, functionOf, Config, entitiesOf, countOf, present, entryConditions, enter, leaveConditions, left, returnConditions, returned}
 use Rattle.definition.specs.Machine.{Stepped, completed, refusedStep, handedStep, asStep, stepAs, step, runFor}
 use Rattle.definition.specs.Load.{programWith, programOf}
 use Rattle.definition.specs.Operations.{sound, natural, below, hostEnter, stepIf, statement, runConditions, runAfter, run, carryOnConditions, carryOn, leavingsConditions, leavingsTo, abandonConditions, abandon}
@@ -200,7 +200,7 @@ module _ (P : Program) (others : NotWithdrawnBy P) (c : Config) (frames : greate
   run-other : (target limit : ℤ) → OtherAnswer (run P target limit c .answer)
   unfolding run runConditions Without
   run-other target limit =
-      run-after-other P others (runConditions P target limit c) (natural target) (natural limit) c (refl, (refl, (refl, tt))) (λ h. stack (h .0))
+      run-after-other P others (runConditions P target limit c) (natural target) (natural limit) c (refl, (refl, (refl, (refl, tt)))) (λ h. stack (h .0))
 
   carry-on-other : Checks (carryOnConditions P c)
   unfolding carryOnConditions Without
@@ -240,3 +240,16 @@ file-not-withdrawn file =
 -- "26 isn't used again for anything": by any operation on any state, and the bytes of any file
 pub never-26 : (file : List ℕ) (c : Config) → greatestDepth ≤ length (c .state .frames) → NeverTwentySix (programOf file) c
 never-26 file c frames = never-26-by (programOf file) (file-not-withdrawn file) c frames
+
+-- and by the second engine, whatever its buffer holds
+pub unpacked-not-withdrawn : (file buffer : List ℕ) → NotWithdrawnBy (withUnpacked (programOf file) buffer)
+unfolding programWith
+unpacked-not-withdrawn file buffer =
+    let k = withStatements (contentsAt (fileOf file) file) (unpackedStatements buffer (fileOf file .statements .count)) in
+    record {
+      fetching = λ p. fetch-without (k .statements) p;
+      statements = λ p e cells. numbers-not-withdrawn e cells (doesAt k p e cells) (does-numbers k p e cells);
+    }
+
+pub never-26-unpacked : (file buffer : List ℕ) (c : Config) → greatestDepth ≤ length (c .state .frames) → NeverTwentySix (withUnpacked (programOf file) buffer) c
+never-26-unpacked file buffer c frames = never-26-by (withUnpacked (programOf file) buffer) (unpacked-not-withdrawn file buffer) c frames

@@ -15,7 +15,7 @@ use Rattle.definition.specs.Checks.{judge, refused, accepted}
 use Rattle.definition.specs.File.{builtinNumber, settingsFit, standard}
 use Rattle.definition.specs.Cells.{cellOf}
 use Rattle.definition.specs.Statements.{Does, next, calls, returns, refuses, handsOver, callOf}
-use Rattle.definition.specs.Machine.{Program, State, Config, entitiesFit, zeroFrame, present, copied, successive, arguments, copiesPresent}
+use Rattle.definition.specs.Machine.{Fetch, Program, State, Config, entitiesFit, zeroFrame, present, copied, successive, arguments, copiesPresent}
 use Rattle.definition.specs.Machine.{entryConditions, entered, leaveConditions, returnConditions, Stepped, completed, refusedStep, handedStep}
 use Rattle.definition.specs.Load.{each, recordConditions}
 use Rattle.definition.specs.Operations.{frameFunctions, enteredFunctions, allPresent, localsOf, sound, runConditions}
@@ -105,9 +105,21 @@ records =
 
 -- ---- entry and Return, over 64 cells, each with its own number in it
 
--- nothing of a program but its functions
+-- nothing of a program but its functions, and whether its engine's buffer has room for the statements
+abbrev programFrom : Bool → List FunctionDef → Program
+programFrom room functions =
+    let nowhere : Fetch = record { room = room; fetching = λ p. []; does = λ p e cells. refuses 1 } in
+    record {
+      functions = functions;
+      room = room;
+      fetching = nowhere .fetching;
+      does = nowhere .does;
+      recorded = λ file lent. true;
+      unpacked = λ buffer. nowhere;
+    }
+
 abbrev program : List FunctionDef → Program
-program functions = record { functions = functions; fetching = λ p. []; does = λ p e cells. refuses 1; recorded = λ file lent. true }
+program functions = programFrom true functions
 
 -- in function 0, at this depth, with so many saved
 abbrev at : ℕ → ℕ → Config
@@ -195,10 +207,13 @@ leavings =
 
 -- ---- a run, from depth 1 to 0
 
-abbrev running : ℤ → ℤ → ℕ
-running target limit = judge (runConditions (program (fn 0 0 0 0 [] ∷ [])) target limit (at 1 0))
+abbrev runningFrom : Bool → ℤ → ℤ → Config → ℕ
+runningFrom room target limit c = judge (runConditions (programFrom room (fn 0 0 0 0 [] ∷ [])) target limit c)
 
--- "28: limit outside 1 to 99,999; 29: target below 0, or not below the depth"
+abbrev running : ℤ → ℤ → ℕ
+running target limit = runningFrom true target limit (at 1 0)
+
+-- "28: limit outside 1 to 99,999; 29: target below 0, or not below the depth"; R-12: 37 "after 13 and before 28"
 abbrev runs : List Row
 runs =
     rowOf "28: limit 0" (running (negsuc 0) (pos 0)) 28
@@ -206,6 +221,9 @@ runs =
     ∷ rowOf "28: limit 100,000" (running (pos 0) (pos 100000)) 28
     ∷ rowOf "29: target below 0" (running (negsuc 0) (pos 1)) 29
     ∷ rowOf "29: not below the depth" (running (pos 1) (pos 99999)) 29
+    ∷ rowOf "37 before 28" (runningFrom false (negsuc 0) (pos 0) (at 1 0)) 37
+    ∷ rowOf "37, nothing else" (runningFrom false (pos 0) (pos 1) (at 1 0)) 37
+    ∷ rowOf "13 before 37" (runningFrom false (pos 0) (pos 1) (at 1 1)) 13
     ∷ rowOf "none: limit 1" (running (pos 0) (pos 1)) 0
     ∷ rowOf "none: limit 99,999" (running (pos 0) (pos 99999)) 0
     ∷ []

@@ -2,7 +2,7 @@
 -- acceptance away, and a run is begun, a cell read or written, a function entered, a handed-over statement carried on and the program written from wherever
 -- the row's conditions hold.
 use Prim.Native.Nat.{ℕ, suc, _+_}
-use mathlib.Core.Path.{_≡_, subst}
+use mathlib.Core.Path.{_≡_, refl, subst, _∙_}
 use mathlib.Core.Logic.{inr}
 use mathlib.Core.List.{List, [], _∷_, _++_}
 use mathlib.Core.Bool.{true}
@@ -14,11 +14,13 @@ use Rattle.definition.specs.declared.RunAnswer.the-variants.{Refused}
 use Rattle.definition.specs.Checks.{Condition, Conditions, _otherwise_, judge, Checked, accepted, guard}
 use Rattle.definition.specs.File.{fileOf}
 use Rattle.definition.specs.Statements.{placeOf}
-use Rattle.definition.specs.Machine.{Program, Config, entitiesOf, countOf, withCells, advanced, entryConditions, entered, step, Ran, runFor}
-use Rattle.definition.specs.Load.{load, programOf}
+use Rattle.definition.specs.Machine.{Program, withUnpacked, Config, entitiesOf, countOf, withCells, advanced, entryConditions, entered, step, Ran, runFor}
+use Rattle.definition.specs.Load.{load, programWith, programOf}
 use Rattle.definition.specs.Operations.{sound, natural, below, permitted, isHandedOver, hostEnter, statement, runConditions, run, carryOnConditions, carryOn, rawRead, rawWrite, pairsConditions, pairsWritten, writeAll}
 use Rattle.definition.specs.Written.{roomConditions, placed, image, writeConditions, writeFile}
 use Rattle.definition.specs.Calls.{Call}
+use Rattle.definition.specs.Unpacked.{bufferAfter, unpack, AllReady}
+use Rattle.definition.specs.UnpackedLaws.{sound-kept}
 use Rattle.definition.specs.Trace.{Always}
 use Rattle.definition.specs.CheckLaws.{All, FailsFirst, judge-all, judge-first, WhenAccepted}
 use Rattle.definition.specs.Invariant.{always, roomIn}
@@ -47,6 +49,10 @@ module _ (file : List ℕ) (c : Config) where
   abbrev pub carryOnRow : Conditions
   carryOnRow = P .fetching (c .state .pc) ++ ((isHandedOver (P .does (c .state .pc) (entitiesOf c) (c .cells)) otherwise 27) ∷ [])
 
+  -- R-12: "An unpack buffer shorter than four numbers a statement is refused 37, at unpacking and at each run, after 13 and before 28"
+  abbrev pub unpackRow : List ℕ → Conditions
+  unpackRow buffer = (P .unpacked buffer .room otherwise 37) ∷ []
+
   abbrev place : ℤ → ℕ
   place f = placeOf (length (P .functions)) f
 
@@ -55,6 +61,9 @@ module _ (file : List ℕ) (c : Config) where
     pub enters : (f : ℤ) → Exactly (entryConditions P (place f) c) (entered P (place f) (c .state .pc) c) (hostEnter P f c)
     pub steps : statement P c ≡ step P c
     pub runs : (target limit : ℤ) → RunExactly (runRow target limit) c (runFor P (natural limit) (natural target) c) (run P target limit c)
+    pub unpacks : (buffer : List ℕ) → Exactly (unpackRow buffer) (bufferAfter file buffer) (unpack file buffer c)
+    pub runs-unpacked : (buffer : List ℕ) (target limit : ℤ)
+        → RunExactly ((P .unpacked buffer .room otherwise 37) ∷ runRow target limit) c (runFor (withUnpacked P buffer) (natural limit) (natural target) c) (run (withUnpacked P buffer) target limit c)
     pub carries : Exactly carryOnRow (advanced c (c .state .pc +ℤ pos 1) (c .cells) (c .entities)) (carryOn P c)
     pub reads : (a : ℤ) → Exactly (rawRow a) (getD (c .cells) (natural a) 0) (rawRead P a c)
     pub writes : (a : ℤ) (v : ℕ) → Exactly (rawRow a) (withCells c (set (c .cells) (natural a) v)) (rawWrite P a v c)
@@ -71,11 +80,22 @@ module _ (file : List ℕ) (c : Config) where
     without-13 cs a = rw passes (exactly cs a)
 
     run-decides : (target limit : ℤ) → RunExactly (runRow target limit) c (runFor P (natural limit) (natural target) c) (run P target limit c)
-    unfolding run runConditions
+    unfolding run runConditions programWith
     run-decides target limit =
         record {
-          begins = λ h. rw (judge-all (runConditions P target limit c) (passes, h));
-          refuses = λ n f. rw (judge-first (runConditions P target limit c) (suc n) (inr (passes, f)));
+          begins = λ h. rw (judge-all (runConditions P target limit c) (passes, (refl, h)));
+          refuses = λ n f. rw (judge-first (runConditions P target limit c) (suc n) (inr (passes, inr (refl, f))));
+        }
+
+    unpacked-decides : (buffer : List ℕ) (target limit : ℤ)
+        → RunExactly ((P .unpacked buffer .room otherwise 37) ∷ runRow target limit) c (runFor (withUnpacked P buffer) (natural limit) (natural target) c) (run (withUnpacked P buffer) target limit c)
+    unfolding run runConditions
+    unpacked-decides buffer target limit =
+        let Q = withUnpacked P buffer in
+        let sound-here : sound Q c ≡ true = sound-kept P buffer c ∙ passes in
+        record {
+          begins = λ h. rw (judge-all (runConditions Q target limit c) (sound-here, h));
+          refuses = λ n f. rw (judge-first (runConditions Q target limit c) (suc n) (inr (sound-here, f)));
         }
 
     -- the file's count of cells, for the count that the state records
@@ -83,12 +103,14 @@ module _ (file : List ℕ) (c : Config) where
     by-count cs v x e = subst (λ (r : FileRecord). Exactly (cs (r .globals .count)) v x) (k .recorded) e
 
     decides : RowDecides
-    unfolding hostEnter statement carryOn carryOnConditions rawRead rawWrite writeAll writeFile writeConditions
+    unfolding hostEnter statement unpack carryOn carryOnConditions rawRead rawWrite writeAll writeFile writeConditions
     decides =
         record {
           enters = λ f. without-13 _ _;
           steps = rw passes;
           runs = run-decides;
+          unpacks = λ buffer. without-13 _ _;
+          runs-unpacked = unpacked-decides;
           carries = without-13 _ _;
           reads = λ a. by-count (λ n. (below a n otherwise 15) ∷ []) _ _ (without-13 _ _);
           writes = λ a v. by-count (λ n. (below a n otherwise 15) ∷ []) _ _ (without-13 _ _);
@@ -97,16 +119,16 @@ module _ (file : List ℕ) (c : Config) where
         }
 
 pub row-always-decides : (s : Settings) (file : List ℕ) (n : ℤ) (cells saved entities : List ℕ) (c : Config) → load s file n cells saved entities ≡ accepted c
-    → (calls : List Call)
+    → (calls : List Call) → AllReady file calls
     → Always file AnyStep (λ c′ l. Suffice file c′ → RowDecides file c′) c [] calls
-row-always-decides s file n cells saved entities c accepts calls =
+row-always-decides s file n cells saved entities c accepts calls ready =
     always file (λ c′ l. Consistent file c′) AnyStep (consistent-inductive file) (λ c′ l. Suffice file c′ → RowDecides file c′) (λ c′ l k lent. decides file c′ k lent)
-    c [] calls (subst (WhenAccepted (Consistent file)) accepts (loaded-consistent s file n cells saved entities))
+    c [] calls ready (subst (WhenAccepted (Consistent file)) accepts (loaded-consistent s file n cells saved entities))
 
 -- so in a list in which every lending is of entity cells enough, or in one without lendings, it always decides
 pub row-decides-lent : (s : Settings) (file : List ℕ) (n : ℤ) (cells saved entities : List ℕ) (c : Config) → load s file n cells saved entities ≡ accepted c
-    → (calls : List Call) → LendEnough (roomIn file c) calls
+    → (calls : List Call) → AllReady file calls → LendEnough (roomIn file c) calls
     → Always file AnyStep (λ c′ l. RowDecides file c′) c [] calls
-row-decides-lent s file n cells saved entities c accepts calls lent =
+row-decides-lent s file n cells saved entities c accepts calls ready lent =
     while-enough file AnyStep (λ c′ l. Suffice file c′ → RowDecides file c′) (λ c′ l. RowDecides file c′) (λ c′ l decides enough. decides enough)
-    c [] calls (load-suffices s file n cells saved entities c accepts) lent (row-always-decides s file n cells saved entities c accepts calls)
+    c [] calls ready (load-suffices s file n cells saved entities c accepts) lent (row-always-decides s file n cells saved entities c accepts calls ready)

@@ -10,10 +10,10 @@ use lib.Dec.{eqb}
 use Rattle.definition.specs.declared.Handover.{Handover}
 use Rattle.definition.specs.declared.RunAnswer.{RunAnswer}
 use Rattle.definition.specs.declared.RunAnswer.the-variants.{Ended, Spent, Refused, HandedOver}
-use Rattle.definition.specs.Machine.{Program, Config, withEntities, Stepped, completed, refusedStep, handedStep, step, Ran, oneMore, goOn, runAs, runFor}
+use Rattle.definition.specs.Machine.{Program, withUnpacked, Config, withEntities, Stepped, completed, refusedStep, handedStep, step, Ran, oneMore, goOn, runAs, runFor}
 use Rattle.definition.specs.Operations.{hostEnter, statement, run, carryOn, abandon, rawWrite, writeAll}
 use Rattle.definition.specs.Answers.{kept, statementOutcome}
-use Rattle.definition.specs.Calls.{enters, steps, runs, carries, abandons, reads, writes, writesAll, lends, after}
+use Rattle.definition.specs.Calls.{enters, steps, runs, runsUnpacked, carries, abandons, reads, writes, writesAll, lends, after}
 use Rattle.laws.specs.Entities.{WhenCompleted}
 
 -- "Spent is given when the limit's statements are completed and the target isn't reached"; a run that ended stands at its target; one that was refused
@@ -110,6 +110,10 @@ module _ (P : Program) (c : Config) where
   pub runs-leaves : (target limit : ℤ) → after P (runs target limit) c ≡ run P target limit c .config
   unfolding after
   runs-leaves target limit = refl
+
+  pub runs-unpacked-leaves : (buffer : List ℕ) (target limit : ℤ) → after P (runsUnpacked buffer target limit) c ≡ run (withUnpacked P buffer) target limit c .config
+  unfolding after
+  runs-unpacked-leaves buffer target limit = refl
 
   pub carries-leaves : after P carries c ≡ kept c (carryOn P c)
   unfolding after

@@ -13,16 +13,16 @@ use lib.Dec.{eqb}
 use Rattle.definition.specs.Checks.{judge, Checked, refused, accepted}
 use Rattle.definition.specs.File.{greatestDepth}
 use Rattle.definition.specs.Statements.{placeOf}
-use Rattle.definition.specs.Machine.{Program, functionOf, Config, zeroFrame, leaveConditions, left}
+use Rattle.definition.specs.Machine.{Program, withUnpacked, functionOf, Config, zeroFrame, leaveConditions, left}
 use Rattle.definition.specs.Machine.{Stepped, completed, refusedStep, handedStep, step}
 use Rattle.definition.specs.Operations.{enteredAt, enteredFunctions, localsOf, sound, natural, hostEnter, stepIf, statement, runConditions, carryOn}
 use Rattle.definition.specs.Operations.{leavingsConditions, leavingsTo, abandonConditions, rawWrite, writeAll}
-use Rattle.definition.specs.Calls.{Call, enters, steps, runs, carries, abandons, reads, writes, writesAll, lends, ifAccepted, ifCompleted, unlessEnded, stepsAs, runSteps, runStepsAfter, leavings, leavingsAfter, smallSteps}
+use Rattle.definition.specs.Calls.{Call, enters, steps, runs, runsUnpacked, carries, abandons, reads, writes, writesAll, lends, ifAccepted, ifCompleted, unlessEnded, stepsAs, runSteps, runStepsAfter, stepsOfRun, leavings, leavingsAfter, smallSteps}
 use Rattle.definition.specs.CheckLaws.{All, judge-passed, all-front, all-back, WhenAccepted, guarded}
 use Rattle.laws.specs.Entities.{WhenCompleted}
 use Rattle.laws.specs.Sound.{entered-less, suffice}
 use Rattle.laws.specs.Passing.{sound-passing, passing-stack}
-use Rattle.laws.specs.StackLaws.{Stacked, advanced-stack, entered-stack, left-stack, step-stack}
+use Rattle.laws.specs.StackLaws.{Stacked, stack-alike, advanced-stack, entered-stack, left-stack, step-stack}
 
 pub record SavedSuffice (P : Program) (c : Config) : Type 0 where
   -- "their number is the sum of its locals and those beneath": of the functions that are entered still, once this one is left
@@ -112,17 +112,26 @@ module _ (P : Program) where
         go zero e = leavings-each (leavingsTo target c) c k (judge-passed (abandonConditions P target c) e .1 .1)
         go (suc j) e = tt
 
-    stacked-each : (x : Call) → Each (Stacked P) (smallSteps P x c)
-    unfolding smallSteps hostEnter statement carryOn rawWrite writeAll
-    stacked-each (enters f) = accepted-each (hostEnter P f c) (guarded (Stacked P) _ _ λ h. entered-stack P c (placeOf (length (P .functions)) f) (c .state .pc) k (h .1))
-    stacked-each steps = completed-each (sound P c) (step P c) (step-stack P c k)
-    stacked-each (runs target limit) = run-after-each (judge (runConditions P target limit c)) (natural target) (natural limit)
-    stacked-each carries = accepted-each (carryOn P c) (guarded (Stacked P) _ _ λ h. advanced-stack P c (c .state .pc +ℤ pos 1) (c .cells) (c .entities) k)
-    stacked-each (abandons target) = abandon-each target
-    stacked-each (reads a) = tt
-    stacked-each (writes a v) = accepted-each (rawWrite P a v c) (guarded (Stacked P) _ _ λ h. k)
-    stacked-each (writesAll numbers) = accepted-each (writeAll P numbers c) (guarded (Stacked P) _ _ λ h. k)
-    stacked-each (lends entities) = (k, tt)
+-- a program with the same functions, as the second engine's is
+each-alike : (P Q : Program) → Q .functions ≡ P .functions → (cs : List Config) → Each (Stacked P) cs → Each (Stacked Q) cs
+each-alike P Q alike [] h = tt
+each-alike P Q alike (c ∷ cs) (h, hs) = (stack-alike P Q alike (c .state) h, each-alike P Q alike cs hs)
+
+module _ (P : Program) (c : Config) (k : Stacked P c) where
+  stacked-each : (x : Call) → Each (Stacked P) (smallSteps P x c)
+  unfolding smallSteps hostEnter statement carryOn rawWrite writeAll
+  stacked-each (enters f) = accepted-each P (hostEnter P f c) (guarded (Stacked P) _ _ λ h. entered-stack P c (placeOf (length (P .functions)) f) (c .state .pc) k (h .1))
+  stacked-each steps = completed-each P (sound P c) (step P c) (step-stack P c k)
+  stacked-each (runs target limit) = run-after-each P c k (judge (runConditions P target limit c)) (natural target) (natural limit)
+  stacked-each (runsUnpacked buffer target limit) =
+      let Q = withUnpacked P buffer in
+      each-alike Q P refl (stepsOfRun Q target limit c) (run-after-each Q c (stack-alike P Q refl (c .state) k) (judge (runConditions Q target limit c)) (natural target) (natural limit))
+  stacked-each carries = accepted-each P (carryOn P c) (guarded (Stacked P) _ _ λ h. advanced-stack P c (c .state .pc +ℤ pos 1) (c .cells) (c .entities) k)
+  stacked-each (abandons target) = abandon-each P c k target
+  stacked-each (reads a) = tt
+  stacked-each (writes a v) = accepted-each P (rawWrite P a v c) (guarded (Stacked P) _ _ λ h. k)
+  stacked-each (writesAll numbers) = accepted-each P (writeAll P numbers c) (guarded (Stacked P) _ _ λ h. k)
+  stacked-each (lends entities) = (k, tt)
 
 -- so each leaving of a run and of an abandonment finds cells enough: it comes at the start of the call, or after a small step of it
 pub always-suffice : (P : Program) (c : Config) → greatestDepth ≤ length (c .state .frames) → sound P c ≡ true → (x : Call) → Each (SufficesWhenEntered P) (smallSteps P x c)

@@ -22,6 +22,7 @@ use Rattle.definition.specs.Machine.{entryConditions, entered, leaveConditions,
 use Rattle.definition.specs.Load.{headerConditions, recordConditions, cellConditions, loadConditions, loaded, entitiesGiven, load, sameLump, sameFile, recordedIn, programWith, programOf}
 use Rattle.definition.specs.Operations.{frameFunctions, enteredAt, enteredFunctions, allPresent, localsOf, sound}
 use Rattle.definition.specs.Calls.{Call}
+use Rattle.definition.specs.Unpacked.{AllReady}
 use Rattle.definition.specs.Log.{Log, Kind, entry, leaving, other}
 use Rattle.definition.specs.Trace.{StepProperty, StateProperty, Always}
 use Rattle.definition.specs.CheckLaws.{All, and-left, and-right, and-both, WhenAccepted, guarded}
@@ -293,12 +294,12 @@ pub record AsLoaded (file : List ℕ) (c : Config) (l : Log) : Type 0 where
   -- what the load records stays
   pub recorded : c .state .file ≡ fileOf file
 
-pub never-13 : (s : Settings) (file : List ℕ) (n : ℤ) (cells saved entities : List ℕ) (c : Config) → load s file n cells saved entities ≡ accepted c → (calls : List Call)
+pub never-13 : (s : Settings) (file : List ℕ) (n : ℤ) (cells saved entities : List ℕ) (c : Config) → load s file n cells saved entities ≡ accepted c → (calls : List Call) → AllReady file calls
     → Always file AnyStep (AsLoaded file) c [] calls
-never-13 s file n cells saved entities c accepts calls =
+never-13 s file n cells saved entities c accepts calls ready =
     always file (λ c′ l. Consistent file c′) AnyStep (consistent-inductive file) (AsLoaded file)
     (λ c′ l k. record { passes = consistent-sound file c′ k; recorded = k .recorded })
-    c [] calls (subst (WhenAccepted (Consistent file)) accepts (loaded-consistent s file n cells saved entities))
+    c [] calls ready (subst (WhenAccepted (Consistent file)) accepts (loaded-consistent s file n cells saved entities))
 
 loaded-suffices : (s : Settings) (file : List ℕ) (n : ℤ) (cells saved entities : List ℕ) → WhenAccepted (Suffice file) (load s file n cells saved entities)
 unfolding load loaded entitiesFit contentsAt
@@ -324,11 +325,11 @@ number-inductive file n =
       leave-one = λ c l k h. (tt, k);
     }
 
-pub number-kept : (s : Settings) (file : List ℕ) (n : ℤ) (cells saved entities : List ℕ) (c : Config) → load s file n cells saved entities ≡ accepted c → (calls : List Call)
+pub number-kept : (s : Settings) (file : List ℕ) (n : ℤ) (cells saved entities : List ℕ) (c : Config) → load s file n cells saved entities ≡ accepted c → (calls : List Call) → AllReady file calls
     → Always file AnyStep (λ c′ l. pos (c′ .state .entityCount) ≡ n) c [] calls
-number-kept s file n cells saved entities c accepts calls =
+number-kept s file n cells saved entities c accepts calls ready =
     let same-number : StateProperty = λ c′ l. pos (c′ .state .entityCount) ≡ n in
-    always file same-number AnyStep (number-inductive file n) same-number (λ c′ l k. k) c [] calls (load-starts s file n cells saved entities c accepts .entity-count)
+    always file same-number AnyStep (number-inductive file n) same-number (λ c′ l k. k) c [] calls ready (load-starts s file n cells saved entities c accepts .entity-count)
 
 -- R-11: "settings given at load and held in the state"
 settings-inductive : (s : Settings) (file : List ℕ) → Inductive file (λ c l. c .state .settings ≡ s) AnyStep
@@ -343,16 +344,16 @@ settings-inductive s file =
       leave-one = λ c l k h. (tt, k);
     }
 
-pub settings-held : (s : Settings) (file : List ℕ) (n : ℤ) (cells saved entities : List ℕ) (c : Config) → load s file n cells saved entities ≡ accepted c → (calls : List Call)
+pub settings-held : (s : Settings) (file : List ℕ) (n : ℤ) (cells saved entities : List ℕ) (c : Config) → load s file n cells saved entities ≡ accepted c → (calls : List Call) → AllReady file calls
     → Always file AnyStep (λ c′ l. c′ .state .settings ≡ s) c [] calls
-settings-held s file n cells saved entities c accepts calls =
+settings-held s file n cells saved entities c accepts calls ready =
     let held : StateProperty = λ c′ l. c′ .state .settings ≡ s in
-    always file held AnyStep (settings-inductive s file) held (λ c′ l k. k) c [] calls (load-starts s file n cells saved entities c accepts .settings)
+    always file held AnyStep (settings-inductive s file) held (λ c′ l k. k) c [] calls ready (load-starts s file n cells saved entities c accepts .settings)
 
 -- so 13 refuses no call of a list in which every lending is of entity cells enough, nor of one without lendings
 pub never-13-lent : (s : Settings) (file : List ℕ) (n : ℤ) (cells saved entities : List ℕ) (c : Config) → load s file n cells saved entities ≡ accepted c
-    → (calls : List Call) → LendEnough (roomIn file c) calls
+    → (calls : List Call) → AllReady file calls → LendEnough (roomIn file c) calls
     → Always file AnyStep (λ c′ l. sound (programOf file) c′ ≡ true) c [] calls
-never-13-lent s file n cells saved entities c accepts calls lent =
+never-13-lent s file n cells saved entities c accepts calls ready lent =
     while-enough file AnyStep (AsLoaded file) (λ c′ l. sound (programOf file) c′ ≡ true) (λ c′ l k enough. k .passes enough)
-    c [] calls (load-suffices s file n cells saved entities c accepts) lent (never-13 s file n cells saved entities c accepts calls)
+    c [] calls ready (load-suffices s file n cells saved entities c accepts) lent (never-13 s file n cells saved entities c accepts calls ready)

@@ -1,8 +1,8 @@
 -- What check 13 asks of the entered functions and of the two depths stays so, in any program: from any state of which it holds, with the 31 frames that every
 -- context has, every completed statement, entry and leaving leads to one of which it holds too.
 use Prim.Native.Nat.{ℕ, suc, _+_, _-_, _≤_, _<_}
-use mathlib.Core.Path.{_≡_, _∙_, ap}
-use mathlib.Core.List.{List, _∷_}
+use mathlib.Core.Path.{_≡_, _∙_, ap, refl, sym}
+use mathlib.Core.List.{List, [], _∷_}
 use mathlib.Core.Bool.{true, not, _&&_}
 use native.Mathlib.Omega.{arith}
 use borrow.Author.Tests.{ltb-true, leb-true}
@@ -13,7 +13,7 @@ use Rattle.definition.specs.declared.StackFrame.{StackFrame}
 use Rattle.definition.specs.Checks.{guard}
 use Rattle.definition.specs.File.{negative}
 use Rattle.definition.specs.Statements.{Does, next, puts, calls, returns, refuses, handsOver}
-use Rattle.definition.specs.Machine.{Program, functionOf, Config, entitiesOf, zeroFrame, copied, successive, withCells, advanced}
+use Rattle.definition.specs.Machine.{Program, functionOf, State, Config, entitiesOf, zeroFrame, copied, successive, withCells, advanced}
 use Rattle.definition.specs.Machine.{entryConditions, entered, enter, leaveConditions, left, returnConditions, returned, stepAs, step}
 use Rattle.definition.specs.Operations.{enteredAt, enteredFunctions, allPresent, localsOf}
 use Rattle.definition.specs.CheckLaws.{All, and-left, and-right, guarded}
@@ -23,6 +23,29 @@ use Rattle.laws.specs.Sound.{StackConsistent, depth-bound, entered-more,
 -- of a state, that of a configuration
 abbrev pub Stacked : Program → Config → Type 0
 Stacked P c = StackConsistent P (c .state)
+
+-- programs with the same functions, whatever their statements are
+module _ (P Q : Program) (alike : Q .functions ≡ P .functions) where
+  pub present-alike : (fs : List ℕ) → allPresent Q fs ≡ allPresent P fs
+  unfolding allPresent
+  present-alike [] = refl
+  present-alike (f ∷ fs) = rw (present-alike fs, alike) refl
+
+  pub locals-alike : (fs : List ℕ) → localsOf Q fs ≡ localsOf P fs
+  unfolding localsOf
+  locals-alike [] = refl
+  locals-alike (f ∷ fs) = rw (locals-alike fs, alike) refl
+
+  pub stack-alike : (s : State) → StackConsistent P s → StackConsistent Q s
+  stack-alike s k =
+      record {
+        room = k .room;
+        fit = k .fit;
+        depth-most = k .depth-most;
+        all = present-alike (enteredFunctions s) ∙ k .all;
+        sum = k .sum ∙ sym (locals-alike (enteredFunctions s));
+        saved-most = k .saved-most;
+      }
 
 -- another position, and the like, is no part of it
 pub advanced-stack : (P : Program) (c : Config) (p : ℤ) (cells entities : List ℕ) → Stacked P c → Stacked P (advanced c p cells entities)

@@ -11,7 +11,8 @@ use lib.Dec.{eqb}
 use Rattle.definition.specs.declared.Statement.{Statement}
 use Rattle.definition.specs.declared.FunctionDef.{FunctionDef}
 use Rattle.definition.specs.Checks.{Conditions, _otherwise_, judge}
-use Rattle.definition.specs.File.{leastCells, Contents, contentsAt, fileOf, noFunction, isBuiltin, builtinOf}
+use Rattle.definition.specs.File.{leastCells, Contents, contentsAt, fileOf, unpackedStatements, withStatements, noFunction, isBuiltin, builtinOf}
+use Rattle.definition.specs.Machine.{withUnpacked}
 use Rattle.definition.specs.Floats.{roundingOf}
 use Rattle.definition.specs.Cells.{float, vector, string, entity, field, function, pointer, cellOf, Typing, cellAccess, vectorAccess, access, mustBeNatural, readAccess, fieldCellAccess, fieldAccess}
 use Rattle.definition.specs.Strings.{textAccess}
@@ -286,4 +287,14 @@ module _ (file : List ℕ) where
       record {
         enough = λ r lent h. recorded-only leastCells file r lent h .enough;
         same-numbers = λ p e cells. numbers-same e cells (doesAt (contentsAt (fileOf file) file) p e cells) (does-numbers (contentsAt (fileOf file) file) p e cells);
+      }
+
+  -- R-12: the second engine's, whatever its buffer holds
+  pub unpacked-keeps-numbers : (buffer : List ℕ) → KeepsNumbers (withUnpacked (programOf file) buffer)
+  unfolding programWith
+  unpacked-keeps-numbers buffer =
+      let k = withStatements (contentsAt (fileOf file) file) (unpackedStatements buffer (fileOf file .statements .count)) in
+      record {
+        enough = λ r lent h. recorded-only leastCells file r lent h .enough;
+        same-numbers = λ p e cells. numbers-same e cells (doesAt k p e cells) (does-numbers k p e cells);
       }

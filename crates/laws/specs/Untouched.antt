@@ -18,6 +18,7 @@ use Rattle.definition.specs.Machine.{Program, functionOf, Config, countOf, pres
 use Rattle.definition.specs.Machine.{entryConditions, entered, leaveConditions, left, returnConditions, returned}
 use Rattle.definition.specs.Load.{headerConditions, recordConditions, cellConditions, loadConditions, loaded, entitiesGiven, load, programOf}
 use Rattle.definition.specs.Calls.{Call}
+use Rattle.definition.specs.Unpacked.{AllReady}
 use Rattle.definition.specs.Log.{Log, Kind, entry, leaving, other}
 use Rattle.definition.specs.Trace.{StepProperty, Always}
 use Rattle.definition.specs.CheckLaws.{All, and-left, and-right, WhenAccepted, guarded}
@@ -234,10 +235,10 @@ since-load file cells (refused n) s k = tt
 since-load file cells (accepted c) s k = record { consistent = s; kept = k }
 
 -- of the cells lent to the load: their number, and those from the file's count on, stay
-pub untouched : (s : Settings) (file : List ℕ) (n : ℤ) (cells saved entities : List ℕ) (c : Config) → load s file n cells saved entities ≡ accepted c → (calls : List Call)
+pub untouched : (s : Settings) (file : List ℕ) (n : ℤ) (cells saved entities : List ℕ) (c : Config) → load s file n cells saved entities ≡ accepted c → (calls : List Call) → AllReady file calls
     → Always file (Touches file) (λ c′ l. Keeps (fileOf file .globals .count) cells (c′ .cells)) c [] calls
-untouched s file n cells saved entities c accepts calls =
+untouched s file n cells saved entities c accepts calls ready =
     always file (λ c′ l. SinceLoad file cells c′) (Touches file) (touches-inductive file cells) (λ c′ l. Keeps (fileOf file .globals .count) cells (c′ .cells))
     (λ c′ l k. k .kept)
-    c [] calls
+    c [] calls ready
     (subst (WhenAccepted (SinceLoad file cells)) accepts (since-load file cells (load s file n cells saved entities) (loaded-consistent s file n cells saved entities) (loaded-keeps s file n cells saved entities)))

@@ -136,8 +136,8 @@ module _ (seed n : ℕ) where
 
     -- "run to depth 0 with a permitted limit above n"
     pub always-ends : (limit : ℕ) → n < limit → limit ≤ s .limit → EndedAfter (n + 1) (run P (pos 0) (pos limit) inside)
-    unfolding runConditions entered loaded
+    unfolding runConditions entered loaded programWith
     always-ends limit above permitted =
-        let begins = run-exactly P (pos 0) (pos limit) inside .0 (sound-inside, (rw (le-leb 1 limit (omega arith), le-leb limit (s .limit) permitted) refl, (refl, tt))) in
+        let begins = run-exactly P (pos 0) (pos limit) inside .0 (sound-inside, (refl, (rw (le-leb 1 limit (omega arith), le-leb limit (s .limit) permitted) refl, (refl, tt)))) in
         let enough : limit ≡ suc (n + (limit - suc n)) = omega arith in
         rw (begins, enough) (ends-after n 0 (limit - suc n) (omega arith) inside running)

@@ -20,6 +20,7 @@ use Rattle.definition.specs.RecordLaws.{length-globals}
 use Rattle.definition.specs.Written.{paddedFile}
 use Rattle.functions.specs.Laws as functions
 use Rattle.laws.specs.Sound.{same-file}
+use Rattle.laws.specs.StackLaws.{present-alike, locals-alike}
 use Rattle.laws.specs.Thirteen.{Thirteen, thirteen-passes, thirteen-only, Recorded, recorded-passes, recorded-only}
 use Rattle.writing_laws.specs.Loads.{header-loads}
 use Rattle.padding_laws.specs.Cells.{Agree}
@@ -50,19 +51,6 @@ pub record Completed (file : List ℕ) (c d : Config) (s : Stepped) : Type 0 whe
   pub completes : s ≡ completed after
   pub results : Padded file c after
   pub added : drop (fileOf file .globals .count) (after .cells) ≡ drop (fileOf file .globals .count) (d .cells)
-
--- ---- programs with the same functions
-
-module _ (P Q : Program) (alike : Q .functions ≡ P .functions) where
-  present-alike : (fs : List ℕ) → allPresent Q fs ≡ allPresent P fs
-  unfolding allPresent
-  present-alike [] = refl
-  present-alike (f ∷ fs) = rw (present-alike fs, alike) refl
-
-  locals-alike : (fs : List ℕ) → localsOf Q fs ≡ localsOf P fs
-  unfolding localsOf
-  locals-alike [] = refl
-  locals-alike (f ∷ fs) = rw (locals-alike fs, alike) refl
 
 module _ (file : List ℕ) (short : length (paddedFile file) ≤ longestFile) where
   abbrev r : FileRecord

@@ -15,7 +15,7 @@ use Rattle.definition.specs.File.{negative, noFunction, readFunction}
 use Rattle.definition.specs.Statements.{refuses}
 use Rattle.definition.specs.RecordLaws.{length-records}
 use Rattle.functions.specs.Parts.{functionsIn}
-use Rattle.definition.specs.Machine.{Program, functionOf, Config, copied, argumentsOf, entryConditions, entered, enter}
+use Rattle.definition.specs.Machine.{Fetch, Program, functionOf, Config, copied, argumentsOf, entryConditions, entered, enter}
 use Rattle.definition.specs.CheckLaws.{judge-passed, and-right}
 use Rattle.definition.specs.LoadLaws.{InRange}
 use Rattle.progs.specs.declared.ExecutionContext.{ExecutionContext}
@@ -112,7 +112,9 @@ by-count P f x cells saved count e = ap (λ (n : ℕ). entering P f (numbered (x
 
 -- a program of functions alone
 abbrev pub functions-program : List FunctionDef → Program
-functions-program fs = record { functions = fs; fetching = λ p. []; does = λ p e cells. refuses 0; recorded = λ r n. false }
+functions-program fs =
+    let nowhere : Fetch = record { room = false; fetching = λ p. []; does = λ p e cells. refuses 0 } in
+    record { functions = fs; room = false; fetching = nowhere .fetching; does = nowhere .does; recorded = λ r n. false; unpacked = λ buffer. nowhere }
 
 module _ (part : List ℕ) where
   size : length (functionsIn part) ≡ length part / 36

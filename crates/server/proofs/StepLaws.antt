@@ -1,17 +1,21 @@
 -- From what a statement did to the step; a statement as a run of one; and what check 13 establishes, kept.
-use Prim.Native.Nat.{ℕ, zero, suc}
+use Prim.Native.Nat.{ℕ, zero, suc, _<_}
 use mathlib.Core.Path.{_≡_, refl, sym, _∙_, ap}
 use mathlib.Core.List.{List}
 use mathlib.Core.Bool.{Bool, true, false}
 use native.Mathlib.Omega.{arith}
 use lib.Dec.{eqb}
-use lib.IntN.{ℤ, pos, _+ℤ_}
+use lib.IntN.{ℤ, pos, negsuc, _+ℤ_}
+use lib.ListN.{length}
+use borrow.Author.Tests.{ltb-true}
 use Rattle.definition.specs.declared.StatementAnswer.the-variants as statement
 use Rattle.definition.specs.declared.RunAnswer.{RunAnswer}
 use Rattle.definition.specs.declared.RunAnswer.the-variants as run
 use Rattle.definition.specs.Checks.{judge, guard}
-use Rattle.definition.specs.File.{contentsOf}
-use Rattle.definition.specs.Statements.{Entities, Does, next, puts, calls, returns, refuses, handsOver, orRefused, fetchConditions, statementAt, execute, doesAt}
+use Rattle.definition.specs.declared.FileRecord.{FileRecord}
+use Rattle.definition.specs.File.{Contents, fileOf, contentsAt, contentsOf}
+use Rattle.definition.specs.CheckLaws.{judge-passed}
+use Rattle.definition.specs.Statements.{Entities, Does, next, puts, calls, returns, refuses, handsOver, orRefused, placeOf, fetchConditions, statementAt, execute, doesAt}
 use Rattle.definition.specs.Machine as machine
 use Rattle.definition.specs.Machine.{Program, Config, advanced, enter, returnConditions, returned, asStep, stepAs, step, completed, refusedStep, handedStep, oneMore, goOn, runAs, runFor}
 use Rattle.definition.specs.Operations as operations
@@ -23,7 +27,7 @@ use Rattle.execution.specs.declared.Executed.the-variants as does
 use Rattle.execution.specs.Execution.{Execution, executed, execution}
 use Rattle.progs.specs.declared.ExecutionContext.{ExecutionContext}
 use Rattle.progs.specs.Contexts.{config, Loaded, Within, AtStatement}
-use Rattle.progs.proofs.DoesLaws.{at-statement}
+use Rattle.functions.specs.Laws.{lump-fitting, count-statements}
 use Rattle.server.specs.declared.Stepped.{Stepped}
 use Rattle.server.specs.declared.Ran.{Ran}
 use Rattle.server.specs.Stepping.{statementAnswer, steppedOf, steppedAs, ranOf, CallAt}
@@ -72,25 +76,42 @@ stands P c d done cells entities e = by d (ap (λ (x : Execution). x .answer) e)
     by (refuses n) a k l = rw (a, k, l) (record { step-is = refl; cells-are = refl; entities-are = refl })
     by (handsOver h) a k l = rw (a, k, l) (record { step-is = refl; cells-are = refl; entities-are = refl })
 
+-- a statement that enters a function is one of the statements, whose number is below every bound of a lump
+pub call-in : (k : Contents) → length (k .statements) < 2147483648 → (p : ℤ) (e : Entities) (cells cells′ entities′ : List ℕ) (done : Executed)
+    → executed done cells′ entities′ ≡ execution (doesAt k p e cells) cells (e .cells) → CallAt done p
+unfolding doesAt executed execution fetchConditions
+call-in k few p e cells cells′ entities′ done q = by done (doesAt k p e cells) refl (ap (λ (z : Execution). z .answer) q)
+  where
+    called : (f : ℕ) → calls f ≡ doesAt k p e cells → judge (fetchConditions (k .statements) p) ≡ 0
+    called f is = go (judge (fetchConditions (k .statements) p)) is
+      where
+        go : (n : ℕ) → calls f ≡ orRefused n (execute k p (statementAt (k .statements) p) e cells) → n ≡ 0
+        go zero is = refl
+        go (suc n) is = let z : _≡_ {A = ℕ} 0 1 = cc in absurd (omega arith)
+
+    at : (p : ℤ) → placeOf (length (k .statements)) p < length (k .statements) → AtStatement p
+    at (pos i) h = record { is = refl; small = omega (arith, few) }
+    at (negsuc i) h = absurd (omega arith)
+
+    by : (answer : Executed) (d : Does) → d ≡ doesAt k p e cells → answer ≡ execution d cells (e .cells) .answer → CallAt answer p
+    by answer (calls f) is k′ = rw k′ (at p (ltb-true _ _ (judge-passed (fetchConditions (k .statements) p) (called f is) .0)))
+    by answer (next q new) is k′ = rw k′ tt
+    by answer (puts q new) is k′ = rw k′ tt
+    by answer (returns a) is k′ = rw k′ tt
+    by answer (refuses n) is k′ = rw k′ tt
+    by answer (handsOver v) is k′ = rw k′ tt
+
+-- the statements of a file, and as many of a buffer
+pub few-statements : (file : List ℕ) (r : FileRecord) → Loaded file r → r .statements .count < 2147483648
+few-statements file r h = lump-fitting 8 _ (r .statements) (h .lumps .statements) .count
+
 pub does-call-at : (file : List ℕ) (x : ExecutionContext) (e : Entities) (cells cells′ entities′ : List ℕ) (done : Executed) → Loaded file (x .file)
     → executed done cells′ entities′ ≡ execution (programOf file .does (x .pc) e cells) cells (e .cells) → CallAt done (x .pc)
-unfolding programWith doesAt executed execution
-does-call-at file x e cells cells′ entities′ done h q = by done (programOf file .does (x .pc) e cells) refl (ap (λ (z : Execution). z .answer) q)
-  where
-    called : (f : ℕ) → calls f ≡ programOf file .does (x .pc) e cells → judge (programOf file .fetching (x .pc)) ≡ 0
-    called f k = go (judge (fetchConditions (contentsOf file .statements) (x .pc))) k
-      where
-        go : (n : ℕ) → calls f ≡ orRefused n (execute (contentsOf file) (x .pc) (statementAt (contentsOf file .statements) (x .pc)) e cells) → n ≡ 0
-        go zero k = refl
-        go (suc n) k = let z : _≡_ {A = ℕ} 0 1 = cc in absurd (omega arith)
-
-    by : (answer : Executed) (d : Does) → d ≡ programOf file .does (x .pc) e cells → answer ≡ execution d cells (e .cells) .answer → CallAt answer (x .pc)
-    by answer (calls f) is k = rw k (at-statement file (x .file) h (x .pc) (called f is))
-    by answer (next p new) is k = rw k tt
-    by answer (puts p new) is k = rw k tt
-    by answer (returns a) is k = rw k tt
-    by answer (refuses n) is k = rw k tt
-    by answer (handsOver v) is k = rw k tt
+unfolding programWith
+does-call-at file x e cells cells′ entities′ done h q =
+    let size = count-statements (fileOf file) file in
+    let few : fileOf file .statements .count < 2147483648 = rw (h .same) at (few-statements file (x .file) h) in
+    call-in (contentsOf file) (omega (arith, size, few)) (x .pc) e cells cells′ entities′ done q
 
 pub call-at : (done : Executed) (f : ℕ) (p : ℤ) → done ≡ does.Calls f → CallAt done p → AtStatement p
 call-at done f p e h = rw e at h

@@ -1,30 +1,20 @@
 -- One turn of a run's loop, by what the statement at the position did.
-use Prim.Native.Nat.{ℕ, zero, suc, _<_, _≤_, _+_, _-_}
+use Prim.Native.Nat.{ℕ, _<_, _+_}
 use mathlib.Core.Path.{_≡_, refl, sym, _∙_, ap}
 use mathlib.Core.List.{List}
-use native.Mathlib.Omega.{arith}
-use lib.IntN.{ℤ, pos, _+ℤ_}
-use lib.ListN.{length}
+use lib.IntN.{ℤ}
 use Rattle.definition.specs.declared.Handover.{Handover}
 use Rattle.definition.specs.declared.RunAnswer.the-variants as run
-use Rattle.definition.specs.Checks.{judge, guard, decided}
-use Rattle.definition.specs.Statements.{placeOf}
-use Rattle.definition.specs.Machine.{Program, Config, entitiesOf, advanced, completed, refusedStep, handedStep, entryConditions, entered, enter, left, leaveConditions, returnConditions, returned, asStep, step, runFor}
-use Rattle.definition.specs.LoadLaws.{InRange}
+use Rattle.definition.specs.Machine.{Program, Config, entitiesOf, advanced, completed, step, runFor}
 use Rattle.execution.specs.declared.Executed.{Executed}
 use Rattle.execution.specs.declared.Executed.the-variants as does
 use Rattle.execution.specs.Execution.{executed, execution}
 use Rattle.progs.specs.declared.ExecutionContext.{ExecutionContext}
-use Rattle.progs.specs.declared.calls.Entry.{Entry}
-use Rattle.progs.specs.declared.calls.Leaving.{Leaving}
-use Rattle.progs.specs.Contexts.{config, bare, Within, AtStatement}
-use Rattle.progs.specs.Numbers.{enteredContext, leftContext, entryOf, entering, leavingOf, returning}
-use Rattle.progs.proofs.NumberLaws as entry
-use Rattle.progs.proofs.ReturnLaws as return
+use Rattle.progs.specs.Contexts.{config, Within}
 use Rattle.progs.proofs.StateLaws.{moved-within}
 use Rattle.server.specs.declared.Ran.{Ran}
-use Rattle.server.specs.Stepping.{ranAs, ranOf, Apart}
-use Rattle.server.proofs.RunLaws.{RunLeft, run-refused, run-handed, run-ended, run-again}
+use Rattle.server.specs.Stepping.{ranAs, ranOf}
+use Rattle.server.proofs.RunLaws.{RunLeft, run-refused, run-handed, run-again}
 use Rattle.server.proofs.StepLaws.{stepBy, keptBy, Stands, stands}
 
 -- ---- what check 13 establishes is kept
@@ -33,40 +23,23 @@ module _ (file : List ℕ) (x : ExecutionContext) (n m k : ℕ) (w : Within file
   pub next-within : (p : ℤ) → Within file (record { file = x .file; settings = x .settings; pc = p; «current_function» = x .«current_function»; depth = x .depth; saved = x .saved; «entity_count» = x .«entity_count»; frames = x .frames }) n m k
   next-within p = moved-within file n m k x _ w refl refl refl (w .depth) (w .held)
 
-  pub entered-within : (f : ℕ) (first back : ℤ) (locals : ℕ) → (x .depth < 31) × (x .saved + locals ≤ 2048) → Within file (enteredContext x f first locals back) n m k
-  entered-within f first back locals r = moved-within file n m k x _ w refl refl refl (omega (arith, r .0)) (r .1)
-
-  pub left-within : (locals : ℕ) → Within file (leftContext x locals) n m k
-  left-within locals = moved-within file n m k x _ w refl refl refl (omega (arith, w .depth)) (omega (arith, w .held))
-
--- ---- a conditional step that is accepted, and one that isn't
-
-accepts : (cs : _) (c : Config) → judge cs ≡ 0 → asStep (guard cs c) ≡ completed c
-unfolding guard
-accepts cs c z = rw z
-
-refuses-it : (cs : _) (c : Config) (n : ℕ) → n ≡ judge cs → (n ≡ 0 → ⊥) → asStep (guard cs c) ≡ refusedStep n
-unfolding guard
-refuses-it cs c zero e z = absurd (z refl)
-refuses-it cs c (suc n) e z = rw (← e)
-
 module _ (P : Program) (limit target : ℕ) (c₀ : Config) (x : ExecutionContext) (cells saved entities : List ℕ) (count : ℕ) (g : RunLeft P limit target c₀ (config x cells saved entities) count) (h : count < limit) (done : Executed) (cells′ entities′ : List ℕ) (e : executed done cells′ entities′ ≡ execution (P .does (x .pc) (entitiesOf (config x cells saved entities)) cells) cells entities) where
   abbrev here : Config
   here = config x cells saved entities
 
-  standing : Stands P here (P .does (x .pc) (entitiesOf here) cells) done cells′ entities′
+  pub standing : Stands P here (P .does (x .pc) (entitiesOf here) cells) done cells′ entities′
   standing = stands P here _ done cells′ entities′ e
 
   -- the step, where what was done is known
-  known : (d : Executed) → done ≡ d → stepBy P d cells′ entities′ here ≡ step P here
+  pub known : (d : Executed) → done ≡ d → stepBy P d cells′ entities′ here ≡ step P here
   unfolding step
   known d k = ap (λ (z : Executed). stepBy P z cells′ entities′ here) (sym k) ∙ standing .step-is
 
   -- what neither completes nor writes leaves the cells and the entity cells
-  same : (d : Executed) → done ≡ d → cells′ ≡ keptBy d cells′ cells
+  pub same : (d : Executed) → done ≡ d → cells′ ≡ keptBy d cells′ cells
   same d k = standing .cells-are ∙ ap (λ (z : Executed). keptBy z cells′ cells) k
 
-  same-fields : (d : Executed) → done ≡ d → entities′ ≡ keptBy d entities′ entities
+  pub same-fields : (d : Executed) → done ≡ d → entities′ ≡ keptBy d entities′ entities
   same-fields d k = standing .entities-are ∙ ap (λ (z : Executed). keptBy z entities′ entities) k
 
   pub turn-next : (p : ℤ) (y : ExecutionContext) → done ≡ does.Next p → config y cells′ saved entities′ ≡ advanced here p cells′ entities′ → RunLeft P limit target c₀ (config y cells′ saved entities′) (count + 1)
@@ -80,71 +53,3 @@ module _ (P : Program) (limit target : ℕ) (c₀ : Config) (x : ExecutionContex
 
   pub turn-handed : (v : Handover) (r : Ran) → done ≡ does.HandedOver v → r ≡ ranAs x (run.HandedOver v) count → ranOf r cells′ saved entities′ ≡ runFor P limit target c₀
   turn-handed v r d k = rw (k, same (does.HandedOver v) d, same-fields (does.HandedOver v) d) (run-handed P limit target c₀ here count g h v (sym (known (does.HandedOver v) d)))
-
-  -- ---- a Call
-
-  module _ (range : InRange (x .settings)) (f : ℕ) (d : done ≡ does.Calls f) (r : Entry) (cells″ saved″ : List ℕ) (o : entryOf r cells″ saved″ ≡ entering P f x cells′ saved) where
-    entering-here : entryOf r cells″ saved″ ≡ entering P f x cells saved
-    entering-here = o ∙ ap (λ (cs : List ℕ). entering P f x cs saved) (same (does.Calls f) d)
-
-    pub turn-entry-refused : (r .refusal ≡ 0 → ⊥) → (q : Ran) → q ≡ ranAs x (run.Refused (r .refusal)) count → ranOf q cells″ saved″ entities′ ≡ runFor P limit target c₀
-    unfolding entryConditions
-    turn-entry-refused z q k =
-        ap (λ (w : Ran). ranOf w cells″ saved″ entities′) k
-        ∙ ap (λ (es : List ℕ). ranOf (ranAs x (run.Refused (r .refusal)) count) cells″ saved″ es) (same-fields (does.Calls f) d)
-        ∙ ap (λ (c : Config). record { answer = run.Refused (r .refusal); count = count; config = c }) (entry.refused-config P f x cells saved r cells″ saved″ entering-here z entities)
-        ∙ run-refused P limit target c₀ here count g h (r .refusal)
-        (sym (known (does.Calls f) d) ∙ refuses-it (entryConditions P f here) (entered P f (x .pc +ℤ pos 1) here) (r .refusal) (entry.refusal-is P f x cells saved r cells″ saved″ entering-here) z)
-
-    module _ (z : r .refusal ≡ 0) where
-      pub turn-room : (x .depth < 31) × (x .saved + r .locals ≤ 2048)
-      turn-room = entry.entry-room P f x cells saved r cells″ saved″ entering-here z range
-
-      pub turn-enters : Apart target (x .depth) → AtStatement (x .pc) → (back : ℤ) → back ≡ pos (placeOf 0 (x .pc)) +ℤ pos 1
-          → RunLeft P limit target c₀ (config (enteredContext x f (r .first) (r .locals) back) cells″ saved″ entities′) (count + 1)
-      unfolding entryConditions
-      turn-enters t s back b =
-          let after-it : back ≡ x .pc +ℤ pos 1 = b ∙ ap (λ (p : ℤ). p +ℤ pos 1) (sym (s .is)) in
-          run-again P limit target c₀ here count g h _
-          (sym (known (does.Calls f) d)
-          ∙ accepts (entryConditions P f here) (entered P f (x .pc +ℤ pos 1) here) (entry.clear P f x cells saved r cells″ saved″ entering-here z)
-          ∙ ap (λ (p : ℤ). completed (entered P f p here)) (sym after-it)
-          ∙ ap completed (sym (entry.entered-config P f x cells saved r cells″ saved″ entering-here z entities back))
-          ∙ ap (λ (es : List ℕ). completed (config (enteredContext x f (r .first) (r .locals) back) cells″ saved″ es)) (sym (same-fields (does.Calls f) d)))
-          (λ k. let over = t (omega (arith, k)) in absurd (omega (arith, over, k, turn-room .0)))
-
-  -- ---- a Return
-
-  module _ (a : ℕ) (d : done ≡ does.Returns a) (r : Leaving) (cells″ : List ℕ) (o : leavingOf r cells″ ≡ returning P a x cells′ saved) where
-    returning-here : leavingOf r cells″ ≡ returning P a x cells saved
-    returning-here = o ∙ ap (λ (cs : List ℕ). returning P a x cs saved) (same (does.Returns a) d)
-
-    pub turn-return-refused : (r .refusal ≡ 0 → ⊥) → (q : Ran) → q ≡ ranAs x (run.Refused (r .refusal)) count → ranOf q cells″ saved entities′ ≡ runFor P limit target c₀
-    unfolding leaveConditions
-    turn-return-refused z q k =
-        ap (λ (w : Ran). ranOf w cells″ saved entities′) k
-        ∙ ap (λ (es : List ℕ). ranOf (ranAs x (run.Refused (r .refusal)) count) cells″ saved es) (same-fields (does.Returns a) d)
-        ∙ ap (λ (c : Config). record { answer = run.Refused (r .refusal); count = count; config = c }) (return.refused-config P a x cells saved r cells″ returning-here z entities)
-        ∙ run-refused P limit target c₀ here count g h (r .refusal)
-        (sym (known (does.Returns a) d) ∙ refuses-it (returnConditions P a here) (returned P a here) (r .refusal) (return.refusal-is P a x cells saved r cells″ returning-here) z)
-
-    module _ (z : r .refusal ≡ 0) where
-      abbrev there : Config
-      there = config (leftContext x (r .locals)) cells″ saved entities′
-
-      completes : step P here ≡ completed there
-      unfolding leaveConditions
-      completes =
-          sym (known (does.Returns a) d)
-          ∙ accepts (returnConditions P a here) (returned P a here) (return.clear P a x cells saved r cells″ returning-here z)
-          ∙ ap completed (sym (return.returned-config P a x cells saved r cells″ returning-here z entities))
-          ∙ ap (λ (es : List ℕ). completed (config (leftContext x (r .locals)) cells″ saved es)) (sym (same-fields (does.Returns a) d))
-
-      pub turn-ended : x .depth - 1 ≡ target → (q : Ran) → q ≡ ranAs (leftContext x (r .locals)) run.Ended (count + 1) → ranOf q cells″ saved entities′ ≡ runFor P limit target c₀
-      turn-ended t q k = ap (λ (w : Ran). ranOf w cells″ saved entities′) k ∙ run-ended P limit target c₀ here count g h there completes t
-
-      pub turn-again : (x .depth - 1 ≡ target → ⊥) → RunLeft P limit target c₀ there (count + 1)
-      turn-again t = run-again P limit target c₀ here count g h there completes t
-
-      pub turn-left : (0 < x .depth) × (r .locals ≤ x .saved)
-      turn-left = return.return-room P a x cells saved r cells″ returning-here z

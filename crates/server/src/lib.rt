@@ -7,16 +7,13 @@ ghost use Rattle.definition.specs.Operations.{statement, run};
 ghost use Rattle.definition.specs.Answers.{statementOutcome};
 ghost use Rattle.progs.specs.Contexts.{config, Within};
 ghost use Rattle.server.specs.Stepping.{steppedOf, steppedAs, ranAs, ranOf, notRun, Apart};
-use definition::FUNCTION_SIZE;
+use definition::Answer;
 use definition::GREATEST_DEPTH;
 use definition::RunAnswer;
-use definition::StackFrame;
 use definition::StatementAnswer;
 use execution::Executed;
 use functions::fetch;
-use functions::parts;
 use progs::ExecutionContext;
-use progs::calls;
 
 // No context has this depth.
 const NO_DEPTH: usize = GREATEST_DEPTH + 1;
@@ -44,8 +41,7 @@ fn ends(context: ExecutionContext, answer: RunAnswer, count: u32) -> Ran
     }
 }
 
-// At most `limit` statements, until the depth is the target. The context stays where it is: an entry and a Return go by numbers, and the frames are
-// written in place.
+// At most `limit` statements, until the depth is the target. An entry and a Return are the context's own methods, which take it and give it back.
 fn run_for(
     context: ExecutionContext,
     file: &[u8],
@@ -60,8 +56,6 @@ fn run_for(
     ensures { λ r. ⌜ ranOf r (now (cells .exit)) (now (store .exit)) (now (entities .exit)) ≡ runFor (programOf (now (file .entry))) limit target (config context (now (cells .entry)) (now (store .entry)) (now (entities .entry))) ⌝ }
 {
     let recorded = context.file;
-    let functions = parts::part(file, FUNCTION_SIZE, recorded.functions);
-    let cell_count = recorded.globals.count;
     let number = context.entity_count;
     let mut now = context;
     let mut count: u32 = 0;
@@ -74,56 +68,21 @@ fn run_for(
             }
             Executed::Calls(f) => {
                 let back = fetch::after(fetch::place_of(0, now.pc));
-                let entry = calls::enter_cells(
-                    functions,
-                    f,
-                    now.settings,
-                    now.depth,
-                    now.saved,
-                    cell_count,
-                    cells,
-                    store,
-                );
-                if entry.refusal != 0 {
-                    return ends(now, RunAnswer::Refused(entry.refusal), count);
+                let entered = now.enter_function(file, f, back, cells, store);
+                let answer = entered.answer;
+                if let Answer::Refused(n) = answer {
+                    return ends(now, RunAnswer::Refused(n), count);
                 }
-                let at = now.depth;
-                let frame = StackFrame {
-                    instr_id: back,
-                    func_id: now.current_function,
-                };
-                now.frames[at] = frame;
-                now.depth = at + 1;
-                now.saved = now.saved + entry.locals;
-                now.current_function = f;
-                now.pc = entry.first;
+                now = entered.context;
             }
             Executed::Returns(a) => {
-                let leaving = calls::return_cells(
-                    functions,
-                    now.current_function,
-                    now.depth,
-                    now.saved,
-                    cell_count,
-                    a,
-                    cells,
-                    store,
-                );
-                if leaving.refusal != 0 {
-                    return ends(now, RunAnswer::Refused(leaving.refusal), count);
+                let left = now.op_return(file, a, cells, store);
+                let answer = left.answer;
+                if let Answer::Refused(n) = answer {
+                    return ends(now, RunAnswer::Refused(n), count);
                 }
-                let at = now.depth - 1;
-                let top = now.frames[at];
-                let none = StackFrame {
-                    instr_id: 0,
-                    func_id: 0,
-                };
-                now.frames[at] = none;
-                now.depth = at;
-                now.saved = now.saved - leaving.locals;
-                now.current_function = top.func_id;
-                now.pc = top.instr_id;
-                if at == target {
+                now = left.context;
+                if now.depth == target {
                     return ends(now, RunAnswer::Ended, completed);
                 }
             }
@@ -169,8 +128,7 @@ fn as_statement(ran: Ran) -> Stepped
     }
 }
 
-// The statement at the position is one turn of the run's loop, to a target that no depth has: the loop has what executes statements inlined, which a
-// compiler does for one caller.
+// The statement at the position is one turn of the run's loop, to a target that no depth has.
 pub fn statement(
     context: ExecutionContext,
     file: &[u8],

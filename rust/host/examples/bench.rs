@@ -3,7 +3,8 @@
 //!
 //! | what | does | prints |
 //! |---|---|---|
-//! | `run` | a call of function 1, once | the line of the show program |
+//! | `run` | a call of function 1, once, by the second engine | the line of the show program |
+//! | `first_run` | the same by the first engine | the same |
 //! | `call` | a call of function 1; the builtin that it calls answers 1.0 | all statements |
 //! | `read` | a raw read of cell 28 | the sum |
 //! | `write` | a raw write of cell 28 | what stands there |
@@ -13,6 +14,7 @@
 //! | `image` | the program file written to a buffer, the same each time | the sum of the lengths |
 //! | `make` | the load file of [`SEED`] with 1,000 drawn statements written to a buffer, the same each time | the sum of the lengths |
 //! | `load` | a load without entities, and a call of function 1 | all statements |
+//! | `unpack` | the statements unpacked again | how many times |
 
 use std::env;
 use std::error::Error;
@@ -21,7 +23,7 @@ use std::hint::black_box;
 use std::process::ExitCode;
 
 use host::{
-    write_load_file, Machine, Program, Settings, CELLS, GREATEST_LIMIT, IMAGE, LOAD_FILE,
+    write_load_file, Engine, Machine, Program, Settings, CELLS, GREATEST_LIMIT, IMAGE, LOAD_FILE,
     SAVED_STORE,
 };
 
@@ -79,6 +81,10 @@ fn measured(what: &str, machine: &mut Machine, times: u32) -> Result<String, Box
     let mut total: u64 = 0;
     match what {
         "run" => return run(machine),
+        "first_run" => {
+            machine.set_engine(Engine::First);
+            return run(machine);
+        }
         "call" => {
             for _ in 0..times {
                 total += u64::from(call(machine)?);
@@ -111,6 +117,12 @@ fn measured(what: &str, machine: &mut Machine, times: u32) -> Result<String, Box
             for _ in 0..times {
                 machine.load()?;
                 total += u64::from(call(machine)?);
+            }
+        }
+        "unpack" => {
+            for _ in 0..times {
+                black_box(&mut *machine).unpack()?;
+                total += 1;
             }
         }
         "field" | "set_field" | "named_field" => {

@@ -9,7 +9,8 @@ use std::num::{IntErrorKind, ParseIntError};
 use std::process::ExitCode;
 
 use host::{
-    write_load_file, Handover, LoadError, Machine, Outcome, Refusal, Run, RunOutcome, Settings,
+    write_load_file, Engine, Handover, LoadError, Machine, Outcome, Refusal, Run, RunOutcome,
+    Settings,
 };
 
 /// The cells and the saved store that are lent before any `lend`, and no entity cells.
@@ -52,7 +53,7 @@ enum Call {
     Load(Settings),
     Enter(i64),
     Statement,
-    Run(i64, i64),
+    Run(Engine, i64, i64),
     Carry,
     Abandon(i64),
     Read(i64),
@@ -190,8 +191,8 @@ fn operate(machine: &mut Machine, last: &mut Run, call: Call) -> Result<String, 
             Outcome::Refused(refusal) => refused(refusal),
             Outcome::HandedOver(handover) => handed_over(handover),
         },
-        Call::Run(target, limit) => {
-            let run = machine.run(target, limit);
+        Call::Run(engine, target, limit) => {
+            let run = run_by(engine, machine, target, limit);
             *last = run;
             let word = match run.outcome {
                 RunOutcome::Ended => "ended 0".to_string(),
@@ -202,6 +203,16 @@ fn operate(machine: &mut Machine, last: &mut Run, call: Call) -> Result<String, 
             format!("{word} {}", run.count)
         }
     })
+}
+
+/// A run of one of the engines. The second's statements are unpacked just before, into zeros; where that is refused, the zeros stay, and the
+/// run is refused as well.
+fn run_by(engine: Engine, machine: &mut Machine, target: i64, limit: i64) -> Run {
+    if engine == Engine::Second {
+        machine.unpack().ok();
+    }
+    machine.set_engine(engine);
+    machine.run(target, limit)
 }
 
 /// What is written into a fresh buffer: its length, and the digest of the whole buffer.
@@ -271,7 +282,8 @@ fn parse_call(words: &[&str]) -> Option<Call> {
         }),
         ["enter", function] => Call::Enter(number(function)?),
         ["statement"] => Call::Statement,
-        ["run", target, limit] => Call::Run(number(target)?, number(limit)?),
+        ["run", target, limit] => Call::Run(Engine::First, number(target)?, number(limit)?),
+        ["run2", target, limit] => Call::Run(Engine::Second, number(target)?, number(limit)?),
         ["carry"] => Call::Carry,
         ["abandon", depth] => Call::Abandon(number(depth)?),
         ["read", address] => Call::Read(number(address)?),

@@ -211,6 +211,12 @@ impl<'a> Caller<'a> {
 /// fn builtin(machine: &mut host::Caller<'_>) { machine.run(0, 10); }
 /// ```
 /// ```compile_fail
+/// fn builtin(machine: &mut host::Caller<'_>) { machine.unpack().ok(); }
+/// ```
+/// ```compile_fail
+/// fn builtin(machine: &mut host::Caller<'_>) { machine.set_engine(host::Engine::First); }
+/// ```
+/// ```compile_fail
 /// fn builtins_of_two(one: &mut host::Machine, other: &mut host::Machine) {
 ///     let _ = one.call(1, 10, |_, a| {
 ///         let _ = other.call(1, 10, |_, b| Ok::<(), ()>(std::mem::swap(a, b)));

@@ -9,6 +9,9 @@
 //! [`Machine::field`] and [`Machine::field_mut`] read and set the fields of entities, by name and type. What a run answers,
 //! [`Run`], prints as a sentence for a display. [`load_file`] makes heavy files for benches.
 //!
+//! A run goes by the second [`Engine`], from statements that the machine unpacks at a load and again where the program's bytes were changed; the
+//! first can be asked for, and gives the same.
+//!
 //! What the library promises is proved. What this crate does around it is not: it is Rust, tested. A load checks what
 //! both stand on: that the library is the crate's own, and the processor's floating-point mode ([`LoadError`]).
 //!
@@ -47,6 +50,7 @@ pub mod assemble;
 mod call;
 mod caller;
 mod context;
+mod engine;
 mod field;
 mod float_mode;
 mod layout;
@@ -62,6 +66,7 @@ mod settings;
 pub use call::{CallError, Cause};
 pub use caller::Caller;
 pub use context::{Context, FileRecord, HeldSettings, Lump, StackFrame, FRAMES};
+pub use engine::Engine;
 pub use field::{Field, FieldError, FieldMut};
 pub use float_mode::{check_float_mode, FloatModeError};
 pub use layout::LayoutError;

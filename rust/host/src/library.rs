@@ -140,12 +140,14 @@ extern "C" {
     fn host_enter(out: *mut Reply, context: Context, file: *const u8, file_len: usize, function: i64, cells: *mut u32, cells_len: usize, saved: *mut u32, saved_len: usize, entities: *const u32, entities_len: usize) -> *mut Reply;
     fn host_statement(out: *mut Reply, context: Context, file: *const u8, file_len: usize, cells: *mut u32, cells_len: usize, saved: *mut u32, saved_len: usize, entities: *mut u32, entities_len: usize) -> *mut Reply;
     fn host_run(out: *mut Reply, context: Context, file: *const u8, file_len: usize, target: i64, limit: i64, cells: *mut u32, cells_len: usize, saved: *mut u32, saved_len: usize, entities: *mut u32, entities_len: usize) -> *mut Reply;
+    fn host_run_unpacked(out: *mut Reply, context: Context, file: *const u8, file_len: usize, buffer: *const u16, buffer_len: usize, target: i64, limit: i64, cells: *mut u32, cells_len: usize, saved: *mut u32, saved_len: usize, entities: *mut u32, entities_len: usize) -> *mut Reply;
     fn host_carry_on(out: *mut Reply, context: Context, file: *const u8, file_len: usize, cells: *const u32, cells_len: usize, saved: *const u32, saved_len: usize, entities: *const u32, entities_len: usize) -> *mut Reply;
     fn host_abandon(out: *mut Reply, context: Context, file: *const u8, file_len: usize, target: i64, cells: *mut u32, cells_len: usize, saved: *const u32, saved_len: usize, entities: *const u32, entities_len: usize) -> *mut Reply;
     fn host_read(out: *mut Reply, context: Context, file: *const u8, file_len: usize, address: i64, cells: *const u32, cells_len: usize, saved: *const u32, saved_len: usize, entities: *const u32, entities_len: usize) -> *mut Reply;
     fn host_write(out: *mut Reply, context: Context, file: *const u8, file_len: usize, address: i64, value: u32, cells: *mut u32, cells_len: usize, saved: *const u32, saved_len: usize, entities: *const u32, entities_len: usize) -> *mut Reply;
     fn host_write_all(out: *mut Reply, context: Context, file: *const u8, file_len: usize, numbers: *const i64, numbers_len: usize, cells: *mut u32, cells_len: usize, saved: *const u32, saved_len: usize, entities: *const u32, entities_len: usize) -> *mut Reply;
     fn host_write_file(out: *mut Reply, context: Context, file: *const u8, file_len: usize, cells: *const u32, cells_len: usize, saved: *const u32, saved_len: usize, entities: *const u32, entities_len: usize, output: *mut u8, output_len: usize) -> *mut Reply;
+    fn host_unpack(out: *mut Reply, context: Context, file: *const u8, file_len: usize, buffer: *mut u16, buffer_len: usize, cells: *const u32, cells_len: usize, saved: *const u32, saved_len: usize, entities: *const u32, entities_len: usize) -> *mut Reply;
     fn host_sentence(word: u32, detail: u32, count: u32, position: i64, function: usize, display: *mut u8, display_len: usize) -> WriteReply;
     fn host_make_file(seed: u32, n: i64, output: *mut u8, output_len: usize) -> WriteReply;
     fn host_read_header(file: *const u8, file_len: usize) -> Found<FileRecord>;
@@ -287,6 +289,41 @@ pub fn run(
             context,
             file.as_ptr(),
             file.len(),
+            target,
+            limit,
+            cells.as_mut_ptr(),
+            cells.len(),
+            saved.as_mut_ptr(),
+            saved.len(),
+            entities.as_mut_ptr(),
+            entities.len(),
+        );
+    }
+}
+
+/// A run of the second engine, from the buffer.
+#[allow(clippy::too_many_arguments)]
+pub fn run_unpacked(
+    reply: &mut Reply,
+    file: &[u8],
+    buffer: &[u16],
+    target: i64,
+    limit: i64,
+    cells: &mut [u32],
+    saved: &mut [u32],
+    entities: &mut [u32],
+) {
+    assert_layout();
+    let context = reply.context;
+    // SAFETY: see the module's text.
+    unsafe {
+        host_run_unpacked(
+            reply,
+            context,
+            file.as_ptr(),
+            file.len(),
+            buffer.as_ptr(),
+            buffer.len(),
             target,
             limit,
             cells.as_mut_ptr(),
@@ -466,6 +503,37 @@ pub fn write_file(
             entities.len(),
             output.as_mut_ptr(),
             output.len(),
+        );
+        reply.assume_init_ref().answer
+    }
+}
+
+/// The context after it is the one before it, and isn't given back.
+pub fn unpack(
+    context: &Context,
+    file: &[u8],
+    buffer: &mut [u16],
+    cells: &[u32],
+    saved: &[u32],
+    entities: &[u32],
+) -> Answer {
+    assert_layout();
+    let mut reply = MaybeUninit::<Reply>::uninit();
+    // SAFETY: see the module's text. The function writes the whole answer.
+    unsafe {
+        host_unpack(
+            reply.as_mut_ptr(),
+            *context,
+            file.as_ptr(),
+            file.len(),
+            buffer.as_mut_ptr(),
+            buffer.len(),
+            cells.as_ptr(),
+            cells.len(),
+            saved.as_ptr(),
+            saved.len(),
+            entities.as_ptr(),
+            entities.len(),
         );
         reply.assume_init_ref().answer
     }

@@ -1,6 +1,7 @@
 //! The machine: lent buffers, the context, and the operations.
 
 use crate::context::{Context, StackFrame};
+use crate::engine::{Engine, Unpacked};
 use crate::float_mode::check_float_mode;
 use crate::library::{self, Answer, Reply};
 use crate::refusal::{LoadError, Refusal};
@@ -74,6 +75,8 @@ pub struct Run {
 /// A program's bytes, the cells, the saved store and the entity cells that are lent to the library, and the context
 /// between calls.
 ///
+/// The statements are unpacked at a load, into a buffer of the machine's own, from which runs go ([`Engine`]).
+///
 /// Before a load is accepted the context is of zeros, and every operation on it is refused 13.
 ///
 /// ```
@@ -94,6 +97,8 @@ pub struct Machine {
     cells: Vec<u32>,
     saved: Vec<u32>,
     entities: Vec<u32>,
+    unpacked: Unpacked,
+    engine: Engine,
     /// The context, with the answer to the operation that it comes from.
     reply: Reply,
 }
@@ -132,6 +137,8 @@ impl Machine {
             cells,
             saved,
             entities,
+            unpacked: Unpacked::default(),
+            engine: Engine::default(),
             reply: Reply::default(),
         }
     }
@@ -143,7 +150,7 @@ impl Machine {
         self.load_with(Settings::default())
     }
 
-    /// Checks the file, fills the cells with the file's own, and starts at the beginning.
+    /// Checks the file, fills the cells with the file's own, unpacks the statements, and starts at the beginning.
     ///
     /// Cells past the file's count stay as they are, and so do the saved store and all entity cells. A load that isn't
     /// accepted changes nothing: what an earlier one made stands. Settings out of range are refused 36, before the file is
@@ -163,7 +170,7 @@ impl Machine {
         );
         accepted(reply.answer).map_err(LoadError::Refused)?;
         self.reply = reply;
-        Ok(())
+        self.unpack().map_err(LoadError::Refused)
     }
 
     /// Enters a function by its number, to go back to the present position at its return.
@@ -206,16 +213,21 @@ impl Machine {
     /// After a hand-over the host carries the statement out and calls [`Machine::carry_on`]; [`Machine::call`] does
     /// both. After a refusal, or where the limit is spent, the functions that were entered still are:
     /// [`Machine::abandon`] leaves them.
+    ///
+    /// It is the second engine's run, unless [`Machine::set_engine`] asked for the first. The answer is the same.
     pub fn run(&mut self, target: i64, limit: i64) -> Run {
-        library::run(
-            &mut self.reply,
-            &self.program,
-            target,
-            limit,
-            &mut self.cells,
-            &mut self.saved,
-            &mut self.entities,
-        );
+        match self.engine {
+            Engine::First => library::run(
+                &mut self.reply,
+                &self.program,
+                target,
+                limit,
+                &mut self.cells,
+                &mut self.saved,
+                &mut self.entities,
+            ),
+            Engine::Second => self.run_unpacked(target, limit),
+        }
         let Answer {
             word,
             detail,
@@ -234,6 +246,90 @@ impl Machine {
             position: self.position(),
             function: self.function(),
         }
+    }
+
+    /// A run of the second engine, from what is unpacked of the program's bytes as they are. Where the unpacking is refused, so is
+    /// the run: both are for check 13.
+    fn run_unpacked(&mut self, target: i64, limit: i64) {
+        if !self.unpacked.is_current() {
+            self.unpack().ok();
+        }
+        library::run_unpacked(
+            &mut self.reply,
+            &self.program,
+            self.unpacked.numbers(),
+            target,
+            limit,
+            &mut self.cells,
+            &mut self.saved,
+            &mut self.entities,
+        );
+    }
+
+    /// Unpacks the program's statements for the second engine.
+    ///
+    /// A load does, and so does the first run after [`Machine::program_mut`]. A host that wants this time to be spent before the
+    /// run calls it itself. Refused 13 as every operation.
+    ///
+    /// ```
+    /// use host::assemble::{Assembly, Function};
+    /// use host::{Machine, RunOutcome, CELLS, SAVED_STORE};
+    ///
+    /// // Function 1 returns cell 28.
+    /// let program = Assembly {
+    ///     statements: vec![[43, 28, 0, 0]],
+    ///     functions: vec![Function::default(); 2],
+    ///     cells: vec![(28, 7), (29, 8)],
+    ///     ..Assembly::default()
+    /// };
+    /// let mut machine = Machine::new(program.bytes(), vec![0; CELLS], vec![0; SAVED_STORE]);
+    /// machine.load()?;
+    /// // The operand of the Return becomes 29. A run unpacks again by itself; here it finds that done.
+    /// let place = machine.context().file.statements.offset + 2;
+    /// machine.program_mut()[place] = 29;
+    /// machine.unpack()?;
+    /// machine.enter(1)?;
+    /// assert_eq!(machine.run(0, 10).outcome, RunOutcome::Ended);
+    /// assert_eq!(machine.read(1)?, 8);
+    /// # Ok::<(), Box<dyn std::error::Error>>(())
+    /// ```
+    pub fn unpack(&mut self) -> Result<(), Refusal> {
+        let context = &self.reply.context;
+        self.unpacked
+            .unpack(context.file.statements.count, &self.program, |buffer| {
+                accepted(library::unpack(
+                    context,
+                    &self.program,
+                    buffer,
+                    &self.cells,
+                    &self.saved,
+                    &self.entities,
+                ))
+            })
+    }
+
+    /// The engine that runs go by.
+    pub fn engine(&self) -> Engine {
+        self.engine
+    }
+
+    /// Asks for an engine. It may be changed between any two operations: what one left, the other goes on with.
+    ///
+    /// ```
+    /// use host::{load_file, Engine, Machine, CELLS, SAVED_STORE};
+    ///
+    /// let mut machine = Machine::new(load_file(1, 1_000)?, vec![0; CELLS], vec![0; SAVED_STORE]);
+    /// machine.load()?;
+    /// machine.enter(1)?;
+    /// let mut other = machine.clone();
+    /// assert_eq!(machine.engine(), Engine::Second);
+    /// other.set_engine(Engine::First);
+    /// assert_eq!(machine.run(0, 2_000), other.run(0, 2_000));
+    /// assert_eq!((machine.context(), machine.cells()), (other.context(), other.cells()));
+    /// # Ok::<(), Box<dyn std::error::Error>>(())
+    /// ```
+    pub fn set_engine(&mut self, engine: Engine) {
+        self.engine = engine;
     }
 
     /// Goes past the statement that was handed over. Where the one at the position would not be handed over, with the
@@ -531,12 +627,14 @@ impl Machine {
 
     /// Puts another context in place. One that doesn't belong to the buffers is refused 13 by every operation.
     pub fn set_context(&mut self, context: Context) {
+        // What is unpacked stays right: a context that isn't refused 13 records the statements of the program's bytes.
         self.reply.context = context;
     }
 
     /// The program file's bytes, to be changed. Operations read them as they are; another length, other lumps or
-    /// other cells per entity than the load recorded are refused 13.
+    /// other cells per entity than the load recorded are refused 13. The next run unpacks the statements again.
     pub fn program_mut(&mut self) -> &mut Vec<u8> {
+        self.unpacked.set_outdated();
         &mut self.program
     }
 

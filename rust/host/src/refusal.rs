@@ -6,8 +6,8 @@ use std::fmt;
 use crate::float_mode::FloatModeError;
 use crate::layout::LayoutError;
 
-/// The sentences of the numbers 1 to 36.
-const SENTENCES: [&str; 36] = [
+/// The sentences of the numbers 1 to 37.
+const SENTENCES: [&str; 37] = [
     "the file is shorter than 60 bytes or longer than 1,048,576",
     "the version isn't 6",
     "the check number isn't the one that is set (5927, unless a venue sets another)",
@@ -44,6 +44,7 @@ const SENTENCES: [&str; 36] = [
     "the output buffer is shorter than the file to be written, or that is longer than 1,048,576 bytes",
     "the seed of a load file is 0, or its number of drawn statements isn't 1 to 1,000",
     "a setting is out of range: check number 0 to 65,535, greatest depth 1 to 31, greatest saved count 0 to 2,048, greatest run limit 1 to 99,999",
+    "the unpack buffer is shorter than four numbers a statement",
 ];
 
 /// Why an operation was refused: document 01's number, and its sentence.

@@ -4,7 +4,8 @@ mod common;
 
 use common::{random_machine, Chance};
 use host::{
-    load_file, Context, Machine, Outcome, Refusal, Run, RunOutcome, Settings, CELLS, SAVED_STORE,
+    load_file, Context, Engine, Machine, Outcome, Refusal, Run, RunOutcome, Settings, CELLS,
+    SAVED_STORE,
 };
 
 /// The state and the buffers, all that a run may change.
@@ -37,10 +38,16 @@ fn underway(chance: &mut Chance) -> Option<Machine> {
     Some(machine)
 }
 
-/// A run from the same state and buffers, and what it leaves.
+/// A run from the same state and buffers, and what it leaves: by both engines, which agree, so that what holds of one does of the other.
 fn run(machine: &Machine, target: i64, limit: i64) -> (Run, Machine) {
-    let mut machine = machine.clone();
-    (machine.run(target, limit), machine)
+    let mut first = machine.clone();
+    first.set_engine(Engine::First);
+    let mut second = machine.clone();
+    second.set_engine(Engine::Second);
+    let ran = first.run(target, limit);
+    assert_eq!(second.run(target, limit), ran);
+    assert_eq!(everything(&second), everything(&first));
+    (ran, second)
 }
 
 /// How often each outcome was met, so that a test that meets nothing doesn't pass.

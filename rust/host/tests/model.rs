@@ -1,13 +1,17 @@
 //! The cases of tests/model, answered by the Python model, run through this crate: whole files, single statements and
 //! lists of calls, with the states and the entity cells that the lists make up, and with the settings that loads are given.
-//! tests/model/README.md has the formats.
+//! What has runs is gone through with each engine. tests/model/README.md has the formats.
 
 use std::fs;
 use std::path::Path;
 
 use host::{
-    Context, Handover, Lump, Machine, Outcome, Refusal, RunOutcome, Settings, CELLS, SAVED_STORE,
+    Context, Engine, Handover, Lump, Machine, Outcome, Refusal, Run, RunOutcome, Settings, CELLS,
+    SAVED_STORE,
 };
+
+#[path = "common/lent.rs"]
+mod lent;
 
 fn cases(name: &str) -> String {
     let folder = Path::new(env!("CARGO_MANIFEST_DIR")).join("../../tests/model/cases");
@@ -67,7 +71,10 @@ fn statement(machine: &mut Machine) -> Answer {
 }
 
 fn run(machine: &mut Machine, target: i64, limit: i64) -> Answer {
-    let run = machine.run(target, limit);
+    answer_of(machine.run(target, limit))
+}
+
+fn answer_of(run: Run) -> Answer {
     match run.outcome {
         RunOutcome::Ended => ("ended", 0, run.count),
         RunOutcome::Spent => ("spent", 0, run.count),
@@ -86,12 +93,23 @@ fn state(machine: &Machine) -> String {
     )
 }
 
+/// What stands for a list's last run before there is one.
+const NO_RUN: Run = Run {
+    outcome: RunOutcome::Ended,
+    count: 0,
+    position: 0,
+    function: 0,
+};
+
+const ENGINES: [Engine; 2] = [Engine::First, Engine::Second];
+
 /// The show program's line, by this crate.
-fn shown(file: Vec<u8>) -> String {
+fn shown(engine: Engine, file: Vec<u8>) -> String {
     if file.len() > 65_536 {
         return "refused,1".to_string();
     }
     let mut machine = Machine::new(file, vec![0; CELLS], vec![0; SAVED_STORE]);
+    machine.set_engine(engine);
     if let Err(error) = machine.load() {
         return format!("refused,{}", error.refusal().unwrap().number());
     }
@@ -114,12 +132,10 @@ fn whole_files() {
         .filter(|line| !line.starts_with('#'))
     {
         let words: Vec<&str> = line.split(' ').collect();
-        assert_eq!(
-            shown(bytes_of(words[1], words[2])),
-            words[3],
-            "{}",
-            words[0]
-        );
+        for engine in ENGINES {
+            let found = shown(engine, bytes_of(words[1], words[2]));
+            assert_eq!(found, words[3], "{} {engine:?}", words[0]);
+        }
         count += 1;
     }
     assert_eq!(count, 432);
@@ -204,6 +220,9 @@ fn vector(line: &str, offset: usize, cells: usize, file: &[u8]) {
     let mut machine = given.machine(offset, cells, file);
     let before = machine.clone();
     let (word, detail, _) = statement(&mut machine);
+    for engine in ENGINES {
+        runs_one(engine, &before, &machine, (word, detail));
+    }
     let found = format!(
         "{word} {detail} {} {} {}",
         state(&machine),
@@ -211,6 +230,26 @@ fn vector(line: &str, offset: usize, cells: usize, file: &[u8]) {
         changes(before.entities(), machine.entities())
     );
     assert_eq!(found, expected, "{line}");
+}
+
+/// A run of one statement answers and leaves what the statement does, where a function is entered.
+fn runs_one(engine: Engine, before: &Machine, after: &Machine, answer: (&str, u32)) {
+    if before.depth() == 0 {
+        return;
+    }
+    let mut machine = before.clone();
+    machine.set_engine(engine);
+    let (word, detail, count) = run(&mut machine, 0, 1);
+    let completed = match word {
+        "ended" | "spent" => ("accepted", 0),
+        _ => (word, detail),
+    };
+    assert_eq!(completed, answer, "{engine:?}");
+    assert_eq!(count, u32::from(answer.0 == "accepted"));
+    assert_eq!(machine.context(), after.context());
+    assert_eq!(machine.cells(), after.cells());
+    assert_eq!(machine.saved(), after.saved());
+    assert_eq!(machine.entities(), after.entities());
 }
 
 #[test]
@@ -313,10 +352,10 @@ fn perform(machine: &mut Machine, name: &str, given: &[i64]) -> Answer {
         }
         ("enter", [function]) => alone(machine.enter(*function)),
         ("statement", []) => statement(machine),
-        ("run", [target, limit]) => run(machine, *target, *limit),
         ("carry", []) => alone(machine.carry_on()),
         ("abandon", [depth]) => alone(machine.abandon(*depth)),
         ("get", [address]) => accepted(machine.read(*address)),
+        ("pairs", numbers) => alone(machine.write_numbers(numbers)),
         ("put", [address, value]) => alone(machine.write(*address, *value as u32)),
         ("byte", [place, byte]) => {
             machine.program_mut()[*place as usize] = *byte as u8;
@@ -345,56 +384,154 @@ fn numbered(first: u32, count: u32) -> Vec<u32> {
     (0..count).map(|i| first.wrapping_add(i)).collect()
 }
 
-/// What a call answers and leaves, as the case files have it.
-fn answered(machine: &mut Machine, name: &str, given: &[i64]) -> String {
-    let mut output = None;
-    let (word, detail, completed) = match (name, given) {
-        ("image", [length]) => {
-            let output = output.insert(vec![238; *length as usize]);
-            accepted(machine.write_image(output).map(|written| written as u32))
-        }
-        _ => perform(machine, name, given),
-    };
-    let (state, digest) = (state(machine), digest(machine));
-    let written = output.map_or(String::new(), |output| {
-        format!(" {}", digest_of(output.into_iter()))
-    });
-    format!("{word} {detail} {completed} {state} {digest}{written}")
+/// What a list is played on.
+struct Played {
+    machine: Machine,
+    /// The unpack buffer of unpacked.txt.
+    buffer: Vec<u16>,
+    last: Run,
 }
 
-/// Plays the lists of a case file, and gives how many calls they have.
-fn play(file: &str) -> u32 {
-    let mut machine = Machine::new(Vec::new(), Vec::new(), Vec::new());
+impl Played {
+    fn new(engine: Engine, mut machine: Machine) -> Played {
+        machine.set_engine(engine);
+        Played {
+            machine,
+            buffer: Vec::new(),
+            last: NO_RUN,
+        }
+    }
+
+    /// What a call answers, and the digest that stands last in its line, if it has one.
+    fn perform(&mut self, name: &str, given: &[i64]) -> (Answer, Option<String>) {
+        match (name, given) {
+            ("image", [length]) => written(*length, |output| self.machine.write_image(output)),
+            ("sentence", [length]) => written(*length, |display| self.last.write_sentence(display)),
+            ("buffer", [count, first]) => {
+                let numbers = numbered(*first as u32, *count as u32);
+                self.buffer = numbers.into_iter().map(|number| number as u16).collect();
+                (accepted(Ok(0)), None)
+            }
+            ("set", [place, number]) => {
+                self.buffer[*place as usize] = *number as u16;
+                (accepted(Ok(0)), None)
+            }
+            ("unpack", []) => {
+                let answer = lent::unpack(&mut self.machine, &mut self.buffer);
+                (answer, Some(self.buffer_digest()))
+            }
+            ("runs2", [target, limit]) => {
+                let answer = lent::run(&mut self.machine, &self.buffer, *target, *limit);
+                (answer, Some(self.buffer_digest()))
+            }
+            ("run" | "run2", [target, limit]) => (self.run(name, *target, *limit), None),
+            _ => (perform(&mut self.machine, name, given), None),
+        }
+    }
+
+    /// `run` is of the engine that is set, `run2` of the second.
+    fn run(&mut self, name: &str, target: i64, limit: i64) -> Answer {
+        let engine = self.machine.engine();
+        if name == "run2" {
+            self.machine.set_engine(Engine::Second);
+        }
+        self.last = self.machine.run(target, limit);
+        self.machine.set_engine(engine);
+        answer_of(self.last)
+    }
+
+    fn buffer_digest(&self) -> String {
+        digest_of(self.buffer.iter().flat_map(|number| number.to_le_bytes()))
+    }
+
+    /// What a call answers and leaves, as the case files have it.
+    fn answered(&mut self, name: &str, given: &[i64]) -> String {
+        let ((word, detail, completed), last) = self.perform(name, given);
+        let (state, digest) = (state(&self.machine), digest(&self.machine));
+        let last = last.map_or(String::new(), |last| format!(" {last}"));
+        format!("{word} {detail} {completed} {state} {digest}{last}")
+    }
+}
+
+/// What is written into a fresh buffer, and the digest of the whole buffer.
+fn written(
+    length: i64,
+    write: impl FnOnce(&mut [u8]) -> Result<usize, Refusal>,
+) -> (Answer, Option<String>) {
+    let mut output = vec![238; length as usize];
+    let answer = accepted(write(&mut output).map(|written| written as u32));
+    (answer, Some(digest_of(output.into_iter())))
+}
+
+/// Plays the lists of a case file, every `run` by an engine, and gives how many calls they have.
+fn play(file: &str, engine: Engine) -> u32 {
+    let mut played = Played::new(engine, Machine::new(Vec::new(), Vec::new(), Vec::new()));
     let mut count = 0;
     for line in cases(file).lines().filter(|line| !line.starts_with('#')) {
         if let Some(lent) = line.strip_prefix("new ") {
             let words: Vec<&str> = lent.split(' ').collect();
             let fresh = |first, count: &str| numbered(first, count.parse().unwrap());
-            machine = Machine::with_entities(
+            let machine = Machine::with_entities(
                 bytes_of(words[3], words[4]),
                 fresh(0xdead_0000, words[0]),
                 fresh(0xbeef_0000, words[1]),
                 fresh(0xcafe_0000, words[2]),
             );
+            played = Played::new(engine, machine);
             continue;
         }
         let (call, expected) = line.split_once(" = ").unwrap();
         let mut words = call.split(' ');
         let name = words.next().unwrap();
-        let given = numbers(&mut words, 5);
-        assert_eq!(answered(&mut machine, name, &given), expected, "{call}");
+        let given = numbers(&mut words, usize::MAX);
+        assert_eq!(played.answered(name, &given), expected, "{call} {engine:?}");
         count += 1;
     }
     count
 }
 
+/// By both engines: every list of calls that there is.
+fn play_by_both(file: &str, count: u32) {
+    for engine in ENGINES {
+        assert_eq!(play(file, engine), count, "{engine:?}");
+    }
+}
+
 #[test]
 fn lists_of_calls() {
-    assert_eq!(play("calls.txt"), 5_681);
+    play_by_both("calls.txt", 5_681);
 }
 
 /// Loads under settings, and what they allow.
 #[test]
 fn lists_with_settings() {
-    assert_eq!(play("settings.txt"), 4_454);
+    play_by_both("settings.txt", 4_454);
+}
+
+/// Written files, sentences and pairs, whose lists have runs too.
+#[test]
+fn lists_with_images() {
+    play_by_both("images.txt", 1_199);
+}
+
+#[test]
+fn lists_with_sentences() {
+    play_by_both("outcomes.txt", 1_074);
+}
+
+#[test]
+fn lists_with_pairs() {
+    play_by_both("pairs.txt", 1_416);
+}
+
+/// Lists that mix both engines.
+#[test]
+fn lists_of_both_engines() {
+    play_by_both("engines.txt", 2_532);
+}
+
+/// Buffers of every length and content, as a host in C may lend them.
+#[test]
+fn lists_with_an_unpack_buffer() {
+    play_by_both("unpacked.txt", 3_246);
 }

@@ -288,6 +288,6 @@ fn sentences() {
             assert_eq!(Refusal::new(number).sentence(), sentence);
         }
     }
-    assert_eq!(rows, 36);
-    assert_eq!(Refusal::new(0).sentence(), Refusal::new(37).sentence());
+    assert_eq!(rows, 37);
+    assert_eq!(Refusal::new(0).sentence(), Refusal::new(38).sentence());
 }

@@ -1,4 +1,4 @@
-use Rattle.server.proofs.HostLaws.{run-13, run-28-none, run-28-over, run-29, run-goes}
+use Rattle.server.proofs.HostLaws.{file-room, run-13, run-28-none, run-28-over, run-29, run-goes}
 use Rattle.progs.proofs.StateLaws.{passed}
 use Rattle.progs.specs.Contexts.{config}
 use Rattle.definition.specs.Operations.{sound}
@@ -35,13 +35,13 @@ returns c = run-13 _ _ _ _ _ _ _ _ (sym (c .before .before .check-state .ensures
 returns-2 : tie.Need-returns-2
 returns-2 c =
     ⊎-elim
-    (λ z. run-28-none _ _ _ _ _ _ _ (sound-here (c .before .before .before .before)) _ (most (c .before .before .before)) (z .taken) _ (c .not-run2 .ensures))
-    (λ z. run-28-over _ _ _ _ _ _ _ (sound-here (c .before .before .before .before)) _ (most (c .before .before .before)) (ltb-true _ _ (z .2 .taken)) _ (c .not-run2 .ensures))
+    (λ z. run-28-none _ _ _ _ _ _ _ (sound-here (c .before .before .before .before)) (file-room _) _ (most (c .before .before .before)) (z .taken) _ (c .not-run2 .ensures))
+    (λ z. run-28-over _ _ _ _ _ _ _ (sound-here (c .before .before .before .before)) (file-room _) _ (most (c .before .before .before)) (ltb-true _ _ (z .2 .taken)) _ (c .not-run2 .ensures))
     (c .before .if2 .came)
 
 returns-3 : tie.Need-returns-3
 returns-3 c =
-    run-29 _ _ _ _ _ _ _ (sound-here (c .before .before .before .before .before .before .before .before .before)) _ (most (c .before .before .before .before .before .before .before .before)) (c .before .before .before .before .before .before .if2 .left) (ltb-false _ _ (c .before .before .before .before .if3 .left)) _ (down (c .before .before .before)) (c .before .if4 .taken) _ (c .not-run3 .ensures)
+    run-29 _ _ _ _ _ _ _ (sound-here (c .before .before .before .before .before .before .before .before .before)) (file-room _) _ (most (c .before .before .before .before .before .before .before .before)) (c .before .before .before .before .before .before .if2 .left) (ltb-false _ _ (c .before .before .before .before .if3 .left)) _ (down (c .before .before .before)) (c .before .if4 .taken) _ (c .not-run3 .ensures)
 
 cast-run-for : tie.Need-cast-run-for
 cast-run-for c =
@@ -53,7 +53,7 @@ run-for-requires c κs = (passed _ _ _ _ _ (sound-here (c .before .before .befor
 
 returns-4 : tie.Need-returns-4
 returns-4 c =
-    run-goes _ _ _ _ _ _ _ (sound-here (c .before .before .before .before .before .before .before .before .before .before .before .before .before .before .before .before .before .before)) _ (most (c .before .before .before .before .before .before .before .before .before .before .before .before .before .before .before .before .before)) (c .before .before .before .before .before .before .before .before .before .before .before .before .before .before .before .if2 .left) (ltb-false _ _ (c .before .before .before .before .before .before .before .before .before .before .before .before .before .if3 .left)) _ (down (c .before .before .before .before .before .before .before .before .before .before .before .before)) (c .before .before .before .before .before .before .before .before .before .before .if4 .left) _ (c .before .before .before .before .before .before .run-for .ensures)
+    run-goes _ _ _ _ _ _ _ (sound-here (c .before .before .before .before .before .before .before .before .before .before .before .before .before .before .before .before .before .before)) (file-room _) _ (most (c .before .before .before .before .before .before .before .before .before .before .before .before .before .before .before .before .before)) (c .before .before .before .before .before .before .before .before .before .before .before .before .before .before .before .if2 .left) (ltb-false _ _ (c .before .before .before .before .before .before .before .before .before .before .before .before .before .if3 .left)) _ (down (c .before .before .before .before .before .before .before .before .before .before .before .before)) (c .before .before .before .before .before .before .before .before .before .before .if4 .left) _ (c .before .before .before .before .before .before .run-for .ensures)
 
 pub run-spec : {M : Type 1} → statement M
 run-spec =

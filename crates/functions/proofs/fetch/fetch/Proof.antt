@@ -5,8 +5,9 @@ use lib.ListN.{length}
 use mir.Facts.{toZ-ofZ}
 use borrow.Author.Needs.{needs}
 use Rattle.definition.specs.Statements.{placeOf}
+use Rattle.definition.specs.RecordLaws.{length-records}
 use Rattle.functions.specs.PartLaws.{record-ends}
-use Rattle.functions.proofs.Fetching.{none-there, bad-opcode, fetched-at}
+use Rattle.functions.proofs.Fetching.{read-at, none-there, bad-opcode, fetched-at}
 use Rattle.functions.proofs.fetch.fetch.Statement.{statement}
 use Rattle.functions.proofs.fetch.fetch.Tie as tie
 
@@ -14,7 +15,7 @@ place : (c : tie.After-place-of) → c .place-of .result ≡ placeOf (length (c 
 place c = rw (toZ-ofZ (c .before .before .fits .pc)) at (c .place-of .ensures)
 
 returns : tie.Need-returns
-returns c = none-there _ _ _ (place (c .before)) (c .if1 .taken)
+returns c = none-there _ _ (length-records _ _ _ _) _ _ (place (c .before)) (c .if1 .taken)
 
 ends : (c : tie.Else1) → 8 * c .before .place-of .result + 8 ≤ length (c .before .before .before .args .statements .now)
 ends c = record-ends 8 _ _ (omega arith) (c .if1 .left)
@@ -23,10 +24,10 @@ mul-read-statement : tie.Need-mul-read-statement
 mul-read-statement c = record { fits = omega (arith, ends c) }
 
 returns-2 : tie.Need-returns-2
-returns-2 c = fetched-at _ _ _ (place (c .before .before .before .before)) _ (c .before .before .before .if1 .left) (c .before .before .read-statement .ensures) (cc)
+returns-2 c = fetched-at _ _ (length-records _ _ _ _) _ _ (place (c .before .before .before .before)) _ (c .before .before .before .if1 .left) (read-at _ _ _ _ _ (c .before .before .before .if1 .left) (c .before .before .read-statement .ensures)) (cc)
 
 returns-3 : tie.Need-returns-3
-returns-3 c = bad-opcode _ _ _ (place (c .before .before .before .before)) _ (c .before .before .before .if1 .left) (c .before .before .read-statement .ensures) (cc)
+returns-3 c = bad-opcode _ _ (length-records _ _ _ _) _ _ (place (c .before .before .before .before)) _ (c .before .before .before .if1 .left) (read-at _ _ _ _ _ (c .before .before .before .if1 .left) (c .before .before .read-statement .ensures)) (cc)
 
 pub fetch-spec : {M : Type 1} → statement M
 fetch-spec =

@@ -3,8 +3,8 @@ use mathlib.Core.List.{[]}
 use lib.IntN.{pos}
 use mathlib.Core.Path.{refl}
 use borrow.Author.Needs.{needs}
-use Rattle.host.proofs.host_statement.Statement.{statement}
-use Rattle.host.proofs.host_statement.Tie as tie
+use Rattle.host_first.proofs.host_statement.Statement.{statement}
+use Rattle.host_first.proofs.host_statement.Tie as tie
 
 step-once-requires : tie.Need-step-once-requires
 step-once-requires c κs = search needs

@@ -5,8 +5,8 @@ use mir.Val.{SFits}
 use mir.Syntax.{w64}
 use mathlib.Core.Path.{refl}
 use borrow.Author.Needs.{needs}
-use Rattle.host.proofs.host_run.Statement.{statement}
-use Rattle.host.proofs.host_run.Tie as tie
+use Rattle.host_first.proofs.host_run.Statement.{statement}
+use Rattle.host_first.proofs.host_run.Tie as tie
 
 run-requires : tie.Need-run-requires
 run-requires c κs = search needs

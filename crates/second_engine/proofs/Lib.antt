@@ -1,0 +1,2 @@
+pub mod QuickLaws
+pub mod InPlace
