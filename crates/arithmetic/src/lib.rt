@@ -1,4 +1,6 @@
 // Float and vector arithmetic, comparisons of floats and vectors, and the rounding builtins. A function here stands for the Rust's functions that its comment lists.
+#![tactic(auto)]
+
 ghost use Rattle.std.specs.Prelude.{◌≡◌, ◌+◌, ◌-◌, ◌*◌, ◌≤◌, ◌<◌, length, get_or, set};
 ghost use Rattle.definition.specs.Cells.{float, cell_of, access};
 ghost use Rattle.definition.specs.Statements.{floats_effect, vectors_effect, vectors_to_float_effect, component, vector_result, rounding_effect};

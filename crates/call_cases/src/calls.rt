@@ -9,7 +9,7 @@ use progs::{Answered, ExecutionContext, load};
 use server::{Ran, Stepped};
 use std::num;
 
-#[derive(Drop)]
+#[derive(Clone, Copy)]
 pub struct Done {
     pub context: ExecutionContext,
     pub said: Said,

@@ -1,5 +1,7 @@
 // Performs the lists of calls on standard input on the machine, and prints for each call its answer, the state's numbers and a digest of the rest.
 // The lists, and what must be printed, come from tests/model by tools/cases.py; tests/model/README.md has the formats.
+#![tactic(auto)]
+
 ghost use Rattle.std.specs.Prelude.{◌<◌, length};
 
 use calls::Done;
@@ -12,7 +14,7 @@ mod calls;
 mod fields;
 
 // How far a list is, and how much of each buffer is lent in it.
-#[derive(Drop)]
+#[derive(Clone, Copy)]
 struct List {
     context: ExecutionContext,
     file: usize,

@@ -1,6 +1,8 @@
 // A list of calls in numbers, performed on the operations one after the other: what a host did can be kept and done again, and demand 3's claim over a
 // list of calls is a claim about this function. (Of lists that lend no other entity cells: that is between two such lists.) The numbers of pairs that a call
 // writes together stand in a list of their own.
+#![tactic(auto)]
+
 ghost use Rattle.std.specs.Prelude.{◌≡◌, true, ◌||◌, ◌+◌, ◌*◌, ◌<◌, ◌≤◌, length, ltb};
 ghost use Rattle.std.proofs.lemmas.List.Edits.{sets};
 ghost use Rattle.definition.specs.File.{records};
@@ -27,7 +29,7 @@ pub const OPCODE: u32 = 5;
 
 // The context after a call, and its answer in three numbers.
 #[repr(C)]
-#[derive(Drop)]
+#[derive(Clone, Copy)]
 pub struct Replied {
     pub context: ExecutionContext,
     pub word: u32,
@@ -35,14 +37,14 @@ pub struct Replied {
     pub count: u32,
 }
 
-#[derive(Drop)]
+#[derive(Clone, Copy)]
 pub enum ListAnswer {
     Performed,
     Malformed,
 }
 
 // The context after a list of calls.
-#[derive(Drop)]
+#[derive(Clone, Copy)]
 pub struct Listed {
     pub context: ExecutionContext,
     pub answer: ListAnswer,

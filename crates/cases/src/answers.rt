@@ -3,7 +3,7 @@ use crate::print;
 use definition::{Answer, Handover, ReadAnswer, RunAnswer, StatementAnswer};
 use progs::ExecutionContext;
 
-#[derive(Drop)]
+#[derive(Clone, Copy)]
 pub enum Said {
     Accepted(u32),
     Ended,

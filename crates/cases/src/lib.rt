@@ -1,5 +1,7 @@
 // Reading the lines of cases: words separated by one blank, numbers in decimal, bytes in hexadecimal.
 // What a text that isn't so gives is not stated.
+#![tactic(auto)]
+
 ghost use Rattle.std.specs.Prelude.{◌+◌, ◌*◌, ◌<◌, ◌≤◌, length};
 
 use functions::header;
@@ -98,7 +100,7 @@ pub fn count(s: &[u8], at: usize, most: usize) -> usize
 }
 
 // The two numbers after a line's first word; the first as a place and the second as a value, where they have no sign.
-#[derive(Drop)]
+#[derive(Clone, Copy)]
 pub struct Numbers {
     pub first: i64,
     pub second: i64,

@@ -1,4 +1,6 @@
 // Comparisons of entities and functions by number, and Not but of a string. A function here stands for the Rust's functions that its comment lists.
+#![tactic(auto)]
+
 ghost use Rattle.std.specs.Prelude.{◌≡◌, ◌+◌, ◌-◌, ◌*◌, ◌≤◌, ◌<◌, length, get_or, set};
 ghost use Rattle.definition.specs.Checks.{judge};
 ghost use Rattle.definition.specs.Floats.{not_v};

@@ -395,7 +395,7 @@ pub statement_has_kind : (file : List ℕ) (p : ℤ) (e : Entities) (cells : Lis
     → HasKind (before_in file p e cells) (statement_kind file p cells) ((program_of file).does p e cells)
 unfolding program_with does_at execute fetch_conditions
 statement_has_kind file p e cells =
-    provided_has_kind _ _ _ _ λ h.
+    provided_has_kind (before_in file p e cells) _ _ _ λ h.
     let st = statement_at (contents_of file).statements p in
     executed (tables_of (contents_of file)) p st e cells (statement_kind file p cells) (cell_of st.arg1) (cell_of st.arg2) (cell_of st.arg3) (shape_of st.opcode)
     (kind_of_law file p e cells (shape_of st.opcode) (named st.opcode (ltb-true _ _ h.1.0)))

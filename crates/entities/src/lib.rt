@@ -1,5 +1,7 @@
 // The fields of entities (document 02, R-3). A function here stands for the Rust's functions that its comment lists. All is checked before anything is
 // written.
+#![tactic(auto)]
+
 ghost use Rattle.std.specs.Prelude.{◌≡◌, List, ℕ, ◌+◌, ◌*◌, ◌≤◌, ◌<◌, length};
 ghost use Rattle.definition.specs.Cells.{Typing};
 ghost use Rattle.definition.specs.Statements.{Entities, value_moved, loads_effect, addresses_effect, stores_p_effect};
@@ -13,14 +15,14 @@ use definition::{Answer, GREATEST_POINTER};
 use functions::reads;
 
 // How many entities there are, and how many cells each has.
-#[derive(Drop)]
+#[derive(Clone, Copy)]
 pub struct EntityTable {
     pub number: usize,
     pub size: usize,
 }
 
 // The cells that the operands of a statement name.
-#[derive(Drop)]
+#[derive(Clone, Copy)]
 pub struct Operands {
     pub a: usize,
     pub b: usize,

@@ -1,4 +1,6 @@
 // Execution of a fetched statement, over typed cells and the statements that write them.
+#![tactic(auto)]
+
 ghost use Rattle.std.specs.Prelude.{◌≡◌, List, ℕ, ◌≤◌, ◌<◌, ℤ, pos, length};
 ghost use Rattle.definition.specs.File.{contents_at};
 ghost use Rattle.definition.specs.Floats.{rounding_of};
@@ -24,7 +26,7 @@ use functions::{fetch, parts};
 pub mod shapes;
 
 // What a fetched statement does: it completes and the run goes on at a position, calls a function, returns from a cell on, is refused, or is handed over.
-#[derive(Drop)]
+#[derive(Clone, Copy)]
 pub enum Executed {
     Next(i64),
     Calls(usize),
@@ -150,7 +152,7 @@ fn branch(
 }
 
 // What a Call calls: a function that is entered, a builtin that the machine does itself (document 02, R-1), or one that is the host's.
-#[derive(Drop)]
+#[derive(Clone, Copy)]
 enum Callee {
     Function(usize),
     Rounding(u32),

@@ -7,7 +7,7 @@ use functions::ops;
 use typed::{ENTITY, FIELD, FLOAT, FUNCTION, STRING, VECTOR};
 
 // The shapes that write cells, with the types of their operands where these differ. That of two floats to a float isn't here: it is told by one bit.
-#[derive(Drop)]
+#[derive(Clone, Copy)]
 pub enum CellOp {
     Values(u16),
     Vectors(u16, u16),
@@ -19,14 +19,14 @@ pub enum CellOp {
 }
 
 // The statements that go by the texts of strings (document 02, R-4): EqS is the comparison that gives 1.0 where they are the same.
-#[derive(Drop)]
+#[derive(Clone, Copy)]
 pub enum StringOp {
     Compare(bool),
     Not,
 }
 
 // The statements of entity fields (document 02, R-3), with the type of what is moved.
-#[derive(Drop)]
+#[derive(Clone, Copy)]
 pub enum FieldOp {
     Loads(u16),
     Address,
@@ -34,7 +34,7 @@ pub enum FieldOp {
 }
 
 // IfNot is the branch that jumps when the float is zero.
-#[derive(Drop)]
+#[derive(Clone, Copy)]
 pub enum Shape {
     Cells(CellOp),
     Strings(StringOp),

@@ -1,5 +1,7 @@
 // Shows every file on standard input: for each line `NAME LENGTH HEX` it prints the name and what the show program prints for the file.
 // The lines, and what must be printed, come from tests/model by tools/cases.py.
+#![tactic(auto)]
+
 ghost use Rattle.std.specs.Prelude.{◌≤◌, ◌<◌, length};
 
 use definition::{MOST_CELLS, SAVED_STORE};

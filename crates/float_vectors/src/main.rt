@@ -2,13 +2,15 @@
 // A case is a line of eight hexadecimal numbers: the opcode, three cells of the first operand, three of the second, the result. A rounding builtin has its
 // number and 80 for an opcode.
 // tools/float_vectors.py writes them, from a model of its own.
+#![tactic(auto)]
+
 use functions::ops;
 use libc::{STDIN_FILENO, STDOUT_FILENO};
 use vectors::{Counts, MOST_LINES};
 
 const ROUNDINGS: u16 = 128;
 
-#[derive(Drop)]
+#[derive(Clone, Copy)]
 enum Outcome {
     Same,
     Differs,

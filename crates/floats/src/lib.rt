@@ -1,4 +1,6 @@
 // Floats on cells. A cell is a `u32`, the bit pattern of an `f32`; each function here equals the definition's of the same name.
+#![tactic(auto)]
+
 ghost use Rattle.std.specs.Prelude.{◌≡◌, ◌/◌, ◌%◌, ◌<◌, ◌≤◌};
 ghost use Rattle.definition.specs.Floats.{value, cell, add_f, sub_f, mul_f, div_f, flag, is_zero, eq_f, ne_f, le_f, ge_f, lt_f, gt_f, and_f, or_f, not_f, whole, bit_and_f, bit_or_f};
 ghost use Rattle.definition.specs.Floats.{mul_v, same_v, eq_v, ne_v, not_v, eq_n, ne_n, not_n};

@@ -15,7 +15,7 @@ pub const CEIL: u32 = 38;
 pub const F_ABS: u32 = 43;
 
 // Which whole number a fraction goes to: the next lower, the next higher, or the nearest, halves away from zero.
-#[derive(Drop)]
+#[derive(Clone, Copy)]
 pub enum To {
     Lower,
     Higher,
@@ -23,7 +23,7 @@ pub enum To {
 }
 
 // The whole part of a magnitude, whether there is a fraction, and whether it is a half or more.
-#[derive(Drop)]
+#[derive(Clone, Copy)]
 struct Parts {
     n: u32,
     some: bool,

@@ -9,7 +9,7 @@ use crate::{ops, reads};
 use definition::{STATEMENT_SIZE, Statement};
 
 // The index of a statement, and its four numbers.
-#[derive(Drop)]
+#[derive(Clone, Copy)]
 pub enum Fetched {
     At(usize, Statement),
     Refused(u8),

@@ -1,5 +1,7 @@
 // From bytes to records: ops.rs, functions.rs and string_table.rs of the Rust. Here stand the functions of a file (functions.rs); every number is
 // kept as its unsigned bits, and a signed one is negative where its top bit is set.
+#![tactic(auto)]
+
 ghost use Rattle.std.specs.Prelude.{◌≡◌, true, ◌/◌, ◌<◌, length, get_or};
 ghost use Rattle.definition.specs.File.{no_function, between, builtin_number, is_builtin, builtin_of, builtin_known};
 ghost use Rattle.functions.specs.Answers.{function_id};
@@ -15,7 +17,7 @@ pub mod reads;
 pub mod string_table;
 
 // The number of a function of the file.
-#[derive(Drop)]
+#[derive(Clone, Copy)]
 pub enum FunctionId {
     Id(usize),
     NoFunction,

@@ -3,7 +3,7 @@ ghost use Rattle.std.specs.Prelude.{◌≡◌};
 ghost use Rattle.functions.specs.Answers.{string_id};
 
 // The offset of a string of the file.
-#[derive(Drop)]
+#[derive(Clone, Copy)]
 pub enum StringId {
     Id(usize),
     NoString,

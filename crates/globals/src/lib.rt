@@ -1,4 +1,6 @@
 // What the statements that write cells share: all is checked before anything is written.
+#![tactic(auto)]
+
 ghost use Rattle.std.specs.Prelude.{◌≡◌, ◌-◌, ◌*◌, ◌≤◌, length};
 ghost use Rattle.definition.specs.Checks.{judge};
 ghost use Rattle.definition.specs.Statements.{unused};

@@ -6,7 +6,7 @@ ghost use Rattle.host.specs.Display.{write_reply, display_of, after_sentence};
 use definition::WriteAnswer;
 
 #[repr(C)]
-#[derive(Drop)]
+#[derive(Clone, Copy)]
 pub struct WriteReply {
     pub length: usize,
     pub refusal: u32,

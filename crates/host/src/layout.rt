@@ -12,7 +12,7 @@ use progs::ExecutionContext;
 
 // All that the exported functions answer.
 #[repr(C)]
-#[derive(Drop)]
+#[derive(Clone, Copy)]
 pub struct Structs {
     pub reply: Replied,
     pub header: HeaderReply,

@@ -1,6 +1,8 @@
 // The static library: each operation under a name of C, and the readers of records. A function that is exported can't return an enum, so an answer is
 // three numbers, those of a list of calls, beside the context after the operation. No function asks anything of its caller but that the buffers are
 // what they are said to be.
+#![tactic(auto)]
+
 ghost use Rattle.std.specs.Prelude.{◌≡◌};
 ghost use Rattle.definition.specs.Load.{program_of};
 ghost use Rattle.definition.specs.Calls.{enters, runs_unpacked, carries, abandons, reads, writes, writes_all};

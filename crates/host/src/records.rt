@@ -11,7 +11,7 @@ use functions::header;
 use view::{FoundDefinition, FoundFunction};
 
 #[repr(C)]
-#[derive(Drop)]
+#[derive(Clone, Copy)]
 pub struct HeaderReply {
     pub found: u32,
     pub refusal: u32,
@@ -19,7 +19,7 @@ pub struct HeaderReply {
 }
 
 #[repr(C)]
-#[derive(Drop)]
+#[derive(Clone, Copy)]
 pub struct StatementReply {
     pub found: u32,
     pub refusal: u32,
@@ -27,7 +27,7 @@ pub struct StatementReply {
 }
 
 #[repr(C)]
-#[derive(Drop)]
+#[derive(Clone, Copy)]
 pub struct FunctionReply {
     pub found: u32,
     pub refusal: u32,
@@ -35,7 +35,7 @@ pub struct FunctionReply {
 }
 
 #[repr(C)]
-#[derive(Drop)]
+#[derive(Clone, Copy)]
 pub struct DefinitionReply {
     pub found: u32,
     pub refusal: u32,

@@ -1,5 +1,7 @@
 // The first engine under names of C, in a static library of its own: what executes a statement is then part of its loop, as it is of the second engine's in
 // the library `host`. A compiler does that for one caller.
+#![tactic(auto)]
+
 ghost use Rattle.std.specs.Prelude.{◌≡◌};
 ghost use Rattle.definition.specs.Load.{program_of};
 ghost use Rattle.definition.specs.Calls.{steps, runs};

@@ -1,4 +1,6 @@
 // The operation that writes a loaded program (document 02, R-6): check 13, then the program of the lent file as `writer` writes it.
+#![tactic(auto)]
+
 ghost use Rattle.std.specs.Prelude.{◌≡◌};
 ghost use Rattle.definition.specs.Written.{write_file, write_outcome};
 ghost use Rattle.progs.specs.Contexts.{config};

@@ -1,1 +1,3 @@
 // Laws of the definition beside demand 3. They are in specs/; there is no code here.
+
+#![tactic(auto)]

@@ -1,5 +1,7 @@
 // The load file program: a seed and a number of statements on standard input, `2463534242 1000` and a line end, and their load file on standard output, or
 // `refused,35` and a line end.
+#![tactic(auto)]
+
 ghost use Rattle.std.specs.Prelude.{◌≡◌, ◌≤◌, length};
 ghost use Rattle.text.specs.Output.{output, at_front};
 ghost use Rattle.load_file.specs.Printed.{printed};

@@ -6,13 +6,13 @@ ghost use Rattle.load_file.specs.Numbers.{is_digit, with_digit, in32_bits, numbe
 pub const LONGEST_LINE: usize = 64;
 
 // A number, and the place behind its last digit.
-#[derive(Drop)]
+#[derive(Clone, Copy)]
 pub struct Number {
     pub value: u32,
     pub next: usize,
 }
 
-#[derive(Drop)]
+#[derive(Clone, Copy)]
 pub struct Numbers {
     pub seed: u32,
     pub n: u32,

@@ -1,4 +1,6 @@
 // Load files (document 02, R-10): the program file of a seed and a number of drawn statements, in R-6's form, in a lent output buffer.
+#![tactic(auto)]
+
 ghost use Rattle.std.specs.Prelude.{◌≡◌, ◌+◌, ◌≤◌};
 ghost use Rattle.definition.specs.Written.{write_outcome};
 ghost use Rattle.text.specs.Output.{output, put, Room};

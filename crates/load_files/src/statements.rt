@@ -33,7 +33,7 @@ fn operand_of(drawn: u32) -> u16
 }
 
 // A statement, and the last of its draws.
-#[derive(Drop)]
+#[derive(Clone, Copy)]
 struct Drawn {
     statement: Statement,
     last: u32,

@@ -1,4 +1,6 @@
 // The checks of a load in the order of document 01's table, and the filling of the lent cells (progs/mod.rs, load). A refusal is its number, 0 is none.
+#![tactic(auto)]
+
 ghost use Rattle.std.specs.Prelude.{◌≡◌, [], ◌∷◌, ◌++◌, ◌/◌, ◌≤◌, ◌<◌, length, drop};
 ghost use Rattle.definition.specs.Checks.{judge, ◌otherwise◌};
 ghost use Rattle.definition.specs.Load.{header_conditions, cell_conditions, file_conditions};

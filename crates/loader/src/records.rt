@@ -15,7 +15,7 @@ use functions::string_table::StringId;
 use functions::{ops, parts, reads, string_table};
 
 // The lumps whose records a load checks.
-#[derive(Drop)]
+#[derive(Clone, Copy)]
 pub enum Kind {
     Functions,
     Statements,

@@ -1,4 +1,6 @@
 // The padding program (document 02, R-7): a program file on standard input, on standard output the same program with 64 cells at least, or a refusal.
+#![tactic(auto)]
+
 use libc::{STDIN_FILENO, STDOUT_FILENO};
 use padding::LONGEST;
 

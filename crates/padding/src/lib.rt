@@ -1,4 +1,6 @@
 // What the padding program prints for a file (document 02, R-7): the file in R-6's form with zero cells added up to 64, or a refusal.
+#![tactic(auto)]
+
 ghost use Rattle.std.specs.Prelude.{◌≡◌, ◌-◌, ◌≤◌, length};
 ghost use Rattle.text.specs.Output.{output, at_front};
 ghost use Rattle.padding.specs.Padding.{pad_text};

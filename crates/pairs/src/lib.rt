@@ -1,5 +1,7 @@
 // Settings of a match, written together (document 02, R-9): numbers that a host gives, an address and a value in turn. All the pairs are checked before the first
 // one is written, so that a refusal has written none.
+#![tactic(auto)]
+
 ghost use Rattle.std.specs.Prelude.{◌≡◌, ◌≤◌, length};
 ghost use Rattle.definition.specs.Checks.{judge};
 ghost use Rattle.definition.specs.CheckLaws.{All};

@@ -12,14 +12,14 @@ use definition::{Answer, FUNCTION_SIZE, FunctionDef, MOST_ARGUMENTS, Settings, S
 use functions::parts;
 
 // The local range of a function.
-#[derive(Drop)]
+#[derive(Clone, Copy)]
 pub struct Locals {
     pub start: usize,
     pub count: usize,
 }
 
 // What an entry comes to, the cells apart: the number of its refusal, or 0 with what the context takes over.
-#[derive(Drop)]
+#[derive(Clone, Copy)]
 pub struct Entry {
     pub refusal: u8,
     pub first: i64,
@@ -104,7 +104,7 @@ pub fn enter_cells(
 }
 
 // What a Return comes to, the cells apart: the number of its refusal, or 0 with the local count of the function left.
-#[derive(Drop)]
+#[derive(Clone, Copy)]
 pub struct Leaving {
     pub refusal: u8,
     pub locals: usize,

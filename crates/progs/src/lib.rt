@@ -1,4 +1,6 @@
 // The machine: its context, and the calls that a host makes on it (progs/mod.rs and server/mod.rs of the Rust). Every call checks 13 first.
+#![tactic(auto)]
+
 ghost use Rattle.std.specs.Prelude.{◌≡◌};
 ghost use Rattle.definition.specs.Load.{program_of};
 ghost use Rattle.definition.specs.Operations.{host_enter};
@@ -18,7 +20,7 @@ mod state;
 
 // All that an operation leaves for the next, beside the lent bytes, cells, saved store and entity cells.
 #[repr(C)]
-#[derive(Drop)]
+#[derive(Clone, Copy)]
 pub struct ExecutionContext {
     pub file: FileRecord,
     // Those of the load (document 02, R-11).
@@ -34,7 +36,7 @@ pub struct ExecutionContext {
 }
 
 // The context after an operation, and its answer.
-#[derive(Drop)]
+#[derive(Clone, Copy)]
 pub struct Answered {
     pub context: ExecutionContext,
     pub answer: Answer,

@@ -1,4 +1,6 @@
 // The second engine (document 02, R-12): a run whose statements are read from the buffer that they were unpacked into. Its loop is made for speed.
+#![tactic(auto)]
+
 ghost use Rattle.std.specs.Prelude.{◌≡◌, List, ℕ, ◌*◌, ◌≤◌, length};
 ghost use Rattle.definition.specs.File.{contents_at, unpacked_statements, with_statements};
 ghost use Rattle.definition.specs.Cells.{typing_of};

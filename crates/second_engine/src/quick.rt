@@ -11,20 +11,20 @@ use functions::fetch::Fetched;
 use functions::{fetch, ops};
 
 // Whether a statement was done, and the position after it.
-#[derive(Drop)]
+#[derive(Clone, Copy)]
 struct Turn {
     done: bool,
     pc: i64,
 }
 
 // The position after statements that were done, and their number.
-#[derive(Drop)]
+#[derive(Clone, Copy)]
 pub struct Turns {
     pub pc: i64,
     pub count: u32,
 }
 
-#[derive(Drop)]
+#[derive(Clone, Copy)]
 enum Common {
     Value(u32),
     Other,

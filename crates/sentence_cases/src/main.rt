@@ -1,5 +1,7 @@
 // Composes sentences at the ends of what their numbers can be, into display buffers of 0 to 130 bytes, each byte a `#`. For each it prints the
 // length or the refusal, and then the whole buffer.
+#![tactic(auto)]
+
 use definition::{Handover, RunAnswer, WriteAnswer};
 use libc::STDOUT_FILENO;
 

@@ -1,4 +1,6 @@
 // Outcome sentences (document 02, R-8): the outcome of a run as a line of words and numbers, in a lent display buffer.
+#![tactic(auto)]
+
 ghost use Rattle.std.specs.Prelude.{◌≡◌, ◌++◌, ◌≤◌, length};
 ghost use Rattle.definition.specs.Answers.{outcome_word};
 ghost use Rattle.text.specs.Text.{decimal};

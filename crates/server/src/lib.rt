@@ -1,4 +1,6 @@
 // Statements and runs (server/mod.rs, LevelState::execute_program).
+#![tactic(auto)]
+
 ghost use Rattle.std.specs.Prelude.{◌≡◌, length};
 ghost use Rattle.definition.specs.Machine.{run_for};
 ghost use Rattle.definition.specs.Load.{program_of};
@@ -16,14 +18,14 @@ use progs::ExecutionContext;
 const NO_DEPTH: usize = GREATEST_DEPTH + 1;
 
 // The context after a statement, and what it answers.
-#[derive(Drop)]
+#[derive(Clone, Copy)]
 pub struct Stepped {
     pub context: ExecutionContext,
     pub answer: StatementAnswer,
 }
 
 // The context after a run, what it answers, and how many statements it completed.
-#[derive(Drop)]
+#[derive(Clone, Copy)]
 pub struct Ran {
     pub context: ExecutionContext,
     pub answer: RunAnswer,

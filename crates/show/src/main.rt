@@ -1,4 +1,6 @@
 // The show program: a program file on standard input, one line on standard output.
+#![tactic(auto)]
+
 use definition::{MOST_CELLS, SAVED_STORE};
 use libc::{STDIN_FILENO, STDOUT_FILENO};
 use shown::LONGEST_INPUT;

@@ -1,4 +1,6 @@
 // What the show program prints for a file: document 01's last situation, over the machine's operations.
+#![tactic(auto)]
+
 ghost use Rattle.std.specs.Prelude.{◌≡◌, ◌≤◌, length, get_or};
 ghost use Rattle.definition.specs.Load.{program_of};
 ghost use Rattle.progs.specs.Contexts.{state_of, config};

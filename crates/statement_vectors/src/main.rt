@@ -1,6 +1,8 @@
 // Runs the statements on standard input through the compiled `execution::does`, and compares the answer, all cells and all lent entity cells with
 // those given.
 // tools/statement_vectors.py writes the lines, of a letter and two hexadecimal numbers, and says what they mean.
+#![tactic(auto)]
+
 use definition::{HEADER_LENGTH, Handover, LEAST_ENTITY_CELLS, MOST_CELLS};
 use execution::Executed;
 use functions::{fetch, header};
@@ -14,7 +16,7 @@ const BYTES: usize = 140000;
 const ENTITY_CELLS: usize = 65540;
 
 // A line: its letter and two numbers.
-#[derive(Drop)]
+#[derive(Clone, Copy)]
 struct Line {
     letter: u8,
     x: u32,
@@ -22,7 +24,7 @@ struct Line {
 }
 
 // How much of the buffers is lent: the file's length, and the entity cells, with how many entities they are.
-#[derive(Drop)]
+#[derive(Clone, Copy)]
 struct Given {
     size: usize,
     number: usize,
@@ -30,7 +32,7 @@ struct Given {
 }
 
 // What a line does: it gives part of a case, or a file of a size, or entities and how many cells are lent for them; or a case is run.
-#[derive(Drop)]
+#[derive(Clone, Copy)]
 enum Step {
     Given,
     File(usize),

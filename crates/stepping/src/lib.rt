@@ -1,4 +1,6 @@
 // The host's outermost step: one statement, on a context that stays where the host has it.
+#![tactic(auto)]
+
 ghost use Rattle.std.specs.Prelude.{◌≡◌};
 ghost use Rattle.definition.specs.Load.{program_of};
 ghost use Rattle.definition.specs.Operations.{statement};

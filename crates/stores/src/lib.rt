@@ -1,4 +1,6 @@
 // Stores. A function here stands for the Rust's functions that its comment lists.
+#![tactic(auto)]
+
 ghost use Rattle.std.specs.Prelude.{◌≡◌, ◌+◌, ◌-◌, ◌*◌, ◌≤◌, ◌<◌, length};
 ghost use Rattle.definition.specs.Statements.{stores_effect, stores_v_effect, moved, reserved_cell};
 ghost use Rattle.typed.specs.Typing.{typing};

@@ -1,4 +1,6 @@
 // EqS, NeS and NotS: strings by their texts (document 02, R-4). A function here stands for the Rust's functions that its comment lists.
+#![tactic(auto)]
+
 ghost use Rattle.std.specs.Prelude.{◌≡◌, [], ◌||◌, eqb, ◌≤◌, ◌<◌, length, get_or};
 ghost use Rattle.definition.specs.Checks.{judge};
 ghost use Rattle.definition.specs.File.{byte_at};

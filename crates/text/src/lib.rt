@@ -1,5 +1,7 @@
 // The texts that programs print, as ASCII in a lent buffer. A writer stores its text from the place `at` on and gives the place after it; it asks for
 // room for the whole text, and leaves the other bytes. What each writes is in specs/Text.antt, and that writers follow each other in specs/Output.antt.
+#![tactic(auto)]
+
 ghost use Rattle.std.specs.Prelude.{◌≡◌, List, [], ◌∷◌, ◌≤◌, ◌<◌, nat_abs, length};
 ghost use Rattle.definition.specs.Answers.{letters, outcome_word, outcome_detail};
 ghost use Rattle.text.specs.Text.{comma, decimal, signed_decimal, hex_digit, hex_digits, hex8, further_fields, line_text, refused_line};
@@ -151,7 +153,7 @@ fn write_cells(buf: &mut [u8], at: usize, c1: u32, c2: u32, c3: u32) -> usize
 }
 
 // What the line of a run says.
-#[derive(Drop)]
+#[derive(Clone, Copy)]
 pub struct Line {
     pub answer: RunAnswer,
     pub count: u32,

@@ -1,5 +1,7 @@
 // Reads records through the view, and goes through programs statement by statement by the outermost step, as the lines on standard input say.
 // The lines, and what must be printed, come from tests/model by tools/cases.py; tests/model/README.md has the formats.
+#![tactic(auto)]
+
 ghost use Rattle.std.specs.Prelude.{◌≤◌, ◌<◌, length};
 
 use cases::answers::Said;
@@ -12,7 +14,7 @@ use progs::{ExecutionContext, load};
 mod records;
 
 // How far the lines are, and how many entity cells are lent.
-#[derive(Drop)]
+#[derive(Clone, Copy)]
 struct Traced {
     context: ExecutionContext,
     entities: usize,

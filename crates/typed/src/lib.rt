@@ -1,4 +1,6 @@
 // Typed access to cells. A refusal is its number here, and 0 stands for none.
+#![tactic(auto)]
+
 ghost use Rattle.std.specs.Prelude.{◌≡◌, ◌+◌, ◌*◌, ◌≤◌, length};
 ghost use Rattle.definition.specs.Checks.{judge};
 ghost use Rattle.functions.specs.Parts.{definitions_in};
@@ -30,7 +32,7 @@ pub const POINTER: u16 = 7;
 pub const UNTYPED: u16 = SAVE_FLAG;
 
 // What a type check answers.
-#[derive(Drop)]
+#[derive(Clone, Copy)]
 pub enum TypeCheck {
     Passed,
     Failed,

@@ -1,4 +1,6 @@
 // Unpacked statements (document 02, R-12): "unpacked once into a lent buffer of 16-bit numbers, four to a statement in the file's order".
+#![tactic(auto)]
+
 ghost use Rattle.std.specs.Prelude.{◌≡◌, ◌++◌, ◌+◌, ◌*◌, ◌/◌, ◌≤◌, length, drop};
 ghost use Rattle.definition.specs.File.{read_unpacked, unpacked_statements};
 ghost use Rattle.definition.specs.Unpacked.{unpack};

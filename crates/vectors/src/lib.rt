@@ -1,5 +1,7 @@
 // What the programs that run vectors share: hexadecimal numbers at fixed places of a line, changes of
 // lent cells, and the last line that they write.
+#![tactic(auto)]
+
 ghost use Rattle.std.specs.Prelude.{◌+◌, ◌≤◌, ◌<◌, length};
 
 use libc::STDOUT_FILENO;
@@ -44,7 +46,7 @@ pub fn clear_cells(cells: &mut [u32]) {
 // A proved loop has to end, and nothing says that the input does: a program reads at most so many lines.
 pub const MOST_LINES: u64 = 1_000_000;
 
-#[derive(Drop)]
+#[derive(Clone, Copy)]
 pub struct Counts {
     pub cases: u64,
     pub differ: u64,

@@ -1,5 +1,7 @@
 // The functions of a file (functions.rs, Functions) as a view that holds the lent bytes. Its readers take it apart and call a covered function on the
 // slice and the numbers. Each stands a second time with plain parameters, since a function that makes or takes a view is proved by hand.
+#![tactic(auto)]
+
 ghost use Rattle.std.specs.Prelude.{◌≡◌};
 ghost use Rattle.view.specs.Records.{not_found, statement_in, function_in, definition_in, field_in};
 
@@ -10,20 +12,20 @@ use functions::fetch::Fetched;
 use functions::{fetch, header, parts, reads};
 
 // The file's bytes, and its lumps as a context records them.
-#[derive(Drop)]
+#[derive(Clone, Copy)]
 pub struct Functions<'a> {
     pub file: &'a [u8],
     pub recorded: FileRecord,
 }
 
 // The record of a function, zeros where it is refused: an enum can't hold the record's argument sizes.
-#[derive(Drop)]
+#[derive(Clone, Copy)]
 pub struct FoundFunction {
     pub answer: Answer,
     pub def: FunctionDef,
 }
 
-#[derive(Drop)]
+#[derive(Clone, Copy)]
 pub enum FoundDefinition {
     At(Definition),
     NoDefinition,

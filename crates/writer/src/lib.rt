@@ -1,5 +1,7 @@
 // Program files in document 02's one form (R-6), written into a lent output buffer. A writer stores its bytes from the place `at` on and gives the place
 // after them; it asks for room for all of them, and leaves the other bytes.
+#![tactic(auto)]
+
 ghost use Rattle.std.specs.Prelude.{◌≡◌, true, [], ◌∷◌, ◌+◌, ◌*◌, ◌≤◌, ◌<◌, length, replicate};
 ghost use Rattle.definition.specs.File.{contents_at, lump_fits, read_function};
 ghost use Rattle.definition.specs.Written.{u16_bytes, u32_bytes, function_bytes, bytes_of, behind, header_numbers, written, padded};

@@ -1,0 +1,5 @@
+use borrow.Author.Rules.{rules}
+use Rattle.arithmetic.proofs.apply_floats.Goals as goal
+
+pub returns : goal.returns
+returns c = cc

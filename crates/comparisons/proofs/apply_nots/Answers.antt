@@ -1,0 +1,5 @@
+use borrow.Author.Rules.{rules}
+use Rattle.comparisons.proofs.apply_nots.Goals as goal
+
+pub returns : goal.returns
+returns c = cc

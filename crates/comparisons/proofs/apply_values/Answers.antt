@@ -1,0 +1,5 @@
+use borrow.Author.Rules.{rules}
+use Rattle.comparisons.proofs.apply_values.Goals as goal
+
+pub returns : goal.returns
+returns c = cc

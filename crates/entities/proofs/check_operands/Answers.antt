@@ -1,0 +1,9 @@
+use Rattle.typed.specs.Laws.{stop, passed}
+use borrow.Author.Rules.{rules}
+use Rattle.entities.proofs.check_operands.Goals as goal
+
+pub returns-then-r-ne0 : goal.returns-then-r-ne0
+returns-then-r-ne0 c = stop _ _ _ c.if-r-ne0.true c.check_read-r.ensures
+
+pub returns : goal.returns
+returns c = passed c.check_read-r.ensures c.if-r-ne0.false c.check_move.ensures

@@ -1,0 +1,17 @@
+use mathlib.Core.Path.{◌≡◌}
+use borrow.Author.Rules.{rules}
+use Prim.Native.Nat.{◌≤◌, ◌-◌}
+use lib.ListN.{length}
+use Rattle.file_cases.proofs.show_cases.Given as goal
+
+abbrev pub invariant-loop-at : goal.invariant-loop-at
+invariant-loop-at l =
+    (l.at ≤ length l.text)
+    × (length l.file ≡ length l.initial.file)
+    × (length l.cells ≡ length l.initial.cells)
+    × (length l.store ≡ length l.initial.store)
+    × (length l.entities ≡ length l.initial.entities)
+    × (length l.line ≡ length l.initial.line)
+
+abbrev pub decreases-loop-at : goal.decreases-loop-at
+decreases-loop-at l = length l.text - l.at

@@ -1,0 +1,28 @@
+use Rattle.std.proofs.Common.{sym, ap, ◌∙◌, rules, le-leb}
+use borrow.Author.Tests.{lt-leb}
+use Rattle.floats.proofs.Whole.{end, small, over, none, n_lt, minus_fits, below, above}
+use Rattle.floats.proofs.to_i32.Goals as goal
+
+pub returns-then-e-lt127 : goal.returns-then-e-lt127
+returns-then-e-lt127 c = small c.args.x c.if-e-lt127.true
+
+pub returns-then-m-gt2139095040 : goal.returns-then-m-gt2139095040
+returns-then-m-gt2139095040 c = none c.args.x c.if-m-gt2139095040.true
+
+pub returns-then-x-ge2147483648 : goal.returns-then-x-ge2147483648
+returns-then-x-ge2147483648 c = sym (ap end (le-leb 2147483648 c.args.x c.if-x-ge2147483648.true)) ∙ over c.args.x c.if-e-ge158.true c.if-m-gt2139095040.false
+
+pub returns-then-e-ge158 : goal.returns-then-e-ge158
+returns-then-e-ge158 c = sym (ap end (lt-leb 2147483648 c.args.x c.if-x-ge2147483648.false)) ∙ over c.args.x c.if-e-ge158.true c.if-m-gt2139095040.false
+
+pub overflow_cast-n : goal.overflow_cast-n
+overflow_cast-n c = record { sfits = n_lt c.args.x c.if-e-lt127.false c.if-e-ge158.false c.scaled_up.result c.scaled_up.ensures }
+
+pub overflow_sub-result : goal.overflow_sub-result
+overflow_sub-result c = minus_fits c.args.x c.if-e-lt127.false c.if-e-ge158.false c.scaled_up.result c.scaled_up.ensures
+
+pub returns-then-x-ge2147483648-2 : goal.returns-then-x-ge2147483648-2
+returns-then-x-ge2147483648-2 c = below c.args.x c.if-e-lt127.false c.if-e-ge158.false c.scaled_up.result c.scaled_up.ensures (le-leb 2147483648 c.args.x c.if-x-ge2147483648-2.true)
+
+pub returns-else-x-ge2147483648-2 : goal.returns-else-x-ge2147483648-2
+returns-else-x-ge2147483648-2 c = above c.args.x c.if-e-lt127.false c.if-e-ge158.false c.scaled_up.result c.scaled_up.ensures (lt-leb 2147483648 c.args.x c.if-x-ge2147483648-2.false)

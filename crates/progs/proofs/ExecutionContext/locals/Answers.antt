@@ -1,0 +1,7 @@
+use Rattle.definition.specs.Load.{program_of}
+use Rattle.progs.proofs.FileLaws.{functions_here}
+use borrow.Author.Rules.{rules}
+use Rattle.progs.proofs.ExecutionContext.locals.Goals as goal
+
+pub returns : goal.returns
+returns c = c.locals_of.ensures (program_of c.args.file.now) (functions_here _ _ c.requires _ c.functions.ensures)

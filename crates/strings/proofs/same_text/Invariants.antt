@@ -1,0 +1,15 @@
+-- The texts from the two places on are the same where the two texts are.
+use Prim.Native.Nat.{◌-◌, ◌<◌}
+use mathlib.Core.Path.{◌≡◌, refl, sym, ◌∙◌}
+use native.Mathlib.Omega.{arith}
+use lib.ListN.{length}
+use Rattle.definition.specs.Strings.{text_of, same_text}
+use Rattle.strings.proofs.Strings.{byte_below, bytes_differ, both_end, both_go_on}
+use borrow.Author.Rules.{rules}
+use Rattle.strings.proofs.same_text.Given as goal
+
+abbrev pub invariant-loop-x : goal.invariant-loop-x
+invariant-loop-x l = same_text (text_of l.strings l.i) (text_of l.strings l.j) ≡ same_text (text_of l.strings l.first) (text_of l.strings l.second)
+
+abbrev pub decreases-loop-x : goal.decreases-loop-x
+decreases-loop-x l = length l.strings - l.i

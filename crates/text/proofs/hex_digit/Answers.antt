@@ -1,0 +1,13 @@
+-- `text::hex_digit` meets its contract: the definition's two cases are the code's. Assumes nothing.
+use borrow.Author.Rules.{rules}
+use borrow.Author.Tests.{lt-ltb, le-ltb}
+use Rattle.text.specs.Text.{hex_digit}
+use Rattle.text.proofs.hex_digit.Goals as goal
+
+pub returns-then-d-lt10 : goal.returns-then-d-lt10
+unfolding hex_digit
+returns-then-d-lt10 c = rw (lt-ltb _ _ c.if-d-lt10.true)
+
+pub returns : goal.returns
+unfolding hex_digit
+returns c = rw (le-ltb _ _ c.if-d-lt10.false)

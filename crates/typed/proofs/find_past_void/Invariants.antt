@@ -1,0 +1,16 @@
+-- The definitions from number i on give what all of them give.
+use Prim.Native.Nat.{◌-◌, ◌*◌, ◌+◌, ◌/◌, ◌≤◌}
+use mathlib.Core.Path.{◌≡◌, ap, ◌∙◌}
+use native.Mathlib.Omega.{arith}
+use lib.ListN.{length}
+use Rattle.definition.specs.Cells.{lookup}
+use Rattle.functions.specs.Parts.{definitions_in}
+use Rattle.functions.specs.PartLaws.{record_ends}
+use Rattle.typed.proofs.Lookup.{rest, from_the_first, lookup_none_left, found_at, passed_over}
+use Rattle.typed.proofs.find_past_void.Given as goal
+
+abbrev pub invariant-loop-i : goal.invariant-loop-i
+invariant-loop-i l = (l.i ≤ length l.defs / 8) × (lookup (rest l.defs l.i) l.wanted ≡ lookup (definitions_in l.defs) l.wanted)
+
+abbrev pub decreases-loop-i : goal.decreases-loop-i
+decreases-loop-i l = length l.defs / 8 - l.i

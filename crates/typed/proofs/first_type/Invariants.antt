@@ -1,0 +1,17 @@
+-- The definitions from number i on give what all of them give, and their number is even.
+use Prim.Native.Nat.{◌+◌, ◌-◌, ◌*◌, ◌/◌, ◌%◌, ◌≤◌}
+use mathlib.Core.Path.{◌≡◌, refl, ap, ◌∙◌}
+use mathlib.Core.Logic.{⊎_elim}
+use native.Mathlib.Omega.{arith}
+use lib.ListN.{length}
+use Rattle.functions.specs.Parts.{definitions_in}
+use Rattle.functions.specs.PartLaws.{record_ends}
+use Rattle.typed.specs.Typing.{first_in}
+use Rattle.typed.proofs.Lookup.{rest, from_the_first, first_none_left, first_at, first_passed_over, odd_start, even_start}
+use Rattle.typed.proofs.first_type.Given as goal
+
+abbrev pub invariant-loop-i : goal.invariant-loop-i
+invariant-loop-i l = (l.i ≤ length l.defs / 8) × ((length l.defs / 8 - l.i) % 2 ≡ 0) × (first_in (rest l.defs l.i) l.wanted ≡ first_in (definitions_in l.defs) l.wanted)
+
+abbrev pub decreases-loop-i : goal.decreases-loop-i
+decreases-loop-i l = length l.defs / 8 - l.i

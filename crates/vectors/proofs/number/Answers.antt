@@ -1,0 +1,6 @@
+use borrow.Author.Rules.{rules}
+use Prim.Native.Nat.{◌≤◌, ◌-◌}
+use Rattle.vectors.proofs.number.Goals as goal
+
+pub digit-requires : goal.digit-requires
+digit-requires c = tt
