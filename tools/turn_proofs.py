@@ -147,6 +147,8 @@ class Function:
                 continue
             name, _, fields = arm
             for field, step, path in fields:
+                if name == "in_default" and rest[1:2] == ["rest"] and norm(step) == first:
+                    return "c." + ".".join([name, "in_default-own"] + rest[1:])
                 if norm(step) == first and path and rest[1:1 + len(path)] == path:
                     return "c." + ".".join([name, field] + rest[1 + len(path):])
         if first in ("slice-known", "shared-slice-known") or first.rstrip("0123456789") in ("slice-known", "shared-slice-known"):
@@ -163,6 +165,10 @@ class Function:
                     tail = tail[:1] + member(tail[1:], self.params[callee])
                 if tail[:1] == ["ensures"] and self.clauses[i]:
                     tail = tail[:1] + member(tail[1:], self.clauses[i])
+                if new.startswith("if-not-") and tail in (["true"], ["false"]):
+                    return "(ap not c." + ".".join([new] + tail) + ")"
+                if new == "in_default" and tail[:1] == ["rest"]:
+                    tail = ["in_default-own"] + tail
                 return "c." + ".".join([new] + tail)
         if rest[0].endswith("_law"):
             return self.path(at, "." + ".".join([rest[0][:-4]] + rest[1:]), said)
@@ -423,6 +429,11 @@ def turn(path, names, crate, below, said):
         said.append(f"no goal for `{name}`")
     out_answers.sort()
     mod = f"Rattle.{crate}.proofs.{folder.replace('/', '.')}"
+    turned = "\n".join(t for _, t in out_answers)
+    simple = re.sub(r"not-(?:true|false) (?:_|c\.[^ ()]*) \(ap not (c\.[^ ()]*)\)", r"\1", turned)
+    simple = re.sub(r"\((c\.[^ ()]*)\)", r"\1", simple)
+    if simple != turned:
+        out_answers = [(0, simple)]
     kept = [u for u in uses if ".Tie as " not in u and ".Statement.{" not in u]
     inv = ""
     if invariants:
@@ -452,6 +463,14 @@ def turn(path, names, crate, below, said):
             kind = name.split("-")[0]
             lines += comments + [f"abbrev pub {kind}-{new} : goal.{kind}-{new}"] + unfolding + [f"{kind}-{new} l = " + body.strip() if "\n" not in body.strip() else f"{kind}-{new} l =\n    " + body.strip(), ""]
         inv = "\n".join(header + kept + [f"use {mod}.Given as goal", ""] + lines).rstrip("\n") + "\n"
+    everything = "\n".join(t for _, t in out_answers)
+    there = "\n".join(uses)
+    if "(ap not c." in everything:
+        words = [w for w in ("ap",) if not re.search(r"[{ ]" + w + r"[,}]", there)]
+        if words:
+            kept.append("use Rattle.std.proofs.Common.{ap}")
+        if not re.search(r"[{ ]not[,}]", there):
+            kept.append("use Rattle.std.specs.Prelude.{not}")
     ans = ""
     if out_answers or plain:
         ans = "\n".join(header + kept + [f"use {mod}.Goals as goal", ""])

@@ -18,7 +18,7 @@ pub formed_at-requires : goal.formed_at-requires
 formed_at-requires c = omega (arith, c.loop-i-test.true, c.requires)
 
 pub returns-then-not-formed_at : goal.returns-then-not-formed_at
-returns-then-not-formed_at c = formed_stops _ _ _ c.loop-i-test.true (sym c.formed_at.ensures ∙ not-true _ c.if-not-formed_at.true) ∙ c.loop-i.invariant
+returns-then-not-formed_at c = formed_stops _ _ _ c.loop-i-test.true (sym c.formed_at.ensures ∙ c.if-not-formed_at.true) ∙ c.loop-i.invariant
 
 pub overflow_add-i : goal.overflow_add-i
 overflow_add-i c = omega (arith, c.loop-i-test.true)
@@ -27,7 +27,7 @@ pub loop-i-smaller : goal.loop-i-smaller
 loop-i-smaller c = omega (arith, c.loop-i-test.true)
 
 pub loop-i-preserved : goal.loop-i-preserved
-loop-i-preserved c = formed_on _ _ _ c.loop-i-test.true (sym c.formed_at.ensures ∙ not-false _ c.if-not-formed_at.false) ∙ c.loop-i.invariant
+loop-i-preserved c = formed_on _ _ _ c.loop-i-test.true (sym c.formed_at.ensures ∙ c.if-not-formed_at.false) ∙ c.loop-i.invariant
 
 pub returns : goal.returns
 returns c = formed_end _ _ _ c.loop-i-test.false ∙ c.loop-i.invariant

@@ -12,10 +12,10 @@ pub returns-then-answers-calls : goal.returns-then-answers-calls
 returns-then-answers-calls c = no_room _ _ _ _ _ c.if-answers-calls.true
 
 pub returns-then-not-all_formed : goal.returns-then-not-all_formed
-returns-then-not-all_formed c = ill_formed _ _ _ _ _ (sym c.all_formed.ensures ∙ not-true _ c.if-not-all_formed.true)
+returns-then-not-all_formed c = ill_formed _ _ _ _ _ (sym c.all_formed.ensures ∙ c.if-not-all_formed.true)
 
 pub perform_all-requires : goal.perform_all-requires
-perform_all-requires c = record { n_in_bounds = (omega arith, omega (arith, c.if-answers-calls.false)); n_value = sym c.all_formed.ensures ∙ not-false _ c.if-not-all_formed.false }
+perform_all-requires c = record { n_in_bounds = (omega arith, omega (arith, c.if-answers-calls.false)); n_value = sym c.all_formed.ensures ∙ c.if-not-all_formed.false }
 
 pub returns : goal.returns
-returns c = let p = c.perform_all.ensures in all_performed _ _ _ _ _ c.if-calls-ne0.false c.if-answers-calls.false (sym c.all_formed.ensures ∙ not-false _ c.if-not-all_formed.false) _ _ p.0 p.1
+returns c = let p = c.perform_all.ensures in all_performed _ _ _ _ _ c.if-calls-ne0.false c.if-answers-calls.false (sym c.all_formed.ensures ∙ c.if-not-all_formed.false) _ _ p.0 p.1

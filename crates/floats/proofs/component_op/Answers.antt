@@ -41,4 +41,4 @@ returns-in-9 c = row _ _ _ _ c.in-9.is c.sub_f.ensures
 
 pub returns-in_default : goal.returns-in_default
 unfolding component_op opcodes shape_of
-returns-in_default c = last vectors_of (λ x y. 0) (λ (f : Binary). f c.args.x c.args.y) (3 ∷ 4 ∷ 7 ∷ 9 ∷ []) c.args.op tt c.in_default.rest
+returns-in_default c = last vectors_of (λ x y. 0) (λ (f : Binary). f c.args.x c.args.y) (3 ∷ 4 ∷ 7 ∷ 9 ∷ []) c.args.op tt c.in_default.in_default-own.rest

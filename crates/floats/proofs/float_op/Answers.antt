@@ -121,4 +121,4 @@ returns-in-65 c = row _ _ _ _ c.in-65.is c.bit_or_f.ensures
 
 pub returns-in_default : goal.returns-in_default
 unfolding float_op opcodes shape_of
-returns-in_default c = last floats_of (λ a b. 0) (λ (f : Binary). f c.args.a c.args.b) (1 ∷ 5 ∷ 6 ∷ 8 ∷ 10 ∷ 15 ∷ 20 ∷ 21 ∷ 22 ∷ 23 ∷ 62 ∷ 63 ∷ 64 ∷ 65 ∷ []) c.args.op tt c.in_default.rest
+returns-in_default c = last floats_of (λ a b. 0) (λ (f : Binary). f c.args.a c.args.b) (1 ∷ 5 ∷ 6 ∷ 8 ∷ 10 ∷ 15 ∷ 20 ∷ 21 ∷ 22 ∷ 23 ∷ 62 ∷ 63 ∷ 64 ∷ 65 ∷ []) c.args.op tt c.in_default.in_default-own.rest

@@ -33,4 +33,4 @@ returns-in-48 c = row _ _ _ c.in-48.is c.not_n-in-48.ensures
 
 pub returns-in_default : goal.returns-in_default
 unfolding not_op opcodes shape_of
-returns-in_default c = last negates_of (λ a. 0) (λ (f : Unary). f c.args.a) (44 ∷ 47 ∷ 48 ∷ []) c.args.op tt c.in_default.rest
+returns-in_default c = last negates_of (λ a. 0) (λ (f : Unary). f c.args.a) (44 ∷ 47 ∷ 48 ∷ []) c.args.op tt c.in_default.in_default-own.rest

@@ -41,4 +41,4 @@ returns-in-19 c = row _ _ _ _ c.in-19.is c.ne_n-in-19.ensures
 
 pub returns-in_default : goal.returns-in_default
 unfolding value_op opcodes shape_of
-returns-in_default c = last values_of (λ a b. 0) (λ (f : Binary). f c.args.a c.args.b) (13 ∷ 14 ∷ 18 ∷ 19 ∷ []) c.args.op tt c.in_default.rest
+returns-in_default c = last values_of (λ a b. 0) (λ (f : Binary). f c.args.a c.args.b) (13 ∷ 14 ∷ 18 ∷ 19 ∷ []) c.args.op tt c.in_default.in_default-own.rest

@@ -33,4 +33,4 @@ returns-in-16 c = row _ _ _ _ _ _ _ _ c.in-16.is c.ne_v.ensures
 
 pub returns-in_default : goal.returns-in_default
 unfolding vectors_to_float_op opcodes shape_of
-returns-in_default c = last vectors_to_float_of (λ a0 a1 a2 b0 b1 b2. 0) (λ (f : Pairing). f c.args.a0 c.args.a1 c.args.a2 c.args.b0 c.args.b1 c.args.b2) (2 ∷ 11 ∷ 16 ∷ []) c.args.op tt c.in_default.rest
+returns-in_default c = last vectors_to_float_of (λ a0 a1 a2 b0 b1 b2. 0) (λ (f : Pairing). f c.args.a0 c.args.a1 c.args.a2 c.args.b0 c.args.b1 c.args.b2) (2 ∷ 11 ∷ 16 ∷ []) c.args.op tt c.in_default.in_default-own.rest

@@ -17,17 +17,17 @@ use Rattle.image.proofs.write_file.Goals as goal
 -- check 13 passed
 
 pub returns-then-not-check_state : goal.returns-then-not-check_state
-returns-then-not-check_state c = refused_13 _ _ _ (sym c.check_state.ensures ∙ not-true _ c.if-not-check_state.true)
+returns-then-not-check_state c = refused_13 _ _ _ (sym c.check_state.ensures ∙ c.if-not-check_state.true)
 
 pub overflow_cast-settings : goal.overflow_cast-settings
 overflow_cast-settings c =
-    let sound_here' : sound (program_of c.args.file.now) (config c.args.context c.args.cells.now c.args.store.now c.args.entities.now) ≡ true = sym c.check_state.ensures ∙ not-false _ c.if-not-check_state.false in
+    let sound_here' : sound (program_of c.args.file.now) (config c.args.context c.args.cells.now c.args.store.now c.args.entities.now) ≡ true = sym c.check_state.ensures ∙ c.if-not-check_state.false in
     let within' : Within c.args.file.now c.args.context (length c.args.cells.now) (length c.args.store.now) (length c.args.entities.now) = passed c.args.file.now c.args.cells.now c.args.store.now c.args.entities.now c.args.context sound_here' in
     omega (arith, within'.range.check_most)
 
 pub write_program-requires : goal.write_program-requires
 write_program-requires c =
-    let sound_here' : sound (program_of c.args.file.now) (config c.args.context c.args.cells.now c.args.store.now c.args.entities.now) ≡ true = sym c.check_state.ensures ∙ not-false _ c.if-not-check_state.false in
+    let sound_here' : sound (program_of c.args.file.now) (config c.args.context c.args.cells.now c.args.store.now c.args.entities.now) ≡ true = sym c.check_state.ensures ∙ c.if-not-check_state.false in
     let within' : Within c.args.file.now c.args.context (length c.args.cells.now) (length c.args.store.now) (length c.args.entities.now) = passed c.args.file.now c.args.cells.now c.args.store.now c.args.entities.now c.args.context sound_here' in
     let s = c.args in
     let w = within' in
@@ -35,6 +35,6 @@ write_program-requires c =
 
 pub returns : goal.returns
 returns c =
-    let sound_here' : sound (program_of c.args.file.now) (config c.args.context c.args.cells.now c.args.store.now c.args.entities.now) ≡ true = sym c.check_state.ensures ∙ not-false _ c.if-not-check_state.false in
+    let sound_here' : sound (program_of c.args.file.now) (config c.args.context c.args.cells.now c.args.store.now c.args.entities.now) ≡ true = sym c.check_state.ensures ∙ c.if-not-check_state.false in
     let within' : Within c.args.file.now c.args.context (length c.args.cells.now) (length c.args.store.now) (length c.args.entities.now) = passed c.args.file.now c.args.cells.now c.args.store.now c.args.entities.now c.args.context sound_here' in
     past_13 _ _ _ _ _ sound_here' within'.loaded.same (rw padded_none at c.write_program.ensures)

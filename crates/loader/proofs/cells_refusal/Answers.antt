@@ -6,12 +6,12 @@ use Rattle.loader.proofs.cells_refusal.Goals as goal
 
 pub returns-then-not-cells_fit : goal.returns-then-not-cells_fit
 unfolding cell_conditions
-returns-then-not-cells_fit c = fails _ 10 _ (cc (not-true c.cells_fit.result c.if-not-cells_fit.true))
+returns-then-not-cells_fit c = fails _ 10 _ (cc c.if-not-cells_fit.true)
 
 pub returns-then-not-entity_fits : goal.returns-then-not-entity_fits
 unfolding cell_conditions
-returns-then-not-entity_fits c = holds _ 10 _ _ (cc (not-false c.cells_fit.result c.if-not-cells_fit.false)) (fails _ 11 _ (cc (not-true c.entity_fits.result c.if-not-entity_fits.true)))
+returns-then-not-entity_fits c = holds _ 10 _ _ (cc c.if-not-cells_fit.false) (fails _ 11 _ (cc c.if-not-entity_fits.true))
 
 pub returns : goal.returns
 unfolding cell_conditions
-returns c = holds _ 10 _ _ (cc (not-false c.cells_fit.result c.if-not-cells_fit.false)) (holds _ 11 _ _ (cc (not-false c.entity_fits.result c.if-not-entity_fits.false)) c.otherwise.ensures)
+returns c = holds _ 10 _ _ (cc c.if-not-cells_fit.false) (holds _ 11 _ _ (cc c.if-not-entity_fits.false) c.otherwise.ensures)

@@ -22,24 +22,24 @@ use Rattle.second_engine.proofs.InPlace.{no_room, has_room}
 use Rattle.second_engine.proofs.run_unpacked.Goals as goal
 
 pub returns-then-not-check_state : goal.returns-then-not-check_state
-returns-then-not-check_state c = run_13 _ _ _ _ _ _ _ _ (sound_kept _ _ _ ∙ sym c.check_state.ensures ∙ not-true _ c.if-not-check_state.true) c.not_run.ensures
+returns-then-not-check_state c = run_13 _ _ _ _ _ _ _ _ (sound_kept _ _ _ ∙ sym c.check_state.ensures ∙ c.if-not-check_state.true) c.not_run.ensures
 
 pub overflow_mul-statements : goal.overflow_mul-statements
 overflow_mul-statements c =
-    let sound_here' : let s = c.args in sound (program_of s.file.now) (config s.context s.cells.now s.store.now s.entities.now) ≡ true = sym c.check_state.ensures ∙ not-false _ c.if-not-check_state.false in
+    let sound_here' : let s = c.args in sound (program_of s.file.now) (config s.context s.cells.now s.store.now s.entities.now) ≡ true = sym c.check_state.ensures ∙ c.if-not-check_state.false in
     let within' : let s = c.args in Within s.file.now s.context (length s.cells.now) (length s.store.now) (length s.entities.now) = let s = c.args in passed s.file.now s.cells.now s.store.now s.entities.now s.context sound_here' in
     let h = few_statements _ _ within'.loaded in record { fits = omega (arith, h) }
 
 pub returns-then-buffer-statements : goal.returns-then-buffer-statements
 returns-then-buffer-statements c =
-    let sound_here' : let s = c.args in sound (program_of s.file.now) (config s.context s.cells.now s.store.now s.entities.now) ≡ true = sym c.check_state.ensures ∙ not-false _ c.if-not-check_state.false in
+    let sound_here' : let s = c.args in sound (program_of s.file.now) (config s.context s.cells.now s.store.now s.entities.now) ≡ true = sym c.check_state.ensures ∙ c.if-not-check_state.false in
     let sound_there' : let s = c.args in sound (with_unpacked (program_of s.file.now) s.buffer.now) (config s.context s.cells.now s.store.now s.entities.now) ≡ true = sound_kept _ _ _ ∙ sound_here' in
     let within' : let s = c.args in Within s.file.now s.context (length s.cells.now) (length s.store.now) (length s.entities.now) = let s = c.args in passed s.file.now s.cells.now s.store.now s.entities.now s.context sound_here' in
     run_37 _ _ _ _ _ _ _ sound_there' (no_room _ _ _ within'.loaded c.if-buffer-statements.true) _ c.not_run-then-buffer-statements.ensures
 
 pub returns-then-most-eq0 : goal.returns-then-most-eq0
 returns-then-most-eq0 c =
-    let sound_here' : let s = c.args in sound (program_of s.file.now) (config s.context s.cells.now s.store.now s.entities.now) ≡ true = sym c.check_state.ensures ∙ not-false _ c.if-not-check_state.false in
+    let sound_here' : let s = c.args in sound (program_of s.file.now) (config s.context s.cells.now s.store.now s.entities.now) ≡ true = sym c.check_state.ensures ∙ c.if-not-check_state.false in
     let sound_there' : let s = c.args in sound (with_unpacked (program_of s.file.now) s.buffer.now) (config s.context s.cells.now s.store.now s.entities.now) ≡ true = sound_kept _ _ _ ∙ sound_here' in
     let within' : let s = c.args in Within s.file.now s.context (length s.cells.now) (length s.store.now) (length s.entities.now) = let s = c.args in passed s.file.now s.cells.now s.store.now s.entities.now s.context sound_here' in
     let room' : let s = c.args in (with_unpacked (program_of s.file.now) s.buffer.now).room ≡ true = has_room _ _ _ within'.loaded c.if-buffer-statements.false in
@@ -53,7 +53,7 @@ returns-then-most-eq0 c =
 
 pub returns-then-context-down : goal.returns-then-context-down
 returns-then-context-down c =
-    let sound_here' : let s = c.args in sound (program_of s.file.now) (config s.context s.cells.now s.store.now s.entities.now) ≡ true = sym c.check_state.ensures ∙ not-false _ c.if-not-check_state.false in
+    let sound_here' : let s = c.args in sound (program_of s.file.now) (config s.context s.cells.now s.store.now s.entities.now) ≡ true = sym c.check_state.ensures ∙ c.if-not-check_state.false in
     let sound_there' : let s = c.args in sound (with_unpacked (program_of s.file.now) s.buffer.now) (config s.context s.cells.now s.store.now s.entities.now) ≡ true = sound_kept _ _ _ ∙ sound_here' in
     let within' : let s = c.args in Within s.file.now s.context (length s.cells.now) (length s.store.now) (length s.entities.now) = let s = c.args in passed s.file.now s.cells.now s.store.now s.entities.now s.context sound_here' in
     let room' : let s = c.args in (with_unpacked (program_of s.file.now) s.buffer.now).room ≡ true = has_room _ _ _ within'.loaded c.if-buffer-statements.false in
@@ -67,7 +67,7 @@ returns-then-context-down c =
 
 pub overflow_cast-most : goal.overflow_cast-most
 overflow_cast-most c =
-    let sound_here' : let s = c.args in sound (program_of s.file.now) (config s.context s.cells.now s.store.now s.entities.now) ≡ true = sym c.check_state.ensures ∙ not-false _ c.if-not-check_state.false in
+    let sound_here' : let s = c.args in sound (program_of s.file.now) (config s.context s.cells.now s.store.now s.entities.now) ≡ true = sym c.check_state.ensures ∙ c.if-not-check_state.false in
     let within' : let s = c.args in Within s.file.now s.context (length s.cells.now) (length s.store.now) (length s.entities.now) = let s = c.args in passed s.file.now s.cells.now s.store.now s.entities.now s.context sound_here' in
     let few = ltb-false c.args.context.settings.limit c.place_of-most.result c.if-settings-most.false in
     let w = within' in
@@ -75,13 +75,13 @@ overflow_cast-most c =
 
 pub run_for-requires : goal.run_for-requires
 run_for-requires c =
-    let sound_here' : let s = c.args in sound (program_of s.file.now) (config s.context s.cells.now s.store.now s.entities.now) ≡ true = sym c.check_state.ensures ∙ not-false _ c.if-not-check_state.false in
+    let sound_here' : let s = c.args in sound (program_of s.file.now) (config s.context s.cells.now s.store.now s.entities.now) ≡ true = sym c.check_state.ensures ∙ c.if-not-check_state.false in
     let within' : let s = c.args in Within s.file.now s.context (length s.cells.now) (length s.store.now) (length s.entities.now) = let s = c.args in passed s.file.now s.cells.now s.store.now s.entities.now s.context sound_here' in
     record { within = within'; apart = (λ h. absurd (omega (arith, h, c.if-context-down.false))); count_in_bounds = c.if-buffer-statements.false }
 
 pub returns : goal.returns
 returns c =
-    let sound_here' : let s = c.args in sound (program_of s.file.now) (config s.context s.cells.now s.store.now s.entities.now) ≡ true = sym c.check_state.ensures ∙ not-false _ c.if-not-check_state.false in
+    let sound_here' : let s = c.args in sound (program_of s.file.now) (config s.context s.cells.now s.store.now s.entities.now) ≡ true = sym c.check_state.ensures ∙ c.if-not-check_state.false in
     let sound_there' : let s = c.args in sound (with_unpacked (program_of s.file.now) s.buffer.now) (config s.context s.cells.now s.store.now s.entities.now) ≡ true = sound_kept _ _ _ ∙ sound_here' in
     let within' : let s = c.args in Within s.file.now s.context (length s.cells.now) (length s.store.now) (length s.entities.now) = let s = c.args in passed s.file.now s.cells.now s.store.now s.entities.now s.context sound_here' in
     let room' : let s = c.args in (with_unpacked (program_of s.file.now) s.buffer.now).room ≡ true = has_room _ _ _ within'.loaded c.if-buffer-statements.false in

@@ -28,4 +28,4 @@ returns-in-5 c = ap word_numbered (sym c.in-5.is)
 
 pub returns-in_default : goal.returns-in_default
 unfolding word_numbered
-returns-in_default c = other _ c.in_default.rest.0.0.0.1 c.in_default.rest.0.0.1 c.in_default.rest.0.1 c.in_default.rest.1
+returns-in_default c = other _ c.in_default.in_default-own.rest.0.0.0.1 c.in_default.in_default-own.rest.0.0.1 c.in_default.in_default-own.rest.0.1 c.in_default.in_default-own.rest.1

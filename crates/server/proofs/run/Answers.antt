@@ -16,11 +16,11 @@ use borrow.Author.Rules.{rules}
 use Rattle.server.proofs.run.Goals as goal
 
 pub returns-then-not-check_state : goal.returns-then-not-check_state
-returns-then-not-check_state c = run_13 _ _ _ _ _ _ _ _ (sym c.check_state.ensures ∙ not-true _ c.if-not-check_state.true) c.not_run.ensures
+returns-then-not-check_state c = run_13 _ _ _ _ _ _ _ _ (sym c.check_state.ensures ∙ c.if-not-check_state.true) c.not_run.ensures
 
 pub returns-then-most-eq0 : goal.returns-then-most-eq0
 returns-then-most-eq0 c =
-    let sound_here' : sound (program_of c.args.file.now) (config c.args.context c.args.cells.now c.args.store.now c.args.entities.now) ≡ true = sym c.check_state.ensures ∙ not-false _ c.if-not-check_state.false in
+    let sound_here' : sound (program_of c.args.file.now) (config c.args.context c.args.cells.now c.args.store.now c.args.entities.now) ≡ true = sym c.check_state.ensures ∙ c.if-not-check_state.false in
     let most' : c.place_of-most.result ≡ place_of 0 c.args.limit = let g : SFits w64 c.args.limit = search rules in
     (rw (to_z-of_z g) at c.place_of-most.ensures) in
     ⊎_elim
@@ -30,7 +30,7 @@ returns-then-most-eq0 c =
 
 pub returns-then-context-down : goal.returns-then-context-down
 returns-then-context-down c =
-    let sound_here' : sound (program_of c.args.file.now) (config c.args.context c.args.cells.now c.args.store.now c.args.entities.now) ≡ true = sym c.check_state.ensures ∙ not-false _ c.if-not-check_state.false in
+    let sound_here' : sound (program_of c.args.file.now) (config c.args.context c.args.cells.now c.args.store.now c.args.entities.now) ≡ true = sym c.check_state.ensures ∙ c.if-not-check_state.false in
     let most' : c.place_of-most.result ≡ place_of 0 c.args.limit = let g : SFits w64 c.args.limit = search rules in
     (rw (to_z-of_z g) at c.place_of-most.ensures) in
     let down' : c.place_of-down.result ≡ place_of c.args.context.depth c.args.target = let g : SFits w64 c.args.target = search rules in
@@ -39,18 +39,18 @@ returns-then-context-down c =
 
 pub overflow_cast-most : goal.overflow_cast-most
 overflow_cast-most c =
-    let sound_here' : sound (program_of c.args.file.now) (config c.args.context c.args.cells.now c.args.store.now c.args.entities.now) ≡ true = sym c.check_state.ensures ∙ not-false _ c.if-not-check_state.false in
+    let sound_here' : sound (program_of c.args.file.now) (config c.args.context c.args.cells.now c.args.store.now c.args.entities.now) ≡ true = sym c.check_state.ensures ∙ c.if-not-check_state.false in
     let few = ltb-false c.args.context.settings.limit c.place_of-most.result c.if-settings-most.false in
     omega (arith, few, (passed _ _ _ _ _ sound_here').range.limit_most)
 
 pub run_for-requires : goal.run_for-requires
 run_for-requires c =
-    let sound_here' : sound (program_of c.args.file.now) (config c.args.context c.args.cells.now c.args.store.now c.args.entities.now) ≡ true = sym c.check_state.ensures ∙ not-false _ c.if-not-check_state.false in
+    let sound_here' : sound (program_of c.args.file.now) (config c.args.context c.args.cells.now c.args.store.now c.args.entities.now) ≡ true = sym c.check_state.ensures ∙ c.if-not-check_state.false in
     record { within = passed _ _ _ _ _ sound_here'; apart = λ h. absurd (omega (arith, h, c.if-context-down.false)) }
 
 pub returns : goal.returns
 returns c =
-    let sound_here' : sound (program_of c.args.file.now) (config c.args.context c.args.cells.now c.args.store.now c.args.entities.now) ≡ true = sym c.check_state.ensures ∙ not-false _ c.if-not-check_state.false in
+    let sound_here' : sound (program_of c.args.file.now) (config c.args.context c.args.cells.now c.args.store.now c.args.entities.now) ≡ true = sym c.check_state.ensures ∙ c.if-not-check_state.false in
     let most' : c.place_of-most.result ≡ place_of 0 c.args.limit = let g : SFits w64 c.args.limit = search rules in
     (rw (to_z-of_z g) at c.place_of-most.ensures) in
     let down' : c.place_of-down.result ≡ place_of c.args.context.depth c.args.target = let g : SFits w64 c.args.target = search rules in

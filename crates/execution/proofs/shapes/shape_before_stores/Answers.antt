@@ -97,4 +97,4 @@ returns-in-30 c = at (Fields Address) 30 _ c.in-30.is refl
 
 pub returns-in_default : goal.returns-in_default
 unfolding value_op component_op vectors_to_float_op not_op opcodes shape_of
-returns-in_default c = let h = c.requires.0 in rest 0 31 (0 ∷ 2 ∷ 3 ∷ 4 ∷ 7 ∷ 9 ∷ 11 ∷ 12 ∷ 13 ∷ 14 ∷ 16 ∷ 17 ∷ 18 ∷ 19 ∷ 24 ∷ 25 ∷ 26 ∷ 27 ∷ 28 ∷ 29 ∷ 30 ∷ []) c.args.op (omega (arith, h)) (omega arith) h c.requires.1 (no_call_before _ h) refl c.in_default.rest
+returns-in_default c = let h = c.requires.0 in rest 0 31 (0 ∷ 2 ∷ 3 ∷ 4 ∷ 7 ∷ 9 ∷ 11 ∷ 12 ∷ 13 ∷ 14 ∷ 16 ∷ 17 ∷ 18 ∷ 19 ∷ 24 ∷ 25 ∷ 26 ∷ 27 ∷ 28 ∷ 29 ∷ 30 ∷ []) c.args.op (omega (arith, h)) (omega arith) h c.requires.1 (no_call_before _ h) refl c.in_default.in_default-own.rest

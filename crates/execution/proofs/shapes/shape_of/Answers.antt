@@ -108,4 +108,4 @@ returns-in-61 c = at Goto 61 _ c.in-61.is refl
 
 pub returns-in_default : goal.returns-in_default
 unfolding value_op component_op vectors_to_float_op not_op opcodes shape_of
-returns-in_default c = rest 31 66 (31 ∷ 32 ∷ 33 ∷ 34 ∷ 35 ∷ 36 ∷ 37 ∷ 38 ∷ 39 ∷ 40 ∷ 41 ∷ 42 ∷ 43 ∷ 44 ∷ 45 ∷ 46 ∷ 47 ∷ 48 ∷ 49 ∷ 50 ∷ 61 ∷ []) c.args.op c.requires.0 c.if-op-lt-STORE_F.false c.requires.0 c.requires.1 c.if-op.false refl c.in_default.rest
+returns-in_default c = rest 31 66 (31 ∷ 32 ∷ 33 ∷ 34 ∷ 35 ∷ 36 ∷ 37 ∷ 38 ∷ 39 ∷ 40 ∷ 41 ∷ 42 ∷ 43 ∷ 44 ∷ 45 ∷ 46 ∷ 47 ∷ 48 ∷ 49 ∷ 50 ∷ 61 ∷ []) c.args.op c.requires.0 c.if-op-lt-STORE_F.false c.requires.0 c.requires.1 c.if-op.false refl c.in_default.in_default-own.rest

@@ -42,4 +42,4 @@ returns-in-36 c = row _ _ _ c.in-36.is c.rint.ensures
 
 pub returns-in_default : goal.returns-in_default
 unfolding rounding_op rounding_of
-returns-in_default c = other _ _ c.in_default.rest.0.0.0.1 c.in_default.rest.0.0.1 c.in_default.rest.0.1 c.in_default.rest.1
+returns-in_default c = other _ _ c.in_default.in_default-own.rest.0.0.0.1 c.in_default.in_default-own.rest.0.0.1 c.in_default.in_default-own.rest.0.1 c.in_default.in_default-own.rest.1

@@ -16,16 +16,16 @@ use borrow.Author.Rules.{rules}
 use Rattle.progs.proofs.ExecutionContext.enter.Goals as goal
 
 pub returns-then-not-check_state : goal.returns-then-not-check_state
-returns-then-not-check_state c = enter_13 _ _ _ _ _ _ _ (sym c.check_state.ensures ∙ not-true _ c.if-not-check_state.true) (search rules)
+returns-then-not-check_state c = enter_13 _ _ _ _ _ _ _ (sym c.check_state.ensures ∙ c.if-not-check_state.true) (search rules)
 
 pub enter_function-requires : goal.enter_function-requires
 enter_function-requires c =
-    let sound_here' : sound (program_of c.args.file.now) (config c.args.self c.args.cells.now c.args.store.now c.args.entities.now) ≡ true = sym c.check_state.ensures ∙ not-false _ c.if-not-check_state.false in
+    let sound_here' : sound (program_of c.args.file.now) (config c.args.self c.args.cells.now c.args.store.now c.args.entities.now) ≡ true = sym c.check_state.ensures ∙ c.if-not-check_state.false in
     own_within _ _ _ _ _ (passed _ _ _ _ _ sound_here')
 
 pub returns : goal.returns
 returns c =
-    let sound_here' : sound (program_of c.args.file.now) (config c.args.self c.args.cells.now c.args.store.now c.args.entities.now) ≡ true = sym c.check_state.ensures ∙ not-false _ c.if-not-check_state.false in
+    let sound_here' : sound (program_of c.args.file.now) (config c.args.self c.args.cells.now c.args.store.now c.args.entities.now) ≡ true = sym c.check_state.ensures ∙ c.if-not-check_state.false in
     let place' : c.place_of-f.result ≡ place_of (length (program_of c.args.file.now).functions) c.args.function = let g : SFits w64 c.args.function = search rules in
     let n = function_count _ _ (passed _ _ _ _ _ sound_here').loaded in
     rw (n, ← c.function_count.ensures) (rw (to_z-of_z g) at c.place_of-f.ensures) in

@@ -11,21 +11,21 @@ use borrow.Author.Rules.{rules}
 use Rattle.progs.proofs.ExecutionContext.write_all.Goals as goal
 
 pub returns-then-not-check_state : goal.returns-then-not-check_state
-returns-then-not-check_state c = write_all_13 _ _ _ _ _ _ _ (sym c.check_state.ensures ∙ not-true _ c.if-not-check_state.true) (search rules)
+returns-then-not-check_state c = write_all_13 _ _ _ _ _ _ _ (sym c.check_state.ensures ∙ c.if-not-check_state.true) (search rules)
 
 pub write_all-refusal-requires : goal.write_all-refusal-requires
 write_all-refusal-requires c =
-    let sound_here' : sound (program_of c.args.file.now) (config c.args.self c.args.cells.now c.args.store.now c.args.entities.now) ≡ true = sym c.check_state.ensures ∙ not-false _ c.if-not-check_state.false in
+    let sound_here' : sound (program_of c.args.file.now) (config c.args.self c.args.cells.now c.args.store.now c.args.entities.now) ≡ true = sym c.check_state.ensures ∙ c.if-not-check_state.false in
     omega (arith, c.cell_count.ensures, (passed _ _ _ _ _ sound_here').lent)
 
 pub returns-then-refusal-ne0 : goal.returns-then-refusal-ne0
 returns-then-refusal-ne0 c =
-    let sound_here' : sound (program_of c.args.file.now) (config c.args.self c.args.cells.now c.args.store.now c.args.entities.now) ≡ true = sym c.check_state.ensures ∙ not-false _ c.if-not-check_state.false in
+    let sound_here' : sound (program_of c.args.file.now) (config c.args.self c.args.cells.now c.args.store.now c.args.entities.now) ≡ true = sym c.check_state.ensures ∙ c.if-not-check_state.false in
     let w = c.write_all-refusal.ensures in
     write_all_refused _ _ _ _ _ _ _ _ c.cell_count.ensures sound_here' w.0 _ w.1 _ c.if-refusal-ne0.true (search rules)
 
 pub returns : goal.returns
 returns c =
-    let sound_here' : sound (program_of c.args.file.now) (config c.args.self c.args.cells.now c.args.store.now c.args.entities.now) ≡ true = sym c.check_state.ensures ∙ not-false _ c.if-not-check_state.false in
+    let sound_here' : sound (program_of c.args.file.now) (config c.args.self c.args.cells.now c.args.store.now c.args.entities.now) ≡ true = sym c.check_state.ensures ∙ c.if-not-check_state.false in
     let w = c.write_all-refusal.ensures in
     write_all_done _ _ _ _ _ _ _ _ c.cell_count.ensures sound_here' w.0 _ w.1 c.if-refusal-ne0.false

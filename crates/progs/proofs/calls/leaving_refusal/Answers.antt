@@ -12,7 +12,7 @@ pub returns-then-held-locals : goal.returns-then-held-locals
 returns-then-held-locals c = λ P f e. leave_26 (numbered_in f c.args.depth c.args.held c.args.count) _ P e c.if-depth-eq0.false c.if-held-locals.true
 
 pub returns-then-not-in_range : goal.returns-then-not-in_range
-returns-then-not-in_range c = λ P f e. leave_15 (numbered_in f c.args.depth c.args.held c.args.count) _ P e _ refl c.if-depth-eq0.false c.if-held-locals.false (sym c.in_range.ensures ∙ not-true _ c.if-not-in_range.true)
+returns-then-not-in_range c = λ P f e. leave_15 (numbered_in f c.args.depth c.args.held c.args.count) _ P e _ refl c.if-depth-eq0.false c.if-held-locals.false (sym c.in_range.ensures ∙ c.if-not-in_range.true)
 
 pub returns : goal.returns
-returns c = λ P f e. leave_0 (numbered_in f c.args.depth c.args.held c.args.count) _ P e _ refl c.if-depth-eq0.false c.if-held-locals.false (sym c.in_range.ensures ∙ not-false _ c.if-not-in_range.false)
+returns c = λ P f e. leave_0 (numbered_in f c.args.depth c.args.held c.args.count) _ P e _ refl c.if-depth-eq0.false c.if-held-locals.false (sym c.in_range.ensures ∙ c.if-not-in_range.false)

@@ -11,13 +11,13 @@ use borrow.Author.Rules.{rules}
 use Rattle.progs.proofs.calls.return_cells.Goals as goal
 
 pub returns-then-not-in_range : goal.returns-then-not-in_range
-returns-then-not-in_range c = λ P q. rw c.no_leaving.ensures (returning_15 P _ (numbered_in c.args.f c.args.depth c.args.held c.args.count) _ _ (sym c.in_range.ensures ∙ not-true _ c.if-not-in_range.true))
+returns-then-not-in_range c = λ P q. rw c.no_leaving.ensures (returning_15 P _ (numbered_in c.args.f c.args.depth c.args.held c.args.count) _ _ (sym c.in_range.ensures ∙ c.if-not-in_range.true))
 
 pub returns-then-refusal-ne0 : goal.returns-then-refusal-ne0
-returns-then-refusal-ne0 c = λ P q. returning_refused P _ (numbered_in c.args.f c.args.depth c.args.held c.args.count) _ _ (sym c.in_range.ensures ∙ not-false _ c.if-not-in_range.false) _ _ c.no_leaving-then-refusal-ne0.ensures (c.leaving_refusal-refusal.ensures P _ (c.locals_of-locals.ensures P q)) c.if-refusal-ne0.true
+returns-then-refusal-ne0 c = λ P q. returning_refused P _ (numbered_in c.args.f c.args.depth c.args.held c.args.count) _ _ (sym c.in_range.ensures ∙ c.if-not-in_range.false) _ _ c.no_leaving-then-refusal-ne0.ensures (c.leaving_refusal-refusal.ensures P _ (c.locals_of-locals.ensures P q)) c.if-refusal-ne0.true
 
 pub copy_cells-requires : goal.copy_cells-requires
-copy_cells-requires c = record { cells_value = present_more _ _ _ _ c.requires.3 (sym c.in_range.ensures ∙ not-false _ c.if-not-in_range.false); cells_value_2 = present_of _ _ _ (omega (arith, c.requires.2, c.requires.3)) }
+copy_cells-requires c = record { cells_value = present_more _ _ _ _ c.requires.3 (sym c.in_range.ensures ∙ c.if-not-in_range.false); cells_value_2 = present_of _ _ _ (omega (arith, c.requires.2, c.requires.3)) }
 
 pub overflow_sub-held : goal.overflow_sub-held
 overflow_sub-held c =
@@ -37,4 +37,4 @@ pub returns : goal.returns
 returns c =
     λ P q.
     let range = c.locals_of-locals.ensures P q in
-    returning_done P _ (numbered_in c.args.f c.args.depth c.args.held c.args.count) _ _ (sym c.in_range.ensures ∙ not-false _ c.if-not-in_range.false) _ _ _ (sym (c.leaving_refusal-refusal.ensures P _ range) ∙ c.if-refusal-ne0.false) range c.copy_cells.ensures c.move_cells.ensures
+    returning_done P _ (numbered_in c.args.f c.args.depth c.args.held c.args.count) _ _ (sym c.in_range.ensures ∙ c.if-not-in_range.false) _ _ _ (sym (c.leaving_refusal-refusal.ensures P _ range) ∙ c.if-refusal-ne0.false) range c.copy_cells.ensures c.move_cells.ensures

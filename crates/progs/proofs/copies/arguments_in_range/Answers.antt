@@ -20,16 +20,16 @@ pub overflow_add-i : goal.overflow_add-i
 overflow_add-i c = omega arith
 
 pub returns-then-not-in_range : goal.returns-then-not-in_range
-returns-then-not-in_range c = no_source _ _ _ _ c.loop-i-test.true (omega arith) _ (sym c.in_range.ensures ∙ not-true _ c.if-not-in_range.true) ∙ c.loop-i.invariant.1
+returns-then-not-in_range c = no_source _ _ _ _ c.loop-i-test.true (omega arith) _ (sym c.in_range.ensures ∙ c.if-not-in_range.true) ∙ c.loop-i.invariant.1
 
 pub returns-then-not-in_range-2 : goal.returns-then-not-in_range-2
 returns-then-not-in_range-2 c =
-    no_target _ _ _ _ c.loop-i-test.true (omega arith) _ (sym c.in_range.ensures ∙ not-false _ c.if-not-in_range.false) (sym c.in_range-in-loop-i.ensures ∙ not-true _ c.if-not-in_range-2.true)
+    no_target _ _ _ _ c.loop-i-test.true (omega arith) _ (sym c.in_range.ensures ∙ c.if-not-in_range.false) (sym c.in_range-in-loop-i.ensures ∙ c.if-not-in_range-2.true)
     ∙ c.loop-i.invariant.1
 
 pub overflow_add-to : goal.overflow_add-to
 overflow_add-to c =
-    let target' : present c.loop-i.to (get_or c.args.t1 c.loop-i.i 0) c.args.size ≡ true = sym c.in_range-in-loop-i.ensures ∙ not-false _ c.if-not-in_range-2.false in
+    let target' : present c.loop-i.to (get_or c.args.t1 c.loop-i.i 0) c.args.size ≡ true = sym c.in_range-in-loop-i.ensures ∙ c.if-not-in_range-2.false in
     let next' : c.loop-i.to + get_or c.args.t1 c.loop-i.i 0 < 2 ^ 64 = present_ends _ _ _ target' (omega arith) (omega arith) in
     record { fits = next' }
 
@@ -41,9 +41,9 @@ loop-i-smaller c = omega arith
 
 pub loop-i-preserved : goal.loop-i-preserved
 loop-i-preserved c =
-    let target' : present c.loop-i.to (get_or c.args.t1 c.loop-i.i 0) c.args.size ≡ true = sym c.in_range-in-loop-i.ensures ∙ not-false _ c.if-not-in_range-2.false in
+    let target' : present c.loop-i.to (get_or c.args.t1 c.loop-i.i 0) c.args.size ≡ true = sym c.in_range-in-loop-i.ensures ∙ c.if-not-in_range-2.false in
     let next' : c.loop-i.to + get_or c.args.t1 c.loop-i.i 0 < 2 ^ 64 = present_ends _ _ _ target' (omega arith) (omega arith) in
-    ((omega arith, (next', omega arith)), both_there _ _ _ _ c.loop-i-test.true (omega arith) _ (sym c.in_range.ensures ∙ not-false _ c.if-not-in_range.false) target' ∙ c.loop-i.invariant.1)
+    ((omega arith, (next', omega arith)), both_there _ _ _ _ c.loop-i-test.true (omega arith) _ (sym c.in_range.ensures ∙ c.if-not-in_range.false) target' ∙ c.loop-i.invariant.1)
 
 pub returns : goal.returns
 returns c = copies_none _ _ _ _ _ c.loop-i-test.false ∙ c.loop-i.invariant.1

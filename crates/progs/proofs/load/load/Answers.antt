@@ -15,11 +15,11 @@ use borrow.Author.Rules.{rules}
 use Rattle.progs.proofs.load.load.Goals as goal
 
 pub returns-then-not-settings_fit : goal.returns-then-not-settings_fit
-returns-then-not-settings_fit c = load_36 _ _ _ _ _ _ _ (sym c.settings_fit.ensures ∙ not-true _ c.if-not-settings_fit.true) c.of_nothing.ensures
+returns-then-not-settings_fit c = load_36 _ _ _ _ _ _ _ (sym c.settings_fit.ensures ∙ c.if-not-settings_fit.true) c.of_nothing.ensures
 
 pub returns-then-refusal-ne0 : goal.returns-then-refusal-ne0
 returns-then-refusal-ne0 c =
-    let fit' : settings_fit c.args.settings ≡ true = sym c.settings_fit.ensures ∙ not-false _ c.if-not-settings_fit.false in
+    let fit' : settings_fit c.args.settings ≡ true = sym c.settings_fit.ensures ∙ c.if-not-settings_fit.false in
     let given' : c.place_of-given.result ≡ entities_given c.args.number = let g : SFits w64 c.args.number = search rules in
     (rw (to_z-of_z g) at c.place_of-given.ensures) in
     let number' : c.file_refusal-refusal.result ≡ judge (file_conditions least_cells c.args.settings.check_number c.args.file.now (entities_given c.args.number) (length c.args.cells.now) (length c.args.store.now) (length c.args.entities.now)) = rw given' at c.file_refusal-refusal.ensures in
@@ -53,7 +53,7 @@ fill-requires c =
 
 pub returns : goal.returns
 returns c =
-    let fit' : settings_fit c.args.settings ≡ true = sym c.settings_fit.ensures ∙ not-false _ c.if-not-settings_fit.false in
+    let fit' : settings_fit c.args.settings ≡ true = sym c.settings_fit.ensures ∙ c.if-not-settings_fit.false in
     let given' : c.place_of-given.result ≡ entities_given c.args.number = let g : SFits w64 c.args.number = search rules in
     (rw (to_z-of_z g) at c.place_of-given.ensures) in
     let number' : c.file_refusal-refusal.result ≡ judge (file_conditions least_cells c.args.settings.check_number c.args.file.now (entities_given c.args.number) (length c.args.cells.now) (length c.args.store.now) (length c.args.entities.now)) = rw given' at c.file_refusal-refusal.ensures in

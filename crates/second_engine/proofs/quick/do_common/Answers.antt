@@ -33,7 +33,7 @@ loop-went-preserved c =
     let g : SFits w64 c.loop-went.went.pc = search rules in
     let o = c.do_one-turn in
     let f : SFits w64 o.result.pc = search rules in
-    let yes : o.result.done ≡ true = not-false _ c.if-not-turn.false in
+    let yes : o.result.done ≡ true = c.if-not-turn.false in
     ((omega (arith, c.loop-went-test.true), o.auto.1.1.1.0 ∙ c.loop-went.invariant.0.1), λ k e hs all. rw (to_z-of_z f) (goes_one _ _ _ _ _ _ _ _ (c.loop-went.invariant.1 k e hs all) (was_done o.result.done _ _ _ c.loop-went.cells yes (rw (to_z-of_z g) at (o.ensures k e hs all)))))
 
 pub shape_of-cells-after-loop-went : goal.shape_of-cells-after-loop-went
@@ -49,5 +49,5 @@ pub returns-then-not-turn : goal.returns-then-not-turn
 returns-then-not-turn c =
     let g : SFits w64 c.loop-went.went.pc = search rules in
     let o = c.do_one-turn in
-    let no : o.result.done ≡ false = not-true _ c.if-not-turn.true in
+    let no : o.result.done ≡ false = c.if-not-turn.true in
     (c.loop-went.invariant.0.0, λ k e hs all. rw (to_z-of_z c.ranges.pc) at (goes_same _ _ _ _ _ _ _ (was_not o.result.done _ _ _ c.loop-went.cells no (rw (to_z-of_z g) at (o.ensures k e hs all))) (c.loop-went.invariant.1 k e hs all)))
