@@ -1,3 +1,1 @@
 mod Finding
-mod Readers
-mod Plain

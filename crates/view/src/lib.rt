@@ -1,5 +1,5 @@
 // The functions of a file (functions.rs, Functions) as a view that holds the lent bytes. Its readers take it apart and call a covered function on the
-// slice and the numbers. Each stands a second time with plain parameters, since a function that makes or takes a view is proved by hand.
+// slice and the numbers. Each stands a second time with plain parameters, for callers that hold no view.
 #![tactic(auto)]
 
 ghost use Rattle.std.specs.Prelude.{◌≡◌};

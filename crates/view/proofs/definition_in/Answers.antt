@@ -4,8 +4,6 @@ use mathlib.Core.Bool.{true}
 use native.Mathlib.Omega.{arith}
 use lib.ListN.{length}
 use mir.Facts.{to_z-of_z}
-use borrow.Author.Rules.{rules}
-use borrow.Author.Tests.{not-true, not-false}
 use Rattle.definition.specs.File.{lump_fits}
 use Rattle.definition.specs.Statements.{place_of}
 use Rattle.functions.specs.Laws.{lump_at_law}

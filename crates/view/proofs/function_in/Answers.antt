@@ -3,8 +3,6 @@ use mathlib.Core.Bool.{true}
 use native.Mathlib.Omega.{arith}
 use lib.ListN.{length}
 use mir.Facts.{to_z-of_z}
-use borrow.Author.Rules.{rules}
-use borrow.Author.Tests.{not-true, not-false}
 use Rattle.definition.specs.File.{lump_fits}
 use Rattle.definition.specs.Statements.{place_of}
 use Rattle.view.proofs.Finding.{function_outside, function_absent, function_there, function_below}
