@@ -1,4 +1,3 @@
-use borrow.Author.Rules.{rules}
 use Rattle.typed.proofs.Lookup.{first_binds, none_so_high}
 use Rattle.typed.proofs.find.Goals as goal
 

@@ -1,12 +1,11 @@
 -- The definitions from number i on give what all of them give.
-use Prim.Native.Nat.{◌-◌, ◌*◌, ◌+◌, ◌/◌, ◌≤◌}
-use mathlib.Core.Path.{◌≡◌, ap, ◌∙◌}
+use Prim.Native.Nat.{◌*◌, ◌+◌, ◌≤◌}
+use mathlib.Core.Path.{ap, ◌∙◌}
 use native.Mathlib.Omega.{arith}
 use lib.ListN.{length}
 use Rattle.definition.specs.Cells.{lookup}
-use Rattle.functions.specs.Parts.{definitions_in}
 use Rattle.functions.specs.PartLaws.{record_ends}
-use Rattle.typed.proofs.Lookup.{rest, from_the_first, lookup_none_left, found_at, passed_over}
+use Rattle.typed.proofs.Lookup.{from_the_first, lookup_none_left, found_at, passed_over}
 use Rattle.typed.proofs.find_past_void.Goals as goal
 
 pub loop-i-init : goal.loop-i-init

@@ -1,14 +1,13 @@
 -- The definitions from number i on give what all of them give, and their number is even.
-use Prim.Native.Nat.{◌+◌, ◌-◌, ◌*◌, ◌/◌, ◌%◌, ◌≤◌}
+use Prim.Native.Nat.{◌+◌, ◌*◌, ◌≤◌}
 use mathlib.Core.Path.{◌≡◌, refl, ap, ◌∙◌}
-use mathlib.Core.Logic.{⊎_elim}
 use native.Mathlib.Omega.{arith}
 use lib.ListN.{length}
-use Rattle.functions.specs.Parts.{definitions_in}
 use Rattle.functions.specs.PartLaws.{record_ends}
 use Rattle.typed.specs.Typing.{first_in}
-use Rattle.typed.proofs.Lookup.{rest, from_the_first, first_none_left, first_at, first_passed_over, odd_start, even_start}
+use Rattle.typed.proofs.Lookup.{from_the_first, first_none_left, first_at, first_passed_over, odd_start, even_start}
 use Rattle.typed.proofs.first_type.Goals as goal
+use Rattle.typed.proofs.first_type.Goals.{then-i-eq1+else-u16_at-wanted, else-i-eq1}
 
 pub u16_at-requires : goal.u16_at-requires
 u16_at-requires c = omega (arith, record_ends 8 (length c.args.defs.now) 0 (omega arith) (omega arith))
@@ -23,7 +22,11 @@ returns-then-u16_at-wanted c =
     ∙ ap (λ ds. first_in ds s.wanted) (from_the_first s.defs.now)
 
 pub loop-i-init : goal.loop-i-init
-loop-i-init c = (omega arith, omega arith, ⊎_elim (λ w. odd_start _ _ w.0.taken _ w.1.ensures w.2.left) (λ w. even_start _ _ w.left) c.if-i-eq1.branch)
+loop-i-init c = (
+  omega arith,
+  omega arith,
+  elim c.if-i-eq1.branch [ then-i-eq1+else-u16_at-wanted w ↦ odd_start _ _ w.if-i-eq1.true _ w.u16_at.ensures w.if-u16_at-wanted.false | else-i-eq1 w ↦ even_start _ _ w.if-i-eq1.false ],
+)
 
 pub overflow_mul-at : goal.overflow_mul-at
 overflow_mul-at c =

@@ -1,13 +1,10 @@
 -- The definitions from number i on give what all of them give, and their number is even.
-use Prim.Native.Nat.{◌+◌, ◌-◌, ◌*◌, ◌/◌, ◌%◌, ◌≤◌}
-use mathlib.Core.Path.{◌≡◌, refl, ap, ◌∙◌}
-use mathlib.Core.Logic.{⊎_elim}
-use native.Mathlib.Omega.{arith}
+use Prim.Native.Nat.{◌-◌, ◌/◌, ◌%◌, ◌≤◌}
+use mathlib.Core.Path.{◌≡◌}
 use lib.ListN.{length}
 use Rattle.functions.specs.Parts.{definitions_in}
-use Rattle.functions.specs.PartLaws.{record_ends}
 use Rattle.typed.specs.Typing.{first_in}
-use Rattle.typed.proofs.Lookup.{rest, from_the_first, first_none_left, first_at, first_passed_over, odd_start, even_start}
+use Rattle.typed.proofs.Lookup.{rest}
 use Rattle.typed.proofs.first_type.Given as goal
 
 abbrev pub invariant-loop-i : goal.invariant-loop-i

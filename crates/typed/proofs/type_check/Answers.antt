@@ -1,5 +1,4 @@
 use Rattle.typed.proofs.Lookup.{type_none, type_passed, type_failed}
-use mathlib.Core.Path.{sym}
 use borrow.Author.Rules.{rules}
 use Rattle.typed.proofs.type_check.Goals as goal
 
