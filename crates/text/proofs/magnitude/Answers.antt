@@ -1,6 +1,5 @@
 -- `text::magnitude` meets its contract: below 0, what the number is short of -1 fits, and is one less than its size. Assumes nothing.
 use native.Mathlib.Omega.{arith}
-use borrow.Author.Rules.{rules}
 use mir.Syntax.{w64}
 use mir.Facts.{to_z_pos}
 use Rattle.text.proofs.Signed.{short_of_minus_one, without_sign, cast_above}

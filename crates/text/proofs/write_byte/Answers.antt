@@ -1,6 +1,5 @@
 -- `text::write_byte` meets its contract: what `put` does of one byte is the store. Assumes nothing.
 use mathlib.Core.Path.{refl}
-use borrow.Author.Rules.{rules}
 use Rattle.text.specs.Output.{put}
 use Rattle.text.proofs.write_byte.Goals as goal
 

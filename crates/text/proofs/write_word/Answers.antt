@@ -1,5 +1,4 @@
 -- `text::write_word` meets its contract: at each answer the bytes are the word's letters. Assumes nothing.
-use borrow.Author.Rules.{rules}
 use Rattle.text.specs.Output.{room_same, put_same}
 use Rattle.text.proofs.write_word.Goals as goal
 
