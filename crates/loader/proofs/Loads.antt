@@ -17,7 +17,7 @@ use Rattle.functions.specs.Laws.{AllFit, all_fit, entity_size}
 pub record Loads (file : List ℕ) (lent : ℕ) (r : FileRecord) : Type 0 where
   pub header : 60 ≤ length file
   pub lumps : AllFit (length file) r
-  pub cells_fit_law : r.globals.count ≤ lent
+  pub cells_fit : r.globals.count ≤ lent
   pub cells_most : r.globals.count ≤ 32768
   pub size : r.entityfields < 2147483648
 
@@ -31,4 +31,4 @@ loads least check file n lent store entities r z e =
     let bytes : 60 ≤ length file = leb-true _ _ (and_left (leb 60 (length file)) (leb (length file) 1048576) rows.header.0) in
     let fits : count ≤ lent = leb-true _ _ (and_left (leb count lent) (leb 2048 store) rows.cells.1.1.0) in
     let most : count ≤ 32768 = leb-true _ _ (and_right (leb least count) (leb count 32768) rows.cells.0) in
-    rw e (record { header = bytes; lumps = all_fit f rows.header.1.1.1.0; cells_fit_law = fits; cells_most = most; size = (entity_size f rows.cells.1.0).most })
+    rw e (record { header = bytes; lumps = all_fit f rows.header.1.1.1.0; cells_fit = fits; cells_most = most; size = (entity_size f rows.cells.1.0).most })

@@ -41,7 +41,7 @@ present_some first n size e h = rw (ne_eqb n 0 e) (by (leb first (size - n)) ref
 
 pub present_of : (first n size : ℕ) → first + n ≤ size → present first n size ≡ true
 unfolding present
-present_of first n size h = rw (le-leb (first + n) size h, mathlib.Core.Bool.or_true)
+present_of first n size h = rw (le-leb (first + n) size h, mathlib.Core.Bool.or-true)
 
 pub present_more : (first n size more : ℕ) → size ≤ more → present first n size ≡ true → present first n more ≡ true
 present_more first n size more h e = ⊎_elim (λ z. sym (present_none first n more z)) (λ l. present_of first n more (omega arith)) (present_cases first n size e)

@@ -36,7 +36,7 @@ pub leavings_refusal-refusal-requires : goal.leavings_refusal-refusal-requires
 leavings_refusal-refusal-requires c =
     let sound_here' : sound (program_of c.args.file.now) (config c.args.self c.args.cells.now c.args.store.now c.args.entities.now) ≡ true = sym c.check_state.ensures ∙ c.if-not-check_state.false in
     let within' : Within c.args.file.now c.args.self (length c.args.cells.now) (length c.args.store.now) (length c.args.entities.now) = passed _ _ _ _ _ sound_here' in
-    let w = within' in (w.loaded, w.depth)
+    record { loaded = within'.loaded; depth_bound = within'.depth }
 
 pub returns-then-refusal-ne0 : goal.returns-then-refusal-ne0
 returns-then-refusal-ne0 c =

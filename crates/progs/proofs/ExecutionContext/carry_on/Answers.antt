@@ -43,4 +43,5 @@ returns c =
     let sound_here' : sound (program_of c.args.file.now) (config c.args.self c.args.cells.now c.args.store.now c.args.entities.now) ≡ true = sym c.check_state.ensures ∙ c.if-not-check_state.false in
     let within' : Within c.args.file.now c.args.self (length c.args.cells.now) (length c.args.store.now) (length c.args.entities.now) = passed _ _ _ _ _ sound_here' in
     let g : SFits w64 c.args.self.pc = search rules in
-    carry_done _ _ _ _ _ sound_here' _ (c.carry_on_refusal-refusal.ensures _) c.if-refusal-ne0.false within'.loaded _ c.after.result (c.after.ensures ∙ ap (λ (i : ℕ). pos i +ℤ pos 1) (rw (to_z-of_z g) at c.place_of.ensures)) refl
+    let k : SFits w64 c.after.result = search rules in
+    rw (to_z-of_z k) (carry_done _ _ _ _ _ sound_here' _ (c.carry_on_refusal-refusal.ensures _) c.if-refusal-ne0.false within'.loaded _ c.after.result (c.after.ensures ∙ ap (λ (i : ℕ). pos i +ℤ pos 1) (rw (to_z-of_z g) at c.place_of.ensures)) refl)

@@ -21,7 +21,7 @@ hands_over-requires c =
     (rw (to_z-of_z g) at c.fetch-fetched.ensures) ∙ fetched_here _ _ c.requires.loaded _ _ c.part-statements.ensures in
     let w = c.requires in
     let a = fetch_accepts _ _ _ _ (sym c.in-At.is ∙ fetched_there') in
-    (record { lumps = w.loaded.lumps; most = w.most; lends = w.lent }, a.opcode)
+    record { usable = record { lumps = w.loaded.lumps; most = w.most; lends = w.lent }; opcode_bound = a.opcode }
 
 pub returns-then-hands_over : goal.returns-then-hands_over
 returns-then-hands_over c =

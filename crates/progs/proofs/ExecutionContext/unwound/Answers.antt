@@ -25,18 +25,16 @@ locals-locals-requires c = c.loop-context.invariant.0.1.0.loaded
 pub leave_function-context-requires : goal.leave_function-context-requires
 leave_function-context-requires c =
     let ok' : Leaves c.loop-context.context c.locals-locals.result = leaves _ _ _ c.locals-locals.ensures (leaves_first _ _ _ c.loop-context-test.true c.loop-context.invariant.0.1.1) in
-    let a = ok' in let w = c.loop-context.invariant.0.1.0 in ((a.inside, w.depth), ((a.enough, omega (arith, w.store, w.held)), present_more _ _ _ _ w.lent a.locals_there))
+    let a = ok' in let w = c.loop-context.invariant.0.1.0 in record { depth_nonzero = (a.inside, w.depth); count_le_saved = (a.enough, omega (arith, w.store, w.held)); cells_value = present_more _ _ _ _ w.lent a.locals_there }
 
--- look: helper `gives` is not read
 pub loop-context-smaller : goal.loop-context-smaller
 loop-context-smaller c =
-    let after' : state_of c.leave_function-context.result ≡ (left (program_of c.args.file.now) (bare c.loop-context.context)).state = left_state _ _ _ _ _ _ [] (gives' []) in
+    let after' : state_of c.leave_function-context.result ≡ (left (program_of c.args.file.now) (bare c.loop-context.context)).state = left_state _ _ _ _ _ _ [] (c.leave_function-context.ensures (program_of c.args.file.now) [] c.locals-locals.ensures) in
     omega (arith, depth_falls _ _ _ after')
 
--- look: helper `gives` is not read
 pub loop-context-preserved : goal.loop-context-preserved
 loop-context-preserved c =
-    let after' : state_of c.leave_function-context.result ≡ (left (program_of c.args.file.now) (bare c.loop-context.context)).state = left_state _ _ _ _ _ _ [] (gives' []) in
+    let after' : state_of c.leave_function-context.result ≡ (left (program_of c.args.file.now) (bare c.loop-context.context)).state = left_state _ _ _ _ _ _ [] (c.leave_function-context.ensures (program_of c.args.file.now) [] c.locals-locals.ensures) in
     let k = c.leave_function-context.auto.cells in
     let j = c.loop-context.invariant.0.1.1 in
     let m = c.loop-context-test.true in (
@@ -44,7 +42,7 @@ loop-context-preserved c =
         omega (arith, k),
         (rw k (left_within _ _ _ _ _ _ c.loop-context.invariant.0.1.0 _ after'), leavings_on _ _ _ m _ after' (leaves_first _ _ _ m j) ∙ j),
       ),
-      λ entities. times_on _ _ _ m _ _ entities _ _ (gives' entities) ∙ c.loop-context.invariant.1 entities,
+      λ entities. times_on _ _ _ m _ _ entities _ _ (c.leave_function-context.ensures (program_of c.args.file.now) entities c.locals-locals.ensures) ∙ c.loop-context.invariant.1 entities,
     )
 
 pub returns : goal.returns

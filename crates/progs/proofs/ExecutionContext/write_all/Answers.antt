@@ -22,10 +22,10 @@ pub returns-then-refusal-ne0 : goal.returns-then-refusal-ne0
 returns-then-refusal-ne0 c =
     let sound_here' : sound (program_of c.args.file.now) (config c.args.self c.args.cells.now c.args.store.now c.args.entities.now) ≡ true = sym c.check_state.ensures ∙ c.if-not-check_state.false in
     let w = c.write_all-refusal.ensures in
-    write_all_refused _ _ _ _ _ _ _ _ c.cell_count.ensures sound_here' w.0 _ w.1 _ c.if-refusal-ne0.true (search rules)
+    write_all_refused _ _ _ _ _ _ _ _ c.cell_count.ensures sound_here' w.value _ w.cells_after _ c.if-refusal-ne0.true (search rules)
 
 pub returns : goal.returns
 returns c =
     let sound_here' : sound (program_of c.args.file.now) (config c.args.self c.args.cells.now c.args.store.now c.args.entities.now) ≡ true = sym c.check_state.ensures ∙ c.if-not-check_state.false in
     let w = c.write_all-refusal.ensures in
-    write_all_done _ _ _ _ _ _ _ _ c.cell_count.ensures sound_here' w.0 _ w.1 c.if-refusal-ne0.false
+    write_all_done _ _ _ _ _ _ _ _ c.cell_count.ensures sound_here' w.value _ w.cells_after c.if-refusal-ne0.false

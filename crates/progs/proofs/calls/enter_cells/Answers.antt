@@ -29,7 +29,7 @@ move_cells-requires c =
     let there = functions_there _ _ P refl c.if-functions-f.false in
     let read = functions_read _ _ _ P refl c.get_def-def.ensures in
     accepted _ _ P c.args.f there read (sym (c.entry_refusal-refusal.ensures P c.args.f there read) ∙ c.if-refusal-ne0.false) in
-    let a = ok' in (present_more _ _ _ _ c.requires.3 a.locals_there, present_of _ _ _ (omega (arith, a.room.locals_fit, c.requires.1, c.requires.2)))
+    let a = ok' in record { src_value = present_more _ _ _ _ c.requires.3 a.locals_there; dst_value = present_of _ _ _ (omega (arith, a.room.locals_fit, c.requires.1, c.requires.2)) }
 
 pub copy_arguments-requires : goal.copy_arguments-requires
 copy_arguments-requires c =
@@ -37,7 +37,7 @@ copy_arguments-requires c =
     let there = functions_there _ _ P refl c.if-functions-f.false in
     let read = functions_read _ _ _ P refl c.get_def-def.ensures in
     accepted _ _ P c.args.f there read (sym (c.entry_refusal-refusal.ensures P c.args.f there read) ∙ c.if-refusal-ne0.false) in
-    let a = ok' in (a.few, copies_more _ _ _ c.requires.3 a.arguments_there)
+    let a = ok' in record { argc_bound = a.few; argsz_value = copies_more _ _ _ c.requires.3 a.arguments_there }
 
 pub returns : goal.returns
 returns c =

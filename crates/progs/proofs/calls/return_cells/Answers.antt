@@ -31,7 +31,7 @@ move_cells-requires c =
     let ok' : Leaves (numbered_in c.args.f c.args.depth c.args.held c.args.count) c.locals_of-locals.result = let P = functions_program (functions_in c.args.functions.now) in
     let range = c.locals_of-locals.ensures P refl in
     leaves (numbered_in c.args.f c.args.depth c.args.held c.args.count) _ P range (sym (c.leaving_refusal-refusal.ensures P _ range) ∙ c.if-refusal-ne0.false) in
-    let a = ok' in (present_of _ _ _ (omega (arith, a.enough, c.requires.0, c.requires.1)), present_more _ _ _ _ (omega (arith, c.requires.3, c.copy_cells.auto.cells)) a.locals_there)
+    let a = ok' in record { src_value = present_of _ _ _ (omega (arith, a.enough, c.requires.0, c.requires.1)); dst_value = present_more _ _ _ _ (omega (arith, c.requires.3, c.copy_cells.auto.cells)) a.locals_there }
 
 pub returns : goal.returns
 returns c =

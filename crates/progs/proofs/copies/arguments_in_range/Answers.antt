@@ -29,8 +29,8 @@ returns-then-not-in_range-2 c =
 
 pub overflow_add-to : goal.overflow_add-to
 overflow_add-to c =
-    let target' : present c.loop-i.to (get_or c.args.t1 c.loop-i.i 0) c.args.size ≡ true = sym c.in_range-in-loop-i.ensures ∙ c.if-not-in_range-2.false in
-    let next' : c.loop-i.to + get_or c.args.t1 c.loop-i.i 0 < 2 ^ 64 = present_ends _ _ _ target' (omega arith) (omega arith) in
+    let target' : present c.loop-i.to (get_or c.args.argsz c.loop-i.i 0) c.args.size ≡ true = sym c.in_range-in-loop-i.ensures ∙ c.if-not-in_range-2.false in
+    let next' : c.loop-i.to + get_or c.args.argsz c.loop-i.i 0 < 2 ^ 64 = present_ends _ _ _ target' (omega arith) (omega arith) in
     record { fits = next' }
 
 pub overflow_add-i-in-loop-i : goal.overflow_add-i-in-loop-i
@@ -41,8 +41,8 @@ loop-i-smaller c = omega arith
 
 pub loop-i-preserved : goal.loop-i-preserved
 loop-i-preserved c =
-    let target' : present c.loop-i.to (get_or c.args.t1 c.loop-i.i 0) c.args.size ≡ true = sym c.in_range-in-loop-i.ensures ∙ c.if-not-in_range-2.false in
-    let next' : c.loop-i.to + get_or c.args.t1 c.loop-i.i 0 < 2 ^ 64 = present_ends _ _ _ target' (omega arith) (omega arith) in
+    let target' : present c.loop-i.to (get_or c.args.argsz c.loop-i.i 0) c.args.size ≡ true = sym c.in_range-in-loop-i.ensures ∙ c.if-not-in_range-2.false in
+    let next' : c.loop-i.to + get_or c.args.argsz c.loop-i.i 0 < 2 ^ 64 = present_ends _ _ _ target' (omega arith) (omega arith) in
     ((omega arith, (next', omega arith)), both_there _ _ _ _ c.loop-i-test.true (omega arith) _ (sym c.in_range.ensures ∙ c.if-not-in_range.false) target' ∙ c.loop-i.invariant.1)
 
 pub returns : goal.returns

@@ -20,17 +20,17 @@ overflow_add-i c = omega arith
 
 pub copy_cells-requires : goal.copy_cells-requires
 copy_cells-requires c =
-    let there' : c.loop-i.i < length c.args.t2 = omega arith in
-    let turn' : Turn c.args.t2 c.args.argc c.loop-i.i c.loop-i.to c.loop-i-test.true there' (length c.args.cells.now) = turn_of _ _ _ _ _ _ _ c.loop-i.invariant.1.0 in
+    let there' : c.loop-i.i < length c.args.argsz = omega arith in
+    let turn' : Turn c.args.argsz c.args.argc c.loop-i.i c.loop-i.to c.loop-i-test.true there' (length c.args.cells.now) = turn_of _ _ _ _ _ _ _ c.loop-i.invariant.1.0 in
     let t = turn' in
     let e : length c.loop-i.cells ≡ length c.args.cells.now = omega arith in
-    (rw e t.source, rw e t.target)
+    record { cells_value = rw e t.source; cells_value_2 = rw e t.target }
 
 pub overflow_add-to : goal.overflow_add-to
 overflow_add-to c =
-    let there' : c.loop-i.i < length c.args.t2 = omega arith in
-    let turn' : Turn c.args.t2 c.args.argc c.loop-i.i c.loop-i.to c.loop-i-test.true there' (length c.args.cells.now) = turn_of _ _ _ _ _ _ _ c.loop-i.invariant.1.0 in
-    let next' : c.loop-i.to + get_or c.args.t2 c.loop-i.i 0 < 2 ^ 64 = present_ends _ _ _ turn'.target (omega arith) (omega arith) in
+    let there' : c.loop-i.i < length c.args.argsz = omega arith in
+    let turn' : Turn c.args.argsz c.args.argc c.loop-i.i c.loop-i.to c.loop-i-test.true there' (length c.args.cells.now) = turn_of _ _ _ _ _ _ _ c.loop-i.invariant.1.0 in
+    let next' : c.loop-i.to + get_or c.args.argsz c.loop-i.i 0 < 2 ^ 64 = present_ends _ _ _ turn'.target (omega arith) (omega arith) in
     record { fits = next' }
 
 pub overflow_add-i-in-loop-i : goal.overflow_add-i-in-loop-i
@@ -41,9 +41,9 @@ loop-i-smaller c = omega arith
 
 pub loop-i-preserved : goal.loop-i-preserved
 loop-i-preserved c =
-    let there' : c.loop-i.i < length c.args.t2 = omega arith in
-    let turn' : Turn c.args.t2 c.args.argc c.loop-i.i c.loop-i.to c.loop-i-test.true there' (length c.args.cells.now) = turn_of _ _ _ _ _ _ _ c.loop-i.invariant.1.0 in
-    let next' : c.loop-i.to + get_or c.args.t2 c.loop-i.i 0 < 2 ^ 64 = present_ends _ _ _ turn'.target (omega arith) (omega arith) in
+    let there' : c.loop-i.i < length c.args.argsz = omega arith in
+    let turn' : Turn c.args.argsz c.args.argc c.loop-i.i c.loop-i.to c.loop-i-test.true there' (length c.args.cells.now) = turn_of _ _ _ _ _ _ _ c.loop-i.invariant.1.0 in
+    let next' : c.loop-i.to + get_or c.args.argsz c.loop-i.i 0 < 2 ^ 64 = present_ends _ _ _ turn'.target (omega arith) (omega arith) in
     let t = turn' in
     ((omega arith, (next', (omega arith, omega (arith, c.copy_cells.auto.cells)))), (t.rest, rw c.copy_cells.ensures (copied_on _ _ _ _ c.loop-i-test.true there' _ ∙ c.loop-i.invariant.1.1)))
 
