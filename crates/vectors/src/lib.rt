@@ -4,7 +4,8 @@
 
 ghost use Rattle.std.specs.Prelude.{◌+◌, ◌≤◌, ◌<◌, length};
 
-use libc::STDOUT_FILENO;
+use std::io;
+use std::io::Write;
 
 // A hexadecimal digit in lower case.
 fn digit(b: u8) -> u32
@@ -52,9 +53,8 @@ pub struct Counts {
     pub differ: u64,
 }
 
-pub fn report(counts: Counts) {
-    io::print_decimal(STDOUT_FILENO, counts.cases);
-    io::write_all(STDOUT_FILENO, b" cases, ");
-    io::print_decimal(STDOUT_FILENO, counts.differ);
-    io::write_all(STDOUT_FILENO, b" differ\n");
+pub fn report<W: Write>(out: &mut W, counts: Counts) -> io::Result<()> {
+    let cases = counts.cases;
+    let differ = counts.differ;
+    writeln!(out, "{cases} cases, {differ} differ")
 }

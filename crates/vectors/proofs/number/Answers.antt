@@ -1,5 +1,3 @@
-use borrow.Author.Rules.{rules}
-use Prim.Native.Nat.{◌≤◌, ◌-◌}
 use Rattle.vectors.proofs.number.Goals as goal
 
 pub digit-requires : goal.digit-requires
