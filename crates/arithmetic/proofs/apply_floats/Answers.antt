@@ -1,4 +1,3 @@
-use borrow.Author.Rules.{rules}
 use Rattle.arithmetic.proofs.apply_floats.Goals as goal
 
 pub returns : goal.returns

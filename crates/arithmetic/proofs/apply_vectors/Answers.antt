@@ -1,7 +1,6 @@
 use native.Mathlib.Omega.{arith}
 use lib.ListN.{length-set}
 use Rattle.definition.specs.Statements.{vector_result}
-use borrow.Author.Rules.{rules}
 use Rattle.arithmetic.proofs.apply_vectors.Goals as goal
 
 pub bounds-cells-c-2 : goal.bounds-cells-c-2

@@ -1,4 +1,3 @@
-use borrow.Author.Rules.{rules}
 use Rattle.arithmetic.proofs.apply_vectors_to_float.Goals as goal
 
 pub returns : goal.returns

@@ -2,7 +2,6 @@ use native.Mathlib.Omega.{arith}
 use mathlib.Core.Path.{sym, ◌∙◌}
 use Rattle.globals.proofs.Statements.{refused, accepted}
 use Rattle.arithmetic.proofs.Arithmetic.{rounding_is, reach_both}
-use borrow.Author.Rules.{rules}
 use Rattle.arithmetic.proofs.builtin_rounding.Goals as goal
 
 pub returns-then-refusal-ne0 : goal.returns-then-refusal-ne0

@@ -1,5 +1,4 @@
 use Rattle.arithmetic.proofs.Arithmetic.{untyped_three}
-use borrow.Author.Rules.{rules}
 use Rattle.arithmetic.proofs.check_operands.Goals as goal
 
 pub returns-then-defs-x : goal.returns-then-defs-x

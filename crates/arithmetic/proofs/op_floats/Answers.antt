@@ -2,8 +2,6 @@ use Rattle.globals.proofs.Statements.{refused, accepted}
 use Rattle.arithmetic.proofs.Arithmetic.{own_three, floats_is}
 use native.Mathlib.Omega.{arith}
 use mathlib.Core.Path.{sym, ◌∙◌}
-use Rattle.definition.specs.Statements.{floats_effect}
-use borrow.Author.Rules.{rules}
 use Rattle.arithmetic.proofs.op_floats.Goals as goal
 
 pub returns-then-refusal-ne0 : goal.returns-then-refusal-ne0

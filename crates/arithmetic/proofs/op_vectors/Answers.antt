@@ -3,7 +3,6 @@ use native.Mathlib.Omega.{arith}
 use mathlib.Core.Path.{sym, ◌∙◌}
 use Rattle.globals.proofs.Statements.{refused, accepted}
 use Rattle.arithmetic.proofs.Arithmetic.{reach_three, vectors_is}
-use borrow.Author.Rules.{rules}
 use Rattle.arithmetic.proofs.op_vectors.Goals as goal
 
 pub returns-then-refusal-ne0 : goal.returns-then-refusal-ne0

@@ -2,7 +2,6 @@ use native.Mathlib.Omega.{arith}
 use mathlib.Core.Path.{sym, ◌∙◌}
 use Rattle.globals.proofs.Statements.{refused, accepted}
 use Rattle.arithmetic.proofs.Arithmetic.{reach_three, vectors_to_float_is}
-use borrow.Author.Rules.{rules}
 use Rattle.arithmetic.proofs.op_vectors_to_float.Goals as goal
 
 pub returns-then-refusal-ne0 : goal.returns-then-refusal-ne0
