@@ -1,4 +1,3 @@
-use borrow.Author.Rules.{rules}
 use Rattle.comparisons.proofs.apply_nots.Goals as goal
 
 pub returns : goal.returns

@@ -3,7 +3,6 @@ use native.Mathlib.Omega.{arith}
 use mathlib.Core.Path.{sym, ◌∙◌}
 use Rattle.globals.proofs.Statements.{refused, accepted, reach_move}
 use Rattle.comparisons.proofs.Comparisons.{negates_is}
-use borrow.Author.Rules.{rules}
 use Rattle.comparisons.proofs.op_nots.Goals as goal
 
 pub returns-then-refusal-ne0 : goal.returns-then-refusal-ne0

@@ -2,7 +2,6 @@ use native.Mathlib.Omega.{arith}
 use mathlib.Core.Path.{sym, ◌∙◌}
 use Rattle.globals.proofs.Statements.{refused, accepted}
 use Rattle.comparisons.proofs.Comparisons.{reach_values, values_is}
-use borrow.Author.Rules.{rules}
 use Rattle.comparisons.proofs.op_values.Goals as goal
 
 pub returns-then-refusal-ne0 : goal.returns-then-refusal-ne0
