@@ -2,13 +2,13 @@
 use Prim.Native.Nat.{ℕ, zero, suc, ◌+◌, ◌<◌, ◌≤◌}
 use mathlib.Core.Path.{◌≡◌, refl, sym, ap, ◌∙◌}
 use mathlib.Core.List.{List, [], ◌∷◌, ◌++◌}
-use mathlib.Core.Bool.{Bool, true, false, ◌&&◌, ◌||◌, beq, cond}
+use mathlib.Core.Bool.{Bool, true, false, ◌||◌, beq, cond}
 use native.Mathlib.Numerals.{add-one}
 use native.Mathlib.Omega.{arith}
-use borrow.Author.Tests.{eqb-true, eqb-false, eq-eqb, ne_eqb, lt-ltb, le-ltb}
-use lib.ListN.{length, get_or, set, drop, get_or-eq_default}
+use borrow.Author.Tests.{eqb-true, eq-eqb, ne_eqb, lt-ltb, le-ltb}
+use lib.ListN.{length, get_or, set, get_or-eq_default}
 use lib.Dec.{eqb, ltb}
-use Rattle.definition.specs.Checks.{Condition, Conditions, ◌otherwise◌, judge}
+use Rattle.definition.specs.Checks.{◌otherwise◌, judge}
 use Rattle.definition.specs.File.{byte_at}
 use Rattle.definition.specs.Floats.{flag}
 use Rattle.definition.specs.Cells.{Typing, access}

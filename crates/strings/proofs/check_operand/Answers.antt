@@ -1,5 +1,4 @@
 use Rattle.strings.proofs.Strings.{operand_given_law, operand_negative}
-use borrow.Author.Rules.{rules}
 use Rattle.strings.proofs.check_operand.Goals as goal
 
 pub returns-then-cell-lt32768 : goal.returns-then-cell-lt32768

@@ -1,6 +1,5 @@
 use Rattle.typed.specs.Laws.{stop, passed}
 use Rattle.strings.proofs.Strings.{pair_same, pair_other}
-use borrow.Author.Rules.{rules}
 use Rattle.strings.proofs.check_pair.Goals as goal
 
 pub returns-then-a-b : goal.returns-then-a-b

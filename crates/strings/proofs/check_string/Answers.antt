@@ -1,7 +1,7 @@
 use Prim.Native.Nat.{◌<◌}
 use mathlib.Core.Path.{sym, ◌∙◌}
 use native.Mathlib.Omega.{arith}
-use lib.ListN.{length, get_or}
+use lib.ListN.{length}
 use Rattle.definition.specs.Cells.{access}
 use Rattle.typed.specs.Typing.{typing}
 use Rattle.typed.specs.Laws.{reach}

@@ -1,9 +1,8 @@
-use mathlib.Core.Path.{◌≡◌, refl, sym, ap, ◌∙◌}
+use mathlib.Core.Path.{ap, ◌∙◌}
 use mathlib.Core.Bool.{Bool, ◌||◌}
 use lib.Dec.{eqb}
 use Prim.Native.Nat.{ℕ}
 use Rattle.strings.proofs.Strings.{empty_text}
-use borrow.Author.Rules.{rules}
 use Rattle.strings.proofs.not_s.Goals as goal
 
 pub returns : goal.returns

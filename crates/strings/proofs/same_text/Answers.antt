@@ -1,11 +1,7 @@
 -- The texts from the two places on are the same where the two texts are.
-use Prim.Native.Nat.{◌-◌, ◌<◌}
-use mathlib.Core.Path.{◌≡◌, refl, sym, ◌∙◌}
+use mathlib.Core.Path.{refl, ◌∙◌}
 use native.Mathlib.Omega.{arith}
-use lib.ListN.{length}
-use Rattle.definition.specs.Strings.{text_of, same_text}
 use Rattle.strings.proofs.Strings.{byte_below, bytes_differ, both_end, both_go_on}
-use borrow.Author.Rules.{rules}
 use Rattle.strings.proofs.same_text.Goals as goal
 
 pub loop-x-init : goal.loop-x-init
