@@ -1,6 +1,5 @@
 use native.Mathlib.Omega.{arith}
 use lib.ListN.{length-set}
-use borrow.Author.Rules.{rules}
 use Rattle.stores.proofs.apply_store_v.Goals as goal
 
 pub bounds-cells-a-2 : goal.bounds-cells-a-2

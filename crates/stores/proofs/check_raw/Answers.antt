@@ -1,5 +1,4 @@
 use Rattle.stores.proofs.Stores.{raw_below, raw_above, raw_typed}
-use borrow.Author.Rules.{rules}
 use Rattle.stores.proofs.check_raw.Goals as goal
 
 pub returns-then-cell-count : goal.returns-then-cell-count

@@ -2,7 +2,6 @@ use native.Mathlib.Omega.{arith}
 use mathlib.Core.Path.{sym, ◌∙◌}
 use Rattle.globals.proofs.Statements.{refused, accepted}
 use Rattle.stores.proofs.Stores.{reach_store_v, stores_v_is}
-use borrow.Author.Rules.{rules}
 use Rattle.stores.proofs.op_store_v.Goals as goal
 
 pub returns-then-refusal-ne0 : goal.returns-then-refusal-ne0

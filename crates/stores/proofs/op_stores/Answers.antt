@@ -3,7 +3,6 @@ use native.Mathlib.Omega.{arith}
 use mathlib.Core.Path.{sym, ◌∙◌}
 use Rattle.globals.proofs.Statements.{refused, accepted, reach_move}
 use Rattle.stores.proofs.Stores.{stores_is}
-use borrow.Author.Rules.{rules}
 use Rattle.stores.proofs.op_stores.Goals as goal
 
 pub returns-then-refusal-ne0 : goal.returns-then-refusal-ne0
