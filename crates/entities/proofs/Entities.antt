@@ -8,7 +8,7 @@ use native.Mathlib.Nat.{mul-le-mul}
 use lib.ListN.{get_or, set}
 use lib.Dec.{eqb, leb, ltb}
 use borrow.Author.Tests.{eq-eqb, lt-ltb, le-ltb, le-leb, lt-leb, ltb-true, leb-true}
-use Rattle.definition.specs.Checks.{Condition, Conditions, ◌otherwise◌, judge}
+use Rattle.definition.specs.Checks.{Conditions, ◌otherwise◌, judge}
 use Rattle.definition.specs.CheckLaws.{judge_passed, and_right}
 use Rattle.definition.specs.File.{negative}
 use Rattle.definition.specs.Cells.{Typing, access, read_access, must_be_natural, field_access}

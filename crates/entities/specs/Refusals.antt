@@ -1,6 +1,6 @@
 -- THE NUMBER OF THE FIRST REFUSAL of the statements over fields, 0 where nothing refuses: the operands, then the field, then the value.
 use Rattle.std.specs.Prelude.{ℕ, ◌+◌, ◌*◌, ◌/◌, ◌%◌, List, [], ◌∷◌, not, true, ◌&&◌, get_or, eqb, leb, ltb}
-use Rattle.definition.specs.Checks.{Condition, Conditions, ◌otherwise◌, judge}
+use Rattle.definition.specs.Checks.{Conditions, ◌otherwise◌, judge}
 use Rattle.definition.specs.File.{negative, greatest_pointer}
 use Rattle.definition.specs.Cells.{string, entity, field, pointer, Typing, read_access, must_be_natural, field_access}
 use Rattle.definition.specs.Statements.{Entities, unused, stored_natural, points_at_field}

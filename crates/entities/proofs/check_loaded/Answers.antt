@@ -6,7 +6,6 @@ use Rattle.typed.specs.Typing.{typing}
 use Rattle.typed.specs.Checking.{Reaches}
 use Rattle.entities.specs.Lent.{entities_in}
 use Rattle.entities.proofs.Entities.{no_entity, field_refused, value_refused, value_passes, offset_below}
-use borrow.Author.Rules.{rules}
 use Rattle.entities.proofs.check_loaded.Goals as goal
 
 pub returns-then-table-entity : goal.returns-then-table-entity

@@ -1,5 +1,4 @@
 use Rattle.typed.specs.Laws.{stop, passed}
-use borrow.Author.Rules.{rules}
 use Rattle.entities.proofs.check_operands.Goals as goal
 
 pub returns-then-r-ne0 : goal.returns-then-r-ne0

@@ -1,7 +1,6 @@
 use Rattle.typed.specs.Typing.{typing}
 use Rattle.entities.specs.Lent.{entities_in}
 use Rattle.entities.proofs.Entities.{points_there, points_nowhere}
-use borrow.Author.Rules.{rules}
 use Rattle.entities.proofs.check_pointed.Goals as goal
 
 pub returns-then-p-place : goal.returns-then-p-place

@@ -3,7 +3,6 @@ use lib.ListN.{length-set}
 use borrow.Author.Tests.{eq-eqb, ne_eqb}
 use Rattle.definition.specs.Statements.{value_moved}
 use Rattle.entities.proofs.Entities.{vector_reach}
-use borrow.Author.Rules.{rules}
 use Rattle.entities.proofs.move_value.Goals as goal
 
 pub bounds-from-i-then-t-eq-VECTOR : goal.bounds-from-i-then-t-eq-VECTOR

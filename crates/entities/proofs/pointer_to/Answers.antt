@@ -1,7 +1,6 @@
 use Prim.Native.Nat.{◌*◌, ◌≤◌}
 use native.Mathlib.Omega.{arith}
 use Rattle.entities.proofs.Entities.{offset_below}
-use borrow.Author.Rules.{rules}
 use Rattle.entities.proofs.pointer_to.Goals as goal
 
 pub overflow_mul-result : goal.overflow_mul-result
