@@ -13,8 +13,8 @@ use Rattle.definition.specs.File.{records}
 use Rattle.definition.specs.Statements.{place_of}
 use Rattle.definition.specs.Machine.{Program, Config}
 use Rattle.definition.specs.Operations.{natural, below}
-use Rattle.definition.specs.CheckLaws.{and_left, and_right}
-use Rattle.definition.specs.PlaceLaws.{below_place, place_natural}
+use Rattle.definition.proofs.CheckLaws.{and_left, and_right}
+use Rattle.definition.proofs.PlaceLaws.{below_place, place_natural}
 use Rattle.definition.specs.Calls.{Call, after}
 use Rattle.progs.specs.Contexts.{config}
 use Rattle.call_list.specs.declared.Replied.{Replied}

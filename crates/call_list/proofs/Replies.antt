@@ -12,8 +12,8 @@ use Rattle.definition.specs.declared.ReadAnswer.{ReadAnswer}
 use Rattle.definition.specs.declared.RunAnswer.{RunAnswer}
 use Rattle.definition.specs.declared.Handover.{Handover}
 use Rattle.definition.specs.Checks.{Checked}
-use Rattle.definition.specs.CheckLaws.{and_left, and_right}
-use Rattle.definition.specs.PlaceLaws.{below_natural, place_zero}
+use Rattle.definition.proofs.CheckLaws.{and_left, and_right}
+use Rattle.definition.proofs.PlaceLaws.{below_natural, place_zero}
 use Rattle.definition.specs.Statements.{place_of}
 use Rattle.definition.specs.Machine as machine
 use Rattle.definition.specs.Machine.{Program, Config}

@@ -13,7 +13,7 @@ use Rattle.definition.specs.Unpacked.{Ready, AllReady}
 use Rattle.definition.specs.Log.{Log}
 use Rattle.definition.specs.Trace.{StepProperty, log_after_steps, Always}
 use Rattle.definition.specs.Returns.{DepthsMatch, StepCorrect, Demand3}
-use Rattle.definition.specs.ReturnsProof.{demand3}
+use Rattle.definition.proofs.ReturnsProof.{demand3}
 use Rattle.call_list.specs.Encoding.{call_numbered, kind_in, call_in, well_formed, decoded, after_all, Outcome, performed}
 
 -- the log after all of a list

@@ -18,13 +18,3 @@ pub mod Unpacked
 pub mod Log
 pub mod Trace
 pub mod Returns
-pub mod CheckLaws
-pub mod RecordLaws
-pub mod UnpackedLaws
-pub mod PlaceLaws
-pub mod Parts
-pub mod StatementLaws
-pub mod Invariant
-pub mod LoadLaws
-pub mod ReturnsProof
-pub mod WrittenLaws

@@ -9,11 +9,11 @@ use lib.ListN.{get_or, set}
 use lib.Dec.{eqb, leb, ltb}
 use borrow.Author.Tests.{eq-eqb, lt-ltb, le-ltb, le-leb, lt-leb, ltb-true, leb-true}
 use Rattle.definition.specs.Checks.{Conditions, ◌otherwise◌, judge}
-use Rattle.definition.specs.CheckLaws.{judge_passed, and_right}
+use Rattle.definition.proofs.CheckLaws.{judge_passed, and_right}
 use Rattle.definition.specs.File.{negative}
 use Rattle.definition.specs.Cells.{Typing, access, read_access, must_be_natural, field_access}
 use Rattle.definition.specs.Statements.{Entities, unused, stored_natural, points_at_field, value_moved, loads_effect, addresses_effect, stores_p_effect}
-use Rattle.definition.specs.StatementLaws.{entity_cell, pointer_cell}
+use Rattle.definition.proofs.StatementLaws.{entity_cell, pointer_cell}
 use Rattle.typed.specs.Checking.{first, move_refusal, Reaches}
 use Rattle.typed.specs.Laws.{neither, first_first, judge_both, judge_three, stop, go_on, nothing, holds, fails, reaches, read_reach, field_reach}
 use Rattle.globals.proofs.Statements.{Is, reach_move}

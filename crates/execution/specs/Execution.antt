@@ -10,7 +10,7 @@ use Rattle.definition.specs.declared.FunctionDef.{FunctionDef}
 use Rattle.definition.specs.declared.Definition.{Definition}
 use Rattle.definition.specs.declared.FileRecord.{FileRecord}
 use Rattle.definition.specs.File.{Contents, contents_at, u32_at}
-use Rattle.definition.specs.RecordLaws.{length_records}
+use Rattle.definition.proofs.RecordLaws.{length_records}
 use Rattle.functions.specs.Laws.{AllFit}
 use Rattle.functions.specs.Parts.{part_of, functions_in}
 use Rattle.functions.specs.PartLaws.{part_globaldefs, part_fielddefs, part_functions, part_strings}

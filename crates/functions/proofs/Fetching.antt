@@ -14,7 +14,7 @@ use Rattle.definition.specs.File.{records}
 use Rattle.definition.specs.Statements.{fetch_conditions, no_statement, place_of}
 use Rattle.functions.specs.declared.fetch.Fetched.TheVariants.{At, Refused}
 use Rattle.functions.specs.Answers.{fetched}
-use Rattle.definition.specs.RecordLaws.{get_d_records}
+use Rattle.definition.proofs.RecordLaws.{get_d_records}
 
 -- a statement of a list that is read one behind the other
 pub read_at : (read : ℕ → Statement) (size n k : ℕ) (st : Statement) → k < n → st ≡ read (size * k) → get_or (records read size n 0) k no_statement ≡ st

@@ -9,7 +9,7 @@ use Rattle.definition.specs.declared.Statement.{Statement}
 use Rattle.definition.specs.Checks.{Conditions, ◌otherwise◌, judge}
 use Rattle.definition.specs.File.{records_in, read_function, no_function, negative, Contents, contents_at}
 use Rattle.definition.specs.File.{file_of, length_fits, lump_fits, lumps_fit, least_cells, cells_fit, entity_fits}
-use Rattle.definition.specs.RecordLaws.{length_records}
+use Rattle.definition.proofs.RecordLaws.{length_records}
 use Rattle.definition.specs.Load.{same_lump, same_file, recorded_in, program_with, program_of}
 use Rattle.definition.specs.Machine.{function_of, entities_fit}
 use Rattle.definition.specs.Statements.{Does, Entities, refuses, or_refused, place_of, statement_at, fetch_conditions, execute, does_at}

@@ -14,9 +14,9 @@ use Rattle.definition.specs.Load.{load, program_with, program_of}
 use Rattle.definition.specs.Operations.{sound, run}
 use Rattle.definition.specs.Calls.{runs, runs_unpacked, after, small_steps, steps_of_run}
 use Rattle.definition.specs.Unpacked.{unpack_conditions, buffer_after, unpack, Unpacked}
-use Rattle.definition.specs.UnpackedLaws.{same_program, same_run}
-use Rattle.definition.specs.RecordLaws.{length_records}
-use Rattle.definition.specs.CheckLaws.{guard_accepts}
+use Rattle.definition.proofs.UnpackedLaws.{same_program, same_run}
+use Rattle.definition.proofs.RecordLaws.{length_records}
+use Rattle.definition.proofs.CheckLaws.{guard_accepts}
 use Rattle.laws.specs.Exactly.{Exactly, exactly}
 use Rattle.laws.specs.Sound.{never_13_lent}
 

@@ -29,14 +29,14 @@ use Rattle.definition.specs.Operations.{sound, natural, host_enter, step_if, sta
 use Rattle.definition.specs.Answers.{kept, statement_outcome, load_outcome}
 use Rattle.definition.specs.Calls.{Call, enters, steps, runs, runs_unpacked, carries, abandons, reads, writes, writes_all, lends, after, small_steps}
 use Rattle.definition.specs.Unpacked.{Ready, AllReady}
-use Rattle.definition.specs.UnpackedLaws.{same_run}
+use Rattle.definition.proofs.UnpackedLaws.{same_run}
 use Rattle.definition.specs.Log.{Log, Kind, entry, leaving, other, statement_kind}
 use Rattle.definition.specs.Trace.{StepProperty, StateProperty, log_after_steps, Always}
 use Rattle.definition.specs.Returns.{DepthsMatch, StepCorrect, Demand3}
-use Rattle.definition.specs.ReturnsProof.{demand3}
-use Rattle.definition.specs.CheckLaws.{All, judge_passed, judge_all, all_front, all_back, and_left, and_right, WhenAccepted, guarded, accepted_all}
-use Rattle.definition.specs.StatementLaws.{every, every_at, last_of, fields_below, pointer_cell, Keeps, keeps_all, HasKind, before_in, statement_has_kind}
-use Rattle.definition.specs.Invariant.{room_in, Inductive, always}
+use Rattle.definition.proofs.ReturnsProof.{demand3}
+use Rattle.definition.proofs.CheckLaws.{All, judge_passed, judge_all, all_front, all_back, and_left, and_right, WhenAccepted, guarded, accepted_all}
+use Rattle.definition.proofs.StatementLaws.{every, every_at, last_of, fields_below, pointer_cell, Keeps, keeps_all, HasKind, before_in, statement_has_kind}
+use Rattle.definition.proofs.Invariant.{room_in, Inductive, always}
 
 -- ---- what a call leaves of the entity cells
 

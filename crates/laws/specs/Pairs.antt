@@ -10,8 +10,8 @@ use Rattle.definition.specs.Machine.{Program, Config, count_of, with_cells}
 use Rattle.definition.specs.Operations.{sound, natural, below, raw_conditions, raw_write, pair_conditions, pairs_conditions, pairs_written, write_all_conditions, write_all}
 use Rattle.definition.specs.Answers.{kept}
 use Rattle.definition.specs.Calls.{writes, writes_all, after}
-use Rattle.definition.specs.CheckLaws.{All, guard_accepts}
-use Rattle.definition.specs.PlaceLaws.{below_natural}
+use Rattle.definition.proofs.CheckLaws.{All, guard_accepts}
+use Rattle.definition.proofs.PlaceLaws.{below_natural}
 
 -- "For a single pair it equals the raw host write": of every address and every value of a cell
 pub one_pair : (P : Program) (a : ℤ) (v : ℕ) (c : Config) → v < 4294967296 → write_all P (a ∷ pos v ∷ []) c ≡ raw_write P a v c

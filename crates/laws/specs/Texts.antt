@@ -12,7 +12,7 @@ use Rattle.definition.specs.File.{Contents}
 use Rattle.definition.specs.Cells.{string, cell_of, Typing, typing_of, access}
 use Rattle.definition.specs.Strings.{up_to_zero, text_of, same_text, text_access}
 use Rattle.definition.specs.Statements.{Entities, Does, effect_does, strings_effect, negates_s_effect, same_strings, execute, shape_of}
-use Rattle.definition.specs.CheckLaws.{no_true, and_left, and_right, or_cases, judge_append}
+use Rattle.definition.proofs.CheckLaws.{no_true, and_left, and_right, or_cases, judge_append}
 use Rattle.laws.specs.Loadable.{Every}
 
 -- ---- the text of a number

@@ -11,7 +11,7 @@ use lib.ListN.{length, drop}
 use Rattle.definition.specs.declared.WriteAnswer.{WriteAnswer}
 use Rattle.definition.specs.declared.WriteAnswer.TheVariants.{Length, Refused}
 use Rattle.definition.specs.Checks.{judge, guard}
-use Rattle.definition.specs.CheckLaws.{and_right}
+use Rattle.definition.proofs.CheckLaws.{and_right}
 use Rattle.definition.specs.File.{between}
 use Rattle.definition.specs.Written.{layout, WriteOutcome, write_outcome}
 use Rattle.text.specs.Output.{output, at_front}

@@ -10,7 +10,7 @@ use Rattle.definition.specs.Checks.{Conditions, judge}
 use Rattle.definition.specs.File.{Contents}
 use Rattle.definition.specs.Cells.{float, lookup, passes, cell_of, Typing, cell_access, access, typing_of}
 use Rattle.definition.specs.Statements.{Entities, Does, next, returns, provided, shape_of, opcodes, floats_effect, no_statement, fetch_conditions, execute, does_at}
-use Rattle.definition.specs.CheckLaws.{All, all_both, judge_all}
+use Rattle.definition.proofs.CheckLaws.{All, all_both, judge_all}
 use Rattle.laws.specs.Loadable.{Every}
 use Rattle.load_files.specs.Draws.{after, drawn}
 use Rattle.load_files.specs.LoadFile.{drawn_statement, return, statements_from}

@@ -11,7 +11,7 @@ use lib.ListN.{length}
 use Rattle.definition.specs.Checks.{Conditions, ◌otherwise◌, judge}
 use Rattle.definition.specs.File.{records}
 use Rattle.definition.specs.Load.{each}
-use Rattle.definition.specs.CheckLaws.{judge_append}
+use Rattle.definition.proofs.CheckLaws.{judge_append}
 use Rattle.loader.specs.declared.records.Kind.{Kind}
 use Rattle.loader.specs.declared.records.Kind.TheVariants.{Functions, Statements, Globaldefs, Fielddefs}
 use Rattle.loader.specs.Records.{size_of, conditions_at, each_in}

@@ -8,7 +8,7 @@ use native.Mathlib.Numerals.{add-one}
 use lib.ListN.{length, get_or, set, drop}
 use lib.Seq.{drop-cons, set_at, append_snoc}
 use Rattle.definition.specs.File.{records}
-use Rattle.definition.specs.RecordLaws.{length_records}
+use Rattle.definition.proofs.RecordLaws.{length_records}
 
 records_snoc : {A : Type 0} (read : ℕ → A) (size n at : ℕ) → records read size (suc n) at ≡ records read size n at ++ (read (at + size * n) ∷ [])
 unfolding records

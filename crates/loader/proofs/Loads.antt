@@ -10,8 +10,8 @@ use Rattle.definition.specs.declared.FileRecord.{FileRecord}
 use Rattle.definition.specs.Checks.{judge}
 use Rattle.definition.specs.File.{file_of}
 use Rattle.definition.specs.Load.{header_conditions, cell_conditions, file_conditions}
-use Rattle.definition.specs.CheckLaws.{and_left, and_right, judge_passed}
-use Rattle.definition.specs.LoadLaws.{load_rows_law}
+use Rattle.definition.proofs.CheckLaws.{and_left, and_right, judge_passed}
+use Rattle.definition.proofs.LoadLaws.{load_rows_law}
 use Rattle.functions.specs.Laws.{AllFit, all_fit, entity_size}
 
 pub record Loads (file : List ℕ) (lent : ℕ) (r : FileRecord) : Type 0 where

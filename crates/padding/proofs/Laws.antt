@@ -13,7 +13,7 @@ use Rattle.definition.specs.declared.WriteAnswer.TheVariants.{Length, Refused}
 use Rattle.definition.specs.Checks.{Conditions, ◌otherwise◌, judge, decided, guard}
 use Rattle.definition.specs.File.{check_number, least_to_pad, most_cells, saved_store, file_of, contents_at, contents_of}
 use Rattle.definition.specs.Load.{file_conditions}
-use Rattle.definition.specs.RecordLaws.{length_globals}
+use Rattle.definition.proofs.RecordLaws.{length_globals}
 use Rattle.definition.specs.Written.{written, padded, padded_file, Image, placed, room_conditions, WriteOutcome, write_outcome}
 use Rattle.text.specs.Output.{Output, output, at_front}
 use Rattle.text.specs.Text.{refused_line}

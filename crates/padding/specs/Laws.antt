@@ -6,9 +6,9 @@ use borrow.Author.Tests.{leb-true, le-leb}
 use Rattle.std.proofs.Math.ListN.{length}
 use Rattle.definition.specs.declared.Settings.{Settings}
 use Rattle.definition.specs.Checks.{Conditions, ◌otherwise◌, judge, guard, accepted}
-use Rattle.definition.specs.CheckLaws.{All, judge_passed, all_front, all_back}
+use Rattle.definition.proofs.CheckLaws.{All, judge_passed, all_front, all_back}
 use Rattle.definition.specs.File.{check_number, least_cells, least_to_pad, most_cells, saved_store, longest_file, file_of, contents_of, settings_fit, Contents}
-use Rattle.definition.specs.RecordLaws.{length_globals}
+use Rattle.definition.proofs.RecordLaws.{length_globals}
 use Rattle.definition.specs.Load.{cell_conditions, file_conditions, loaded, entities_given, load}
 use Rattle.definition.specs.Written.{written, padded, padded_file}
 use Rattle.writing_laws.specs.Loads.{Lent}

@@ -10,12 +10,12 @@ use Rattle.std.proofs.Math.Dec.{leb}
 use Rattle.definition.specs.declared.FileRecord.{FileRecord}
 use Rattle.definition.specs.declared.Handover.{Handover}
 use Rattle.definition.specs.File.{check_number, header_length, longest_file, least_cells, least_to_pad, file_of, contents_of}
-use Rattle.definition.specs.CheckLaws.{and_left, and_right}
+use Rattle.definition.proofs.CheckLaws.{and_left, and_right}
 use Rattle.definition.specs.Statements.{does_at}
 use Rattle.definition.specs.Machine.{Program, Config, entities_of, count_of, Stepped, completed, handed_step, step}
 use Rattle.definition.specs.Load.{header_conditions, recorded_in, program_with, program_of}
 use Rattle.definition.specs.Operations.{all_present, locals_of, entered_functions, sound, step_if, statement}
-use Rattle.definition.specs.RecordLaws.{length_globals}
+use Rattle.definition.proofs.RecordLaws.{length_globals}
 use Rattle.definition.specs.Written.{padded_file}
 use Rattle.functions.specs.Laws as functions
 use Rattle.laws.specs.Sound.{same_file_law}

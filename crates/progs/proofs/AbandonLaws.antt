@@ -9,7 +9,7 @@ use lib.Dec.{eqb, eqb-suc-zero}
 use Rattle.definition.specs.Checks.{Conditions, judge}
 use Rattle.definition.specs.Machine.{Program, State, Config, leave_conditions, left}
 use Rattle.definition.specs.Operations.{left_times, leavings_conditions}
-use Rattle.definition.specs.CheckLaws.{judge_append}
+use Rattle.definition.proofs.CheckLaws.{judge_append}
 use Rattle.progs.specs.declared.ExecutionContext.{ExecutionContext}
 use Rattle.progs.specs.Contexts.{state_of, config, bare}
 

@@ -11,7 +11,7 @@ use lib.ListN.{length, get_or, set, drop, length-drop}
 use lib.Seq.{paste, paste-suc, drop-cons, get_or-drop}
 use lib.Dec.{leb, ltb, eqb}
 use Rattle.definition.specs.Machine.{present, Copy, copied, successive, arguments, copies_present}
-use Rattle.definition.specs.CheckLaws.{and_left, and_right, and_both, or_cases}
+use Rattle.definition.proofs.CheckLaws.{and_left, and_right, and_both, or_cases}
 
 -- ---- ranges
 

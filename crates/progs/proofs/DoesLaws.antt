@@ -15,7 +15,7 @@ use Rattle.definition.specs.Statements.{Entities, place_of, fetch_conditions, ex
 use Rattle.definition.specs.Machine.{Program, Config, entities_of, advanced}
 use Rattle.definition.specs.Load.{program_of, program_with}
 use Rattle.definition.specs.Operations.{sound, is_handed_over, carry_on_conditions, carry_on}
-use Rattle.definition.specs.CheckLaws.{judge_append, judge_passed, judge_all, all_front}
+use Rattle.definition.proofs.CheckLaws.{judge_append, judge_passed, judge_all, all_front}
 use Rattle.functions.specs.declared.fetch.Fetched.TheVariants.{At, Refused}
 use Rattle.functions.specs.Answers.{fetched}
 use Rattle.functions.specs.Laws.{FetchedAt, fetch_accepts, fetch_refuses, does_fetched, lump_fitting, count_statements}

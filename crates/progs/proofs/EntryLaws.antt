@@ -13,7 +13,7 @@ use Rattle.definition.specs.declared.FunctionDef.{FunctionDef}
 use Rattle.definition.specs.Checks.{Conditions, ◌otherwise◌, judge}
 use Rattle.definition.specs.File.{negative, is_builtin}
 use Rattle.definition.specs.Machine.{Program, function_of, State, Config, present, copied, arguments_of, copies_present, entry_conditions, entered, enter}
-use Rattle.definition.specs.CheckLaws.{All, judge_passed, and_right}
+use Rattle.definition.proofs.CheckLaws.{All, judge_passed, and_right}
 use Rattle.progs.specs.declared.ExecutionContext.{ExecutionContext}
 use Rattle.progs.specs.declared.Answered.{Answered}
 use Rattle.progs.specs.Contexts.{state_of, config, bare, outcome_of, after, refusing, accepting}

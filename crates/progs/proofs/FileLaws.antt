@@ -7,7 +7,7 @@ use Rattle.definition.specs.declared.FileRecord.{FileRecord}
 use Rattle.definition.specs.declared.FunctionDef.{FunctionDef}
 use Rattle.definition.specs.File.{contents_at, read_function}
 use Rattle.definition.specs.Load.{program_with, program_of}
-use Rattle.definition.specs.RecordLaws.{length_records}
+use Rattle.definition.proofs.RecordLaws.{length_records}
 use Rattle.functions.specs.Laws.{count_functions}
 use Rattle.functions.specs.Parts.{part_of, functions_in}
 use Rattle.functions.specs.PartLaws.{part_functions}

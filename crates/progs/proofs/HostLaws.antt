@@ -16,8 +16,8 @@ use Rattle.definition.specs.Machine.{Program, Config, entry_conditions, enter}
 use Rattle.definition.specs.Operations.{sound, natural, below, host_enter, left_times, leavings_conditions, abandon_conditions, abandon, raw_conditions, raw_read, raw_write, pairs_conditions, pairs_written, write_all_conditions, write_all}
 use Rattle.definition.specs.Load.{program_of}
 use Rattle.definition.specs.Answers.{Outcome, outcome, read_answer}
-use Rattle.definition.specs.CheckLaws.{judge_passed}
-use Rattle.definition.specs.PlaceLaws.{below_place, below_natural, place_zero, place_natural}
+use Rattle.definition.proofs.CheckLaws.{judge_passed}
+use Rattle.definition.proofs.PlaceLaws.{below_place, below_natural, place_zero, place_natural}
 use Rattle.pairs.specs.Together.{unless_refused}
 use Rattle.pairs.proofs.PairLaws.{none_written}
 use Rattle.progs.specs.declared.ExecutionContext.{ExecutionContext}

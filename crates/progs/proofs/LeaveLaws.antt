@@ -10,7 +10,7 @@ use lib.Seq.{paste}
 use lib.Dec.{leb, ltb}
 use Rattle.definition.specs.Checks.{Conditions, ◌otherwise◌, judge}
 use Rattle.definition.specs.Machine.{Program, function_of, Config, present, copied, successive, with_cells, leave_conditions, left, leave, return_conditions, returned}
-use Rattle.definition.specs.CheckLaws.{All, judge_passed}
+use Rattle.definition.proofs.CheckLaws.{All, judge_passed}
 use Rattle.progs.specs.declared.ExecutionContext.{ExecutionContext}
 use Rattle.progs.specs.declared.Answered.{Answered}
 use Rattle.progs.specs.declared.calls.Locals.{Locals}

@@ -13,7 +13,7 @@ use Rattle.definition.specs.File.{file_of, least_cells, u32_at, contents_at, set
 use Rattle.definition.specs.Machine.{start_state}
 use Rattle.definition.specs.Load.{file_conditions, entities_given, loaded, load}
 use Rattle.definition.specs.Answers.{no_state, load_outcome}
-use Rattle.definition.specs.RecordLaws.{length_records}
+use Rattle.definition.proofs.RecordLaws.{length_records}
 use Rattle.functions.specs.Laws.{AllFit}
 use Rattle.functions.specs.Parts.{part_of, cells_in}
 use Rattle.functions.specs.PartLaws.{part_globals}

@@ -13,11 +13,11 @@ use Rattle.definition.specs.declared.FunctionDef.{FunctionDef}
 use Rattle.definition.specs.Checks.{judge}
 use Rattle.definition.specs.File.{negative, no_function, read_function}
 use Rattle.definition.specs.Statements.{refuses}
-use Rattle.definition.specs.RecordLaws.{length_records}
+use Rattle.definition.proofs.RecordLaws.{length_records}
 use Rattle.functions.specs.Parts.{functions_in}
 use Rattle.definition.specs.Machine.{Fetch, Program, function_of, Config, copied, arguments_of, entry_conditions, entered, enter}
-use Rattle.definition.specs.CheckLaws.{judge_passed, and_right}
-use Rattle.definition.specs.LoadLaws.{InRange}
+use Rattle.definition.proofs.CheckLaws.{judge_passed, and_right}
+use Rattle.definition.proofs.LoadLaws.{InRange}
 use Rattle.progs.specs.declared.ExecutionContext.{ExecutionContext}
 use Rattle.progs.specs.declared.Answered.{Answered}
 use Rattle.progs.specs.declared.calls.Entry.{Entry}

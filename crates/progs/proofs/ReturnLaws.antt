@@ -8,7 +8,7 @@ use lib.ListN.{length, drop}
 use lib.Seq.{paste}
 use Rattle.definition.specs.Checks.{judge}
 use Rattle.definition.specs.Machine.{Program, function_of, Config, present, copied, successive, leave_conditions, left, return_conditions, returned}
-use Rattle.definition.specs.CheckLaws.{judge_passed, judge_all}
+use Rattle.definition.proofs.CheckLaws.{judge_passed, judge_all}
 use Rattle.progs.specs.declared.ExecutionContext.{ExecutionContext}
 use Rattle.progs.specs.declared.Answered.{Answered}
 use Rattle.progs.specs.declared.calls.Locals.{Locals}

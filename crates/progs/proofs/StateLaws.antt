@@ -18,8 +18,8 @@ use Rattle.definition.specs.File.{negative, least_cells, settings_fit}
 use Rattle.definition.specs.Machine.{Program, function_of, State, Config, entities_fit, zero_frame, entry_conditions, entered, enter, left, return_conditions, returned}
 use Rattle.definition.specs.Load.{program_with, program_of, recorded_in}
 use Rattle.definition.specs.Operations.{frame_functions, entered_at, entered_functions, all_present, locals_of, sound}
-use Rattle.definition.specs.CheckLaws.{judge_passed, and_left, and_right}
-use Rattle.definition.specs.LoadLaws.{settings_fit_law}
+use Rattle.definition.proofs.CheckLaws.{judge_passed, and_left, and_right}
+use Rattle.definition.proofs.LoadLaws.{settings_fit_law}
 use Rattle.functions.specs.Laws.{Recorded, recorded, EntitySize, entities_room}
 use Rattle.progs.specs.declared.ExecutionContext.{ExecutionContext}
 use Rattle.progs.specs.declared.Answered.{Answered}

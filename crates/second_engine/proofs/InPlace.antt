@@ -13,12 +13,12 @@ use Rattle.definition.specs.declared.RunAnswer.TheVariants as run
 use Rattle.definition.specs.Checks.{judge, guard, decided}
 use Rattle.definition.specs.declared.FileRecord.{FileRecord}
 use Rattle.definition.specs.File.{Contents, file_of, contents_at, unpacked_statements, with_statements}
-use Rattle.definition.specs.RecordLaws.{length_records}
+use Rattle.definition.proofs.RecordLaws.{length_records}
 use Rattle.definition.specs.Cells.{typing_of}
 use Rattle.definition.specs.Load.{program_with, program_of}
 use Rattle.definition.specs.Statements.{Entities, Does, place_of, does_at}
 use Rattle.definition.specs.Machine.{Program, with_unpacked, Config, entities_of, advanced, step_as, completed, refused_step, handed_step, entry_conditions, entered, enter, left, leave_conditions, return_conditions, returned, as_step, step, run_for}
-use Rattle.definition.specs.LoadLaws.{InRange}
+use Rattle.definition.proofs.LoadLaws.{InRange}
 use Rattle.execution.specs.declared.Executed.{Executed}
 use Rattle.execution.specs.declared.Executed.TheVariants as does
 use Rattle.execution.specs.Execution.{executed, execution, entities_at}

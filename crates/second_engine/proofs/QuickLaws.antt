@@ -13,7 +13,7 @@ use Rattle.definition.specs.declared.Statement.{Statement}
 use Rattle.definition.specs.declared.Definition.{Definition}
 use Rattle.definition.specs.Checks.{judge}
 use Rattle.definition.specs.File.{Contents, contents_at, with_statements, records, u32_at}
-use Rattle.definition.specs.RecordLaws.{length_records}
+use Rattle.definition.proofs.RecordLaws.{length_records}
 use Rattle.definition.specs.Floats.{is_zero}
 use Rattle.definition.specs.Cells.{signed, cell_of, Typing, typing_of, access, cell_access, lookup, passes}
 use Rattle.definition.specs.Statements.{Entities, Does, next, Shape, branches, opcodes, shape_of, floats_effect, effect_does, branches_do, tables_of, execute_as, execute, does_at}

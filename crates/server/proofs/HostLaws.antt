@@ -14,7 +14,7 @@ use Rattle.definition.specs.Load.{program_with, program_of}
 use Rattle.definition.specs.Operations.{sound, natural, below, permitted, run_conditions, run}
 use Rattle.progs.specs.declared.ExecutionContext.{ExecutionContext}
 use Rattle.progs.specs.Contexts.{config}
-use Rattle.definition.specs.PlaceLaws.{below_place, place_zero, place_natural}
+use Rattle.definition.proofs.PlaceLaws.{below_place, place_zero, place_natural}
 use Rattle.server.specs.declared.Ran.{Ran}
 use Rattle.server.specs.Stepping.{ran_of, not_run}
 

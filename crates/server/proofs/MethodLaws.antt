@@ -12,7 +12,7 @@ use Rattle.definition.specs.declared.Answer.TheVariants as answer
 use Rattle.definition.specs.declared.RunAnswer.TheVariants as run
 use Rattle.definition.specs.Checks.{Checked, refused, accepted}
 use Rattle.definition.specs.File.{negative}
-use Rattle.definition.specs.CheckLaws.{All, and_right, accepted_all}
+use Rattle.definition.proofs.CheckLaws.{All, and_right, accepted_all}
 use Rattle.definition.specs.Machine.{Program, function_of, Config, completed, entry_conditions, entered, enter, leave_conditions, left, return_conditions, returned, as_step, step, run_for}
 use Rattle.definition.specs.Answers.{Outcome, answer_of, kept, outcome}
 use Rattle.progs.specs.declared.ExecutionContext.{ExecutionContext}

@@ -8,7 +8,7 @@ use Rattle.definition.specs.Checks.{Condition, Conditions, ◌otherwise◌, judg
 use Rattle.definition.specs.File.{negative}
 use Rattle.definition.specs.Cells.{Typing, lookup, scalar, passes, cell_access, vector_access, access, read_access, field_cell_access, field_access}
 use Rattle.definition.specs.Statements.{component}
-use Rattle.definition.specs.CheckLaws.{judge_append}
+use Rattle.definition.proofs.CheckLaws.{judge_append}
 use Rattle.typed.specs.declared.TypeCheck.TheVariants.{Passed, Failed}
 use Rattle.typed.specs.Typing.{type_check}
 use Rattle.typed.specs.Checking.{first, Reaches}

@@ -19,7 +19,7 @@ use Rattle.functions.specs.declared.fetch.Fetched.TheVariants as fetch
 use Rattle.functions.specs.Answers.{fetched}
 use Rattle.functions.specs.Parts.{part_of, statements_in, functions_in}
 use Rattle.functions.specs.PartLaws.{part_records, count_part, statement_local, function_local}
-use Rattle.definition.specs.RecordLaws.{length_records, get_d_records}
+use Rattle.definition.proofs.RecordLaws.{length_records, get_d_records}
 use Rattle.view.specs.declared.FoundDefinition.TheVariants as definition
 use Rattle.view.specs.Records.{record_at, statement_in, function_in, not_found, is_found, definition_at, no_definition}
 

@@ -8,7 +8,7 @@ use Rattle.std.proofs.Math.ListN.{length-append, length-replicate}
 use Rattle.std.proofs.lemmas.List.{replicate-append-replicate}
 use Rattle.definition.specs.declared.FileRecord.{FileRecord}
 use Rattle.definition.specs.File.{byte_at, u32_at, records, read_statement, read_definition, read_function, file_of, Contents, contents_at}
-use Rattle.definition.specs.RecordLaws.{length_records}
+use Rattle.definition.proofs.RecordLaws.{length_records}
 use Rattle.definition.specs.Written.{u16_bytes, u32_bytes, function_bytes, bytes_of, layout, layout_of, header_numbers, written, padded, image}
 use Rattle.functions.specs.Laws.{AllFit}
 use Rattle.functions.specs.Parts.{part_of, statements_in, definitions_in, functions_in, cells_in}

@@ -8,7 +8,7 @@ use Rattle.std.proofs.Math.ListN.{get_or}
 use Rattle.definition.specs.declared.FileRecord.{FileRecord}
 use Rattle.definition.specs.declared.FunctionDef.{FunctionDef}
 use Rattle.definition.specs.File.{version_of, check_number_of, file_of, byte_at, u16_at, u32_at, records, Contents, contents_at, contents_of}
-use Rattle.definition.specs.RecordLaws.{get_d_records}
+use Rattle.definition.proofs.RecordLaws.{get_d_records}
 use Rattle.definition.specs.Written.{u16_bytes, u32_bytes, statement_bytes, definition_bytes, function_bytes, bytes_of, layout, layout_of, header_numbers, written}
 use Rattle.functions.specs.PartLaws.{Same, u32_local}
 use Rattle.writing_laws.specs.ReadBack.{Holds, holds_itself, holds_front, holds_back, Each, each_any, length_bytes, records_back, bytes, numbers, statements, definitions, Eight, functions}

@@ -1,7 +1,7 @@
 use mathlib.Core.Path.{sym, ◌∙◌}
 use native.Mathlib.Omega.{arith}
 use Rattle.typed.specs.Laws.{field_reach}
-use Rattle.definition.specs.StatementLaws.{entity_cell}
+use Rattle.definition.proofs.StatementLaws.{entity_cell}
 use Rattle.typed.specs.Typing.{typing}
 use Rattle.typed.specs.Checking.{Reaches}
 use Rattle.entities.specs.Lent.{entities_in}

@@ -1,5 +1,5 @@
 use mathlib.Core.Path.{sym, ◌∙◌}
-use Rattle.definition.specs.RecordLaws.{length_records}
+use Rattle.definition.proofs.RecordLaws.{length_records}
 use Rattle.functions.specs.Laws.{function_found}
 use Rattle.execution.proofs.Transfers.{call_none, call_missing, call_unknown, call_builtin, call_enters}
 use borrow.Author.Rules.{rules}

@@ -1,6 +1,6 @@
 use mathlib.Core.Path.{sym, ◌∙◌, ap}
 use borrow.Author.Tests.{not-true, not-false}
-use Rattle.definition.specs.RecordLaws.{length_records}
+use Rattle.definition.proofs.RecordLaws.{length_records}
 use Rattle.definition.specs.Operations.{is_handed_over}
 use Rattle.functions.specs.Laws.{function_found}
 use Rattle.execution.proofs.Transfers.{call_none, call_missing, call_unknown, call_builtin, call_enters}

@@ -3,7 +3,7 @@ use mathlib.Core.Path.{sym, ◌∙◌}
 use native.Mathlib.Nat.{zero-add}
 use native.Mathlib.Omega.{arith}
 use lib.ListN.{length}
-use Rattle.definition.specs.RecordLaws.{get_d_records}
+use Rattle.definition.proofs.RecordLaws.{get_d_records}
 use Rattle.functions.specs.PartLaws.{record_ends}
 use Rattle.functions.proofs.get_def.Goals as goal
 

@@ -7,7 +7,7 @@ use native.Mathlib.Omega.{arith}
 use lib.ListN.{length}
 use Rattle.definition.specs.File.{contents_at, unpacked_statements, with_statements}
 use Rattle.definition.specs.Statements.{Does}
-use Rattle.definition.specs.RecordLaws.{length_records}
+use Rattle.definition.proofs.RecordLaws.{length_records}
 use Rattle.functions.specs.declared.fetch.Fetched.TheVariants.{At}
 use Rattle.functions.specs.Answers.{fetched}
 use Rattle.functions.specs.Laws.{fetch_accepts, lump_fitting}

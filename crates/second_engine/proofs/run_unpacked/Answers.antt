@@ -13,7 +13,7 @@ use Rattle.definition.specs.Load.{program_of}
 use Rattle.definition.specs.Machine.{with_unpacked}
 use Rattle.definition.specs.Operations.{sound}
 use Rattle.definition.specs.Statements.{place_of}
-use Rattle.definition.specs.UnpackedLaws.{sound_kept}
+use Rattle.definition.proofs.UnpackedLaws.{sound_kept}
 use Rattle.progs.specs.Contexts.{config, Within}
 use Rattle.progs.proofs.StateLaws.{passed}
 use Rattle.server.proofs.HostLaws.{run_13, run_37, run_28_none, run_28_over, run_29, run_goes}

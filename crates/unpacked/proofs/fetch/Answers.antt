@@ -4,7 +4,7 @@ use native.Mathlib.Omega.{arith}
 use lib.ListN.{length}
 use mir.Facts.{to_z-of_z}
 use borrow.Author.Rules.{rules}
-use Rattle.definition.specs.RecordLaws.{length_records}
+use Rattle.definition.proofs.RecordLaws.{length_records}
 use Rattle.definition.specs.Statements.{place_of}
 use Rattle.functions.proofs.Fetching.{read_at, none_there, bad_opcode, fetched_at}
 use Rattle.unpacked.proofs.fetch.Goals as goal

@@ -5,7 +5,7 @@ use lib.ListN.{length}
 use mir.Facts.{to_z-of_z}
 use borrow.Author.Rules.{rules}
 use Rattle.definition.specs.Statements.{place_of}
-use Rattle.definition.specs.RecordLaws.{length_records}
+use Rattle.definition.proofs.RecordLaws.{length_records}
 use Rattle.functions.specs.PartLaws.{record_ends}
 use Rattle.functions.proofs.Fetching.{read_at, none_there, bad_opcode, fetched_at}
 use Rattle.functions.proofs.fetch.fetch.Goals as goal

@@ -5,7 +5,7 @@ use native.Mathlib.Omega.{arith}
 use borrow.Author.Rules.{rules}
 use borrow.Author.Tests.{lt-ltb, le-ltb, leb-true}
 use lib.Dec.{leb}
-use Rattle.definition.specs.CheckLaws.{and_left}
+use Rattle.definition.proofs.CheckLaws.{and_left}
 use Rattle.load_file.specs.Numbers.{with_digit}
 use Rattle.load_file.proofs.numbers.with_digit.Goals as goal
 

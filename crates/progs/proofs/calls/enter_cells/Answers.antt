@@ -4,7 +4,7 @@ use Rattle.progs.proofs.CopyLaws.{present_of, present_more, copies_more}
 use Rattle.progs.specs.Numbers.{numbered}
 use Rattle.functions.specs.Parts.{functions_in}
 use Rattle.definition.specs.Machine.{Program}
-use Rattle.definition.specs.RecordLaws.{length_records}
+use Rattle.definition.proofs.RecordLaws.{length_records}
 use Rattle.definition.specs.File.{no_function, read_function}
 use Rattle.definition.specs.declared.FunctionDef.{FunctionDef}
 use mir.Facts.{to_z_pos}

@@ -8,7 +8,7 @@ use mir.Syntax.{w64}
 use borrow.Author.Rules.{rules}
 use mathlib.Core.Bool.{true, false}
 use Rattle.definition.specs.File.{unpacked_statements}
-use Rattle.definition.specs.RecordLaws.{length_records}
+use Rattle.definition.proofs.RecordLaws.{length_records}
 use Rattle.functions.specs.Answers.{fetched}
 use Rattle.functions.specs.declared.fetch.Fetched.TheVariants.{At}
 use Rattle.functions.specs.Laws.{fetch_accepts}

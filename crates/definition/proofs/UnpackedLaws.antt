@@ -13,8 +13,8 @@ use Rattle.definition.specs.Machine.{Program, with_unpacked, function_of, Config
 use Rattle.definition.specs.Load.{program_with, program_of}
 use Rattle.definition.specs.Operations.{entered_functions, all_present, locals_of, sound, run}
 use Rattle.definition.specs.Unpacked.{unpack_conditions, buffer_after, unpack, Unpacked}
-use Rattle.definition.specs.CheckLaws.{WhenAccepted, guarded}
-use Rattle.definition.specs.RecordLaws.{length_records}
+use Rattle.definition.proofs.CheckLaws.{WhenAccepted, guarded}
+use Rattle.definition.proofs.RecordLaws.{length_records}
 
 -- ---- what was unpacked is read back
 

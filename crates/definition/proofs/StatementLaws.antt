@@ -22,7 +22,7 @@ use Rattle.definition.specs.Statements.{value_moved, loads_effect, addresses_eff
 use Rattle.definition.specs.Machine.{Program}
 use Rattle.definition.specs.Load.{program_with, program_of}
 use Rattle.definition.specs.Log.{function_in, Kind, entry, leaving, other, statement_kind}
-use Rattle.definition.specs.CheckLaws.{All, judge_passed, all_front, all_back, and_left, and_right}
+use Rattle.definition.proofs.CheckLaws.{All, judge_passed, all_front, all_back, and_left, and_right}
 
 -- ---- the table of opcodes
 

@@ -5,7 +5,7 @@ use Rattle.definition.specs.declared.Settings.{Settings}
 use Rattle.definition.specs.Checks.{Conditions}
 use Rattle.definition.specs.File.{saved_store, greatest_depth, greatest_limit, greatest_check_number, file_of, contents_of, between, settings_fit}
 use Rattle.definition.specs.Load.{header_conditions, record_conditions, cell_conditions, entity_conditions, file_conditions}
-use Rattle.definition.specs.CheckLaws.{All, and_left, and_right, all_front, all_back}
+use Rattle.definition.proofs.CheckLaws.{All, and_left, and_right, all_front, all_back}
 
 -- settings in range, by the numbers of R-11: "Check number (0 to 65,535), greatest depth (1 to 31), greatest saved count (0 to 2,048) and greatest run
 -- limit (1 to 99,999)"

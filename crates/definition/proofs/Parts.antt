@@ -5,7 +5,7 @@ use Rattle.std.proofs.Math.Seq.{paste, paste-zero}
 use Rattle.std.proofs.lemmas.List.Edits.{length-paste, drop-paste}
 use Rattle.std.proofs.lemmas.List.{take-append-le, drop-append-le}
 use Rattle.definition.specs.Machine.{present, Copy, copied, copies_present}
-use Rattle.definition.specs.CheckLaws.{or_cases, and_left, and_right}
+use Rattle.definition.proofs.CheckLaws.{or_cases, and_left, and_right}
 
 abbrev pub part : List ℕ → ℕ → ℕ → List ℕ
 part xs a n = take n (drop a xs)

@@ -18,12 +18,12 @@ use Rattle.definition.specs.Calls.{Call}
 use Rattle.definition.specs.Log.{Note, Log, function_in, local_cells, Kind, entry, leaving, other}
 use Rattle.definition.specs.Trace.{log_after}
 use Rattle.definition.specs.Returns.{locals_noted, DepthsMatch, Restored, LeavingRestores, StepCorrect, Demand3}
-use Rattle.definition.specs.CheckLaws.{All, and_right, WhenAccepted, guarded}
-use Rattle.definition.specs.Parts.{part, part_below, part_pasted, Present, present_true, present_more, present_source, length_pasted, part_restored, length_copied}
-use Rattle.definition.specs.StatementLaws.{Keeps}
-use Rattle.definition.specs.Invariant.{Preserves, Inductive, always}
-use Rattle.definition.specs.RecordLaws.{length_globals}
-use Rattle.definition.specs.LoadLaws.{settings_fit_law, load_rows_law}
+use Rattle.definition.proofs.CheckLaws.{All, and_right, WhenAccepted, guarded}
+use Rattle.definition.proofs.Parts.{part, part_below, part_pasted, Present, present_true, present_more, present_source, length_pasted, part_restored, length_copied}
+use Rattle.definition.proofs.StatementLaws.{Keeps}
+use Rattle.definition.proofs.Invariant.{Preserves, Inductive, always}
+use Rattle.definition.proofs.RecordLaws.{length_globals}
+use Rattle.definition.proofs.LoadLaws.{settings_fit_law, load_rows_law}
 
 -- ---- the invariant
 

@@ -19,10 +19,10 @@ use Rattle.definition.specs.Calls.{Call, enters, steps, runs, runs_unpacked, car
 use Rattle.definition.specs.Log.{Log, Kind, entry, leaving, other, statement_kind, kind_of}
 use Rattle.definition.specs.Trace.{kind_at, log_after, Transition, StepProperty, StateProperty, Trace, log_after_steps, Counted, Always}
 use Rattle.definition.specs.Unpacked.{Unpacked, Ready, AllReady}
-use Rattle.definition.specs.UnpackedLaws.{same_program}
-use Rattle.definition.specs.CheckLaws.{All, judge_passed, judge_all, all_front, all_back, WhenAccepted, guarded, guard_accepts}
-use Rattle.definition.specs.PlaceLaws.{below_natural}
-use Rattle.definition.specs.StatementLaws.{Keeps, keeps_all, keeps_set, keeps_one, HasKind, before_in, statement_has_kind}
+use Rattle.definition.proofs.UnpackedLaws.{same_program}
+use Rattle.definition.proofs.CheckLaws.{All, judge_passed, judge_all, all_front, all_back, WhenAccepted, guarded, guard_accepts}
+use Rattle.definition.proofs.PlaceLaws.{below_natural}
+use Rattle.definition.proofs.StatementLaws.{Keeps, keeps_all, keeps_set, keeps_one, HasKind, before_in, statement_has_kind}
 
 -- ---- a run's small steps are as many as it counts
 
