@@ -1,10 +1,8 @@
 -- `writer::copy` meets its contract. The loop's invariant: the first i bytes are copied. The measure is what is left of them. Assumes nothing.
-use Prim.Native.Nat.{◌-◌, ◌≤◌}
-use mathlib.Core.Path.{◌≡◌, refl}
-use mathlib.Core.List.{◌++◌}
+use mathlib.Core.Path.{refl}
 use native.Mathlib.Omega.{arith}
 use borrow.Author.Rules.{rules}
-use lib.ListN.{length, take, drop, length-set}
+use lib.ListN.{length-set}
 use Rattle.writer.proofs.Copying.{one_more, all_copied}
 use Rattle.writer.proofs.copy.Goals as goal
 

@@ -1,11 +1,8 @@
 -- `writer::copy` meets its contract. The loop's invariant: the first i bytes are copied. The measure is what is left of them. Assumes nothing.
 use Prim.Native.Nat.{◌-◌, ◌≤◌}
-use mathlib.Core.Path.{◌≡◌, refl}
+use mathlib.Core.Path.{◌≡◌}
 use mathlib.Core.List.{◌++◌}
-use native.Mathlib.Omega.{arith}
-use borrow.Author.Rules.{rules}
-use lib.ListN.{length, take, drop, length-set}
-use Rattle.writer.proofs.Copying.{one_more, all_copied}
+use lib.ListN.{length, take, drop}
 use Rattle.writer.proofs.copy.Given as goal
 
 abbrev pub invariant-loop-i : goal.invariant-loop-i

@@ -1,7 +1,6 @@
 -- `writer::laid_out` meets its contract: each lump starts where the one before it ends, and no sum wraps. Assumes nothing.
 use mathlib.Core.Path.{refl}
 use native.Mathlib.Omega.{arith}
-use borrow.Author.Rules.{rules}
 use Rattle.definition.specs.Written.{layout}
 use Rattle.writer.proofs.Program.{Within, within_behind}
 use Rattle.writer.proofs.laid_out.Goals as goal

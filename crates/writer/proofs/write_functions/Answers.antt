@@ -1,15 +1,9 @@
 -- `writer::write_functions` meets its contract. The loop's invariant: what is left to be put is the functions from number i on. The measure is how many
 -- they are. Assumes nothing.
-use Prim.Native.Nat.{◌/◌, ◌-◌, ◌≤◌}
-use mathlib.Core.Path.{◌≡◌}
 use native.Mathlib.Omega.{arith}
-use borrow.Author.Rules.{rules}
-use lib.ListN.{length}
-use Rattle.definition.specs.Written.{function_bytes, bytes_of}
-use Rattle.functions.specs.Parts.{functions_in}
 use Rattle.functions.specs.PartLaws.{record_ends}
-use Rattle.text.specs.Output.{output, Rest, rest_all}
-use Rattle.writer.proofs.Functions.{from_on, from_first, function_room, function_less, functions_put}
+use Rattle.text.specs.Output.{rest_all}
+use Rattle.writer.proofs.Functions.{from_first, function_room, function_less, functions_put}
 use Rattle.writer.proofs.write_functions.Goals as goal
 
 pub loop-i-init : goal.loop-i-init

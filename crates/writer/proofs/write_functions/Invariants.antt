@@ -2,14 +2,11 @@
 -- they are. Assumes nothing.
 use Prim.Native.Nat.{◌/◌, ◌-◌, ◌≤◌}
 use mathlib.Core.Path.{◌≡◌}
-use native.Mathlib.Omega.{arith}
-use borrow.Author.Rules.{rules}
 use lib.ListN.{length}
 use Rattle.definition.specs.Written.{function_bytes, bytes_of}
 use Rattle.functions.specs.Parts.{functions_in}
-use Rattle.functions.specs.PartLaws.{record_ends}
-use Rattle.text.specs.Output.{output, Rest, rest_all}
-use Rattle.writer.proofs.Functions.{from_on, from_first, function_room, function_less, functions_put}
+use Rattle.text.specs.Output.{output, Rest}
+use Rattle.writer.proofs.Functions.{from_on}
 use Rattle.writer.proofs.write_functions.Given as goal
 
 abbrev pub invariant-loop-i : goal.invariant-loop-i

@@ -1,5 +1,4 @@
 -- `writer::write_lump` meets its contract: the part is the lump's bytes. Assumes nothing.
-use borrow.Author.Rules.{rules}
 use Rattle.writer.proofs.write_lump.Goals as goal
 
 pub write_part-requires : goal.write_part-requires

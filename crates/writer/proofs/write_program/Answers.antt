@@ -3,7 +3,6 @@ use Prim.Native.Nat.{ℕ, ◌*◌}
 use mathlib.Core.Path.{◌≡◌, refl, sym, ap, ◌∙◌}
 use mathlib.Core.List.{List, ◌++◌}
 use native.Mathlib.Omega.{arith}
-use borrow.Author.Rules.{rules}
 use lib.ListN.{length, replicate}
 use Rattle.definition.specs.declared.FileRecord.{FileRecord}
 use Rattle.definition.specs.File.{contents_at}
@@ -13,12 +12,8 @@ use Rattle.writing_laws.specs.Lumps.{laid_out, more_cells, lumps_of, length_laid
 use Rattle.writer.proofs.Program.{counted, small, header_long, too_short, too_long, all_written}
 use Rattle.writer.proofs.write_program.Goals as goal
 
--- the record with the zero cells counted, the file, the header, the lumps and the zeros; the layout's length is that of what is to be written
-
--- the header's place, and the room for what comes behind it
-
 pub laid_out-laid-requires : goal.laid_out-laid-requires
-laid_out-laid-requires c = rw c.more_cells.ensures (counted _ _ _ c.requires.all_fit c.requires.1.1)
+laid_out-laid-requires c = rw c.more_cells.ensures (counted _ _ _ c.requires.all_fit c.requires.entityfields_bound.1)
 
 pub returns-then-out-laid : goal.returns-then-out-laid
 returns-then-out-laid c =
@@ -41,7 +36,7 @@ write_header-at-requires c =
     let counts' : FileRecord = more_cells c.args.zeros c.args.r in
     let laid' : c.laid_out-laid.result ≡ laid_out counts' = c.laid_out-laid.ensures ∙ ap laid_out c.more_cells.ensures in
     let same_size' : c.laid_out-laid.result.length ≡ (laid_out counts').length = ap (λ (x : FileRecord). x.length) laid' in
-    record { in_bounds = omega (arith, same_size', header_long counts', c.if-out-laid.false); small = rw laid' (small counts' (omega (arith, same_size', c.if-laid-gt-LONGEST_FILE.false)) c.requires.entityfields_bound) }
+    record { in_bounds = omega (arith, same_size', header_long counts', c.if-out-laid.false); small = rw laid' (small counts' (omega (arith, same_size', c.if-laid-gt-LONGEST_FILE.false)) c.requires.entityfields_bound.0) }
 
 pub write_lumps-end-requires : goal.write_lumps-end-requires
 write_lumps-end-requires c =
@@ -57,7 +52,7 @@ write_lumps-end-requires c =
     record { all_fit = c.requires.all_fit; room = room_first _ _ _ refl behind' }
 
 pub overflow_mul-zeros : goal.overflow_mul-zeros
-overflow_mul-zeros c = record { fits = omega (arith, c.requires.1.1) }
+overflow_mul-zeros c = record { fits = omega (arith, c.requires.entityfields_bound.1) }
 
 pub write_zeros-requires : goal.write_zeros-requires
 write_zeros-requires c =
