@@ -9,3 +9,4 @@ pub mod Invariant
 pub mod LoadLaws
 pub mod ReturnsProof
 pub mod WrittenLaws
+pub mod Starred

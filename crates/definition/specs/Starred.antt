@@ -446,7 +446,7 @@ all [] = true
 all (row words gives says ∷ rows) = same gives says && all rows
 
 -- the starred situations, and the show program's line
-abbrev situations : List Row
+abbrev pub situations : List Row
 situations =
     row "BitAnd 2147483648.0, 1.0: 1.0" (after (bit_and 28 29 30) (0x4f000000 ∷ 0x3f800000 ∷ []) (cells 1 30)) (accepted (0x3f800000 ∷ []))
     ∷ row "BitOr 16777216.0, 1.0: 16777216.0" (after (bit_or 28 29 30) (0x4b800000 ∷ 0x3f800000 ∷ []) (cells 1 30)) (accepted (0x4b800000 ∷ []))
@@ -476,7 +476,7 @@ situations =
     ∷ []
 
 -- what a load leaves, and what it refuses: a file with two defects is refused for the first
-abbrev loads : List Row
+abbrev pub loads : List Row
 loads =
     row "Position, function and depths start at 0" (show state) (accepted (0 ∷ 0 ∷ 0 ∷ 0 ∷ []))
     ∷ row "A load fills the lent cells from 0 and leaves those past the file's count"
@@ -513,7 +513,7 @@ loads =
     ∷ []
 
 -- check 13, before what each operation's own row refuses
-abbrev checks : List Row
+abbrev pub checks : List Row
 checks =
     row "13: not in a state that a load left" (from_then thirteen thirteen every_operation) own
     ∷ row "13: file length .. not as the state records" (from_then thirteen (thirteen ++ (0 ∷ [])) every_operation) all13
@@ -541,7 +541,7 @@ checks =
     ∷ []
 
 -- what entries and statements refuse, and 01's "Tempting"; 114 101 102 117 115 101 100 is "refused"
-abbrev operands : List Row
+abbrev pub operands : List Row
 operands =
     row "21: builtin" (entering (fn 0xffffffff 0 0 0 []) state) (refused 21)
     ∷ row "24: argument count outside 0 to 8" (entering (fn 0xffffffff 0 0 0xffffffff []) state) (refused 24)
@@ -574,7 +574,7 @@ operands =
     ∷ []
 
 -- entries and returns
-abbrev calls : List Row
+abbrev pub calls : List Row
 calls =
     row "A Call records the position after itself" (nested (complete (state and frame 1))) (accepted (3 ∷ 2 ∷ 2 ∷ 1 ∷ 1 ∷ 2 ∷ []))
     ∷ row "a host entry the present one" (nested (enter 2 (state and frame 1))) (accepted (3 ∷ 2 ∷ 2 ∷ 1 ∷ 1 ∷ 1 ∷ []))
@@ -615,7 +615,7 @@ calls =
     ∷ []
 
 -- runs, carry on, abandon; 98 117 105 108 116 105 110 is "builtin", 111 112 99 111 100 101 is "opcode", 115 112 101 110 116 is "spent"
-abbrev runs : List Row
+abbrev pub runs : List Row
 runs =
     row "a builtin is then handed over"
     (from builtin35 (enter 1 (run_to_end (carry state))))
@@ -652,7 +652,7 @@ runs =
     ∷ []
 
 -- other sentences
-abbrev others : List Row
+abbrev pub others : List Row
 others =
     row "A refusal gives its number and leaves state and buffers"
     (from (program [] (fn 1 30 1 0 [] ∷ fn 0xffffffff 40 1 1 (1 ∷ []) ∷ []) numbered)
@@ -678,49 +678,3 @@ unfolding judge guard
     each header_conditions record_conditions cell_conditions loaded load same_file recorded_in program_with
     frame_functions entered_functions all_present locals_of sound host_enter statement run_conditions run carry_on_conditions carry_on left_times leavings_conditions abandon_conditions abandon raw_read raw_write
 computing = tt
-
-record Hold (rows : List Row) : Type 0 where
-  all_same : T (all rows)
-
-before : {b : List Row} (a : List Row) → Hold b → T (all a) → Hold (a ++ b)
-before {b} a k h = record { all_same = go a h }
-  where
-    if_same : (a : List Row) (x : Bool) → (T (all a) → T (all (a ++ b))) → T (x && all a) → T (x && all (a ++ b))
-    if_same a true rest h = rest h
-    if_same a false rest h = h
-
-    go : (a : List Row) → T (all a) → T (all (a ++ b))
-    go [] h = k.all_same
-    go (row words gives says ∷ a) h = if_same a (same gives says) (go a) h
-
--- one group after another: of one check of all the rows the memory would be thrice that, and where a row fails those of later groups aren't computed
-situations_hold : Hold situations
-unfolding computing
-situations_hold = record { all_same = tt }
-
-calls_hold : Hold (calls ++ situations)
-unfolding computing
-calls_hold = before calls situations_hold tt
-
-operands_hold : Hold (operands ++ calls ++ situations)
-unfolding computing
-operands_hold = before operands calls_hold tt
-
-runs_hold : Hold (runs ++ operands ++ calls ++ situations)
-unfolding computing
-runs_hold = before runs operands_hold tt
-
-checks_hold : Hold (checks ++ runs ++ operands ++ calls ++ situations)
-unfolding computing
-checks_hold = before checks runs_hold tt
-
-loads_hold : Hold (loads ++ checks ++ runs ++ operands ++ calls ++ situations)
-unfolding computing
-loads_hold = before loads checks_hold tt
-
-others_hold : Hold (others ++ loads ++ checks ++ runs ++ operands ++ calls ++ situations)
-unfolding computing
-others_hold = before others loads_hold tt
-
-pub starred : T (all rows)
-starred = others_hold.all_same
