@@ -13,6 +13,5 @@ offset_bounds-cells-a c = let h = cell_reach _ _ _ (sym c.check_cell-r.ensures �
 pub bounds-cells-a : goal.bounds-cells-a
 bounds-cells-a c = let h = cell_reach _ _ _ (sym c.check_cell-r.ensures ∙ c.if-r-ne0.false) in search rules
 
--- look: no step `Callee-of`
 pub returns : goal.returns
-returns c = λ p. call_goes _ _ p _ _ _ (sym c.check_cell-r.ensures ∙ c.if-r-ne0.false) (c.Callee-of.ensures _ p _)
+returns c = λ p. call_goes _ _ p _ _ _ (sym c.check_cell-r.ensures ∙ c.if-r-ne0.false) (c.callee_of.ensures _ p _)

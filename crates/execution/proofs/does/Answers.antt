@@ -24,7 +24,11 @@ execute-requires c =
     let fetched_here' : c.fetch-fetched.result ≡ fetched (contents_at c.args.recorded c.args.file.now).statements c.args.pc = let g : SFits w64 c.args.pc = search rules in
     (rw (to_z-of_z g) at c.fetch-fetched.ensures) ∙ rw (c.part.ensures, part_statements _ _ c.requires.usable.lumps) in
     let a = fetch_accepts _ _ _ _ (sym c.in-At.is ∙ fetched_here') in
-    (c.requires.usable, (c.requires.usable_fields, (omega (arith, a.there, count_statements c.args.recorded c.args.file.now, (lump_fitting 8 _ c.args.recorded.statements c.requires.usable.lumps.statements).count), a.opcode)))
+    record {
+      usable = c.requires.usable;
+      usable_fields = c.requires.usable_fields;
+      k_bound = (omega (arith, a.there, count_statements c.args.recorded c.args.file.now, (lump_fitting 8 _ c.args.recorded.statements c.requires.usable.lumps.statements).count), a.opcode);
+    }
 
 pub returns-in-At : goal.returns-in-At
 returns-in-At c =

@@ -13,7 +13,7 @@ returns-then-is_floats c =
     (floats_written _ _ _ _ _ _ _ _ (sym c.is_floats.ensures ∙ c.if-is_floats.true) _ _ _ c.op_floats-answer.ensures c.completed.ensures)
 
 pub shape_of-shape-requires : goal.shape_of-shape-requires
-shape_of-shape-requires c = (c.requires.1.1.1, sym c.is_floats.ensures ∙ c.if-is_floats.false)
+shape_of-shape-requires c = (c.requires.k_bound.1, sym c.is_floats.ensures ∙ c.if-is_floats.false)
 
 pub returns-in-Cells : goal.returns-in-Cells
 returns-in-Cells c =
@@ -21,7 +21,7 @@ returns-in-Cells c =
     (written _ _ _ _ _ _ _ _ c.shape_of-shape.result c.shape_of-shape.ensures _ _ _ c.cell_of-a.ensures c.cell_of-b.ensures c.cell_of-c.ensures _ _ _ c.completed-in-Cells.ensures _ c.in-Cells.is c.write-answer.ensures)
 
 pub completed-requires-in-Strings : goal.completed-requires-in-Strings
-completed-requires-in-Strings c = c.requires.k_bound
+completed-requires-in-Strings c = c.requires.k_bound.0
 
 pub returns-in-Strings : goal.returns-in-Strings
 returns-in-Strings c =
@@ -31,7 +31,10 @@ returns-in-Strings c =
 pub field-requires : goal.field-requires
 field-requires c =
     let u = c.requires.usable_fields in
-    ((c.requires.usable.lends, c.requires.k_bound), record { number_most = u.number_most; size_least = u.size_least; size_below = u.size_most; enough = u.lends_fields })
+    record {
+      count_in_bounds = (c.requires.usable.lends, c.requires.k_bound.0);
+      lent = record { number_most = u.number_most; size_least = u.size_least; size_below = u.size_most; enough = u.lends_fields };
+    }
 
 pub returns-in-Fields : goal.returns-in-Fields
 returns-in-Fields c =
