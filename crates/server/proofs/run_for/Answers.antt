@@ -29,16 +29,17 @@ pub loop-count-init : goal.loop-count-init
 loop-count-init c = ((((refl, refl, refl, refl), c.requires.within), c.requires.apart), run_start _ _ _ _ (λ z. let over = c.requires.apart (omega (arith, z)) in absurd (omega (arith, z, over, c.requires.within.depth))))
 
 pub overflow_add-completed : goal.overflow_add-completed
-overflow_add-completed c = omega (arith, c.loop-count-test.true, c.well-formed.1.1.0)
+overflow_add-completed c = omega (arith, c.loop-count-test.true, c.ranges.limit)
 
 pub does-done-requires : goal.does-done-requires
 does-done-requires c =
     let w = c.requires.within in
     let i = c.loop-count.invariant.0.0 in
-    let size = ap (λ (r : FileRecord). r.entityfields) (w.loaded.same ∙ sym i.1.loaded.same) in (
-      record { lumps = w.loaded.lumps; most = w.most; lends = omega (arith, w.lent, i.0.0) },
-      record { size_least = w.size_least; size_most = w.size_most; number_most = rw i.0.3 i.1.number; lends_fields = rw (i.0.3, size) i.1.fields },
-    )
+    let size = ap (λ (r : FileRecord). r.entityfields) (w.loaded.same ∙ sym i.1.loaded.same) in
+    record {
+      usable = record { lumps = w.loaded.lumps; most = w.most; lends = omega (arith, w.lent, i.0.0) };
+      usable_fields = record { size_least = w.size_least; size_most = w.size_most; number_most = rw i.0.3 i.1.number; lends_fields = rw (i.0.3, size) i.1.fields };
+    }
 
 pub after-back-requires : goal.after-back-requires
 after-back-requires c =
@@ -66,7 +67,6 @@ shape_of-store-in-Refused-answer c = c.enter_function-entered.auto.store ∙ c.l
 pub shape_of-entities-in-Refused-answer : goal.shape_of-entities-in-Refused-answer
 shape_of-entities-in-Refused-answer c = c.does-done.auto.entities ∙ c.loop-count.invariant.0.0.0.2
 
--- look: helper `entered` is not read
 pub returns-in-Refused-answer : goal.returns-in-Refused-answer
 returns-in-Refused-answer c =
     let did' : let s = c.args in
@@ -79,6 +79,15 @@ returns-in-Refused-answer c =
   same _ _ _ _ _ _ _ _ _ c.loop-count.invariant.1 c.loop-count-test.true _ _ _ did' (does.Calls c.in-Calls.f) c.in-Calls.is,
   same_fields _ _ _ _ _ _ _ _ _ c.loop-count.invariant.1 c.loop-count-test.true _ _ _ did' (does.Calls c.in-Calls.f) c.in-Calls.is,
 ) in
+    let called_at' : AtStatement c.loop-count.now.pc = call_at _ _ _ c.in-Calls.is (does_call_at _ c.loop-count.now _ _ _ _ _ c.loop-count.invariant.0.0.1.loaded did') in
+    let place' : c.place_of.result ≡ place_of 0 c.loop-count.now.pc = let g : SFits w64 c.loop-count.now.pc = search rules in rw (to_z-of_z g) at c.place_of.ensures in
+    let entered' : (es : List ℕ) → outcome_of c.enter_function-entered.result c.enter_function-entered.new.cells c.enter_function-entered.new.store es
+    ≡ after (config c.loop-count.now c.does-done.new.cells c.loop-count.store es) (enter (program_of c.args.file.now) c.in-Calls.f (c.loop-count.now.pc +ℤ pos 1)) =
+      λ es.
+      let g : SFits w64 c.after-back.result = search rules in
+      let back = c.after-back.ensures ∙ ap (λ (j : ℕ). pos j +ℤ pos 1) place' ∙ ap (λ (p : ℤ). p +ℤ pos 1) (sym called_at'.is) in
+      (rw (to_z-of_z g) at (c.enter_function-entered.ensures es))
+      ∙ ap (λ (p : ℤ). after (config c.loop-count.now c.does-done.new.cells c.loop-count.store es) (enter (program_of c.args.file.now) c.in-Calls.f p)) back in
     let k = calls_kept' in
     method_refused _ _ _ _ _ _ _ _ _ c.loop-count.invariant.1 c.loop-count-test.true (enter (program_of c.args.file.now) c.in-Calls.f (c.loop-count.now.pc +ℤ pos 1)) step_enters' _ _ k.0 k.1 _ _ _ entered' _ c.in-Refused-answer.is _ c.ends.ensures
 
@@ -187,7 +196,6 @@ loop-count-preserved-in-Next c =
 pub loop-count-smaller-in_default : goal.loop-count-smaller-in_default
 loop-count-smaller-in_default c = omega (arith, c.loop-count-test.true)
 
--- look: helper `entered` is not read
 pub loop-count-preserved-in_default : goal.loop-count-preserved-in_default
 loop-count-preserved-in_default c =
     let did' : let s = c.args in
@@ -200,10 +208,19 @@ loop-count-preserved-in_default c =
   same _ _ _ _ _ _ _ _ _ c.loop-count.invariant.1 c.loop-count-test.true _ _ _ did' (does.Calls c.in-Calls.f) c.in-Calls.is,
   same_fields _ _ _ _ _ _ _ _ _ c.loop-count.invariant.1 c.loop-count-test.true _ _ _ did' (does.Calls c.in-Calls.f) c.in-Calls.is,
 ) in
+    let called_at' : AtStatement c.loop-count.now.pc = call_at _ _ _ c.in-Calls.is (does_call_at _ c.loop-count.now _ _ _ _ _ c.loop-count.invariant.0.0.1.loaded did') in
+    let place' : c.place_of.result ≡ place_of 0 c.loop-count.now.pc = let g : SFits w64 c.loop-count.now.pc = search rules in rw (to_z-of_z g) at c.place_of.ensures in
+    let entered' : (es : List ℕ) → outcome_of c.enter_function-entered.result c.enter_function-entered.new.cells c.enter_function-entered.new.store es
+    ≡ after (config c.loop-count.now c.does-done.new.cells c.loop-count.store es) (enter (program_of c.args.file.now) c.in-Calls.f (c.loop-count.now.pc +ℤ pos 1)) =
+      λ es.
+      let g : SFits w64 c.after-back.result = search rules in
+      let back = c.after-back.ensures ∙ ap (λ (j : ℕ). pos j +ℤ pos 1) place' ∙ ap (λ (p : ℤ). p +ℤ pos 1) (sym called_at'.is) in
+      (rw (to_z-of_z g) at (c.enter_function-entered.ensures es))
+      ∙ ap (λ (p : ℤ). after (config c.loop-count.now c.does-done.new.cells c.loop-count.store es) (enter (program_of c.args.file.now) c.in-Calls.f p)) back in
     let i = c.loop-count.invariant in
     let n = c.enter_function-entered in
-    let k = n.auto.1.1.1.1.0 ∙ c.does-done.auto.cells in
-    let m = n.auto.1.1.1.1.1.0 in
+    let k = n.auto.cells ∙ c.does-done.auto.cells in
+    let m = n.auto.store in
     let h = c.does-done.auto.entities in
     let kept = calls_kept' in
     let is = c.in_default.is in
@@ -228,7 +245,7 @@ loop-count-preserved c =
 ) in
     let i = c.loop-count.invariant in
     let n = c.op_return-left in
-    let k = n.auto.1.1.1.0 ∙ c.does-done.auto.cells in
+    let k = n.auto.cells ∙ c.does-done.auto.cells in
     let h = c.does-done.auto.entities in
     let kept = returns-kept' in
     let is = c.in_default-answer.is in
