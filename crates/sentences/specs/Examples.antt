@@ -1,5 +1,5 @@
 -- EXAMPLES of outcome sentences, as rows of one table that is computed from the definition.
-use Rattle.std.specs.Prelude.{ℕ, ◌-◌, ◌^◌, ◌≡◌, refl, List, [], ◌∷◌, T, pos, negsuc, length}
+use Rattle.std.specs.Prelude.{◌-◌, ◌^◌, ◌≡◌, refl, List, [], ◌∷◌, T, pos, negsuc, length}
 use Rattle.definition.specs.declared.RunAnswer.TheVariants as run
 use Rattle.definition.specs.declared.Handover.TheVariants.{Builtin, Opcode}
 use Rattle.text.specs.Text.{decimal, decimal_digits, signed_decimal}

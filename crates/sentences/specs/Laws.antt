@@ -1,6 +1,6 @@
 -- LAWS OF OUTCOME SENTENCES (document 02, R-8): the five are worked out from every line; how long a line can be; what the operation answers and leaves.
-use Rattle.std.specs.Prelude.{ℕ, ◌+◌, ◌^◌, ◌≤◌, ◌<◌, ◌≡◌, refl, List, [], ◌∷◌, ◌++◌, ℤ, length, take, drop}
-use Rattle.std.proofs.Common.{sym, ap, ◌∙◌, le-leb, lit≤, length-drop, take_at}
+use Rattle.std.specs.Prelude.{ℕ, ◌+◌, ◌^◌, ◌≤◌, ◌<◌, ◌≡◌, refl, List, ◌++◌, ℤ, length, take, drop}
+use Rattle.std.proofs.Common.{sym, ap, ◌∙◌, le-leb, lit≤, take_at}
 use native.Mathlib.Omega.{arith}
 use Rattle.std.proofs.lemmas.Bool.{lt-leb}
 use Rattle.std.proofs.Math.ListN.{length-append}
@@ -8,7 +8,7 @@ use Rattle.std.specs.Int.Signed.{mag}
 use Rattle.definition.specs.declared.RunAnswer.{RunAnswer}
 use Rattle.definition.specs.declared.WriteAnswer.TheVariants as write
 use Rattle.definition.specs.Checks.{judge, guard}
-use Rattle.definition.specs.Answers.{Word, ended, spent, completed_word, refused_word, builtin, opcode, letters, outcome_word, outcome_detail}
+use Rattle.definition.specs.Answers.{Word, ended, spent, completed_word, refused_word, builtin, opcode, letters}
 use Rattle.definition.specs.Machine.{Ran}
 use Rattle.text.specs.Text.{ascii, decimal, show_line}
 use Rattle.text.specs.Laws.{decimal_10, decimal_20, signed_20, word_7}

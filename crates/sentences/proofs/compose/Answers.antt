@@ -1,5 +1,4 @@
 -- `sentences::compose` meets its contract: the detail is the outcome's. Assumes nothing.
-use mathlib.Core.Path.{ap, ◌∙◌}
 use borrow.Author.Rules.{rules}
 use mir.Syntax.{w64}
 use mir.Val.{SFits}

@@ -1,5 +1,4 @@
 -- `sentences::compose_numbers` meets its contract: the word is that of the number. Assumes nothing.
-use mathlib.Core.Path.{ap, ◌∙◌}
 use borrow.Author.Rules.{rules}
 use mir.Syntax.{w64}
 use mir.Val.{SFits}

@@ -12,7 +12,7 @@ use Rattle.definition.specs.Answers.{letters, outcome_word}
 use Rattle.text.specs.Text.{ascii, decimal, signed_decimal}
 use Rattle.text.specs.Output.{Output, output, at_front, put_front, Rest, rest_all, rest_room, rest_next, rest_end}
 use Rattle.sentences.specs.Sentence.{Five, five, joined, sentence}
-use Rattle.sentences.specs.Laws.{Fits, at_most_120}
+use Rattle.sentences.specs.Laws.{at_most_120}
 use Rattle.sentences.proofs.write_sentence.Goals as goal
 
 -- the sentence, and its parts as the calls write them; and that all parts but the first k are left where the output is o
