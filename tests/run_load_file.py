@@ -1,6 +1,6 @@
 #!/usr/bin/env python3
 """Runs the built program that makes load files on every input of tests/model/cases/load_files.txt, and on the seed and n of each
-file there, and compares what it writes. After `rt check load_file`:
+file there, and compares what it writes. After `tools/program load_file`:
 
     python3 tests/run_load_file.py
 """
@@ -12,7 +12,7 @@ from run_show import ROOT, output
 sys.path.insert(0, os.path.join(ROOT, "tests/model"))
 from replay import bytes_of, fnv, lines_of
 
-LOAD_FILE = os.path.join(ROOT, "target/bin/load_file")
+LOAD_FILE = os.path.join(ROOT, "crates/load_file/out/load_file")
 
 
 def cases():

@@ -1,6 +1,6 @@
 #!/usr/bin/env python3
 """Feeds the files of tests/oracle/sample.txt to the built show program and compares its lines with what richter's Rust answered.
-No Rust is needed. The file says how it was made. After `rt check show`:
+No Rust is needed. The file says how it was made. After `tools/program show`:
 
     python3 tests/run_oracle_sample.py
 """
@@ -9,7 +9,7 @@ import subprocess
 import sys
 
 ROOT = os.path.dirname(os.path.dirname(os.path.abspath(__file__)))
-SHOW = os.path.join(ROOT, "target/bin/show")
+SHOW = os.path.join(ROOT, "crates/show/out/show")
 SAMPLE = os.path.join(ROOT, "tests/oracle/sample.txt")
 # So many answers were asked for; fewer would mean that the file was cut.
 LEAST = 500

@@ -1,7 +1,7 @@
 #!/usr/bin/env python3
 """Runs the built padding program on every file of tests/model/cases/pads.txt, and on longer inputs, each through a pipe in
 two parts, and compares all that it writes. A file of 36 to 63 cells is then refused 10 by the built show program, and once padded
-prints the model's line, which is the one before R-7 unless that was 15. After `rt check pad show`:
+prints the model's line, which is the one before R-7 unless that was 15. After `tools/program pad show`:
 
     python3 tests/run_pad.py
 """
@@ -13,7 +13,7 @@ from run_show import ROOT, SHOW, output
 sys.path.insert(0, os.path.join(ROOT, "tests/model"))
 from model import FEWEST_CELLS, FEWEST_PADDED, show  # noqa: E402
 
-PAD = os.path.join(ROOT, "target/bin/pad")
+PAD = os.path.join(ROOT, "crates/pad/out/pad")
 
 
 def content(length, given):

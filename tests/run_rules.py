@@ -1,6 +1,6 @@
 #!/usr/bin/env python3
 """Runs the rule files of tests/rules, compiled by fteqcc, on the built show program and on the model (tests/model), and compares
-both with what was worked out by hand. After `rt check show`:
+both with what was worked out by hand. After `tools/program show`:
 
     python3 tests/run_rules.py              runs and compares; also whether expected.txt and players.txt of tests/rules are what the model gives
     python3 tests/run_rules.py --write      writes them, from the model; needs no show program

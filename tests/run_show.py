@@ -1,6 +1,6 @@
 #!/usr/bin/env python3
 """Runs the built show program on every file of tests/model/cases/files.txt, and on longer inputs, each through a pipe in
-two parts, and compares what it prints. After `rt check show`:
+two parts, and compares what it prints. After `tools/program show`:
 
     python3 tests/run_show.py
 """
@@ -9,7 +9,7 @@ import subprocess
 import sys
 
 ROOT = os.path.dirname(os.path.dirname(os.path.abspath(__file__)))
-SHOW = os.path.join(ROOT, "target/bin/show")
+SHOW = os.path.join(ROOT, "crates/show/out/show")
 
 
 def cases():

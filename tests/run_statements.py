@@ -1,6 +1,6 @@
 #!/usr/bin/env python3
 """Runs the single statements of tests/model/cases/statements.txt on the machine, as lists of calls for the built call_cases
-program, and compares answer, state and cells after each with the file's. After `rt check call_cases`:
+program, and compares answer, state and cells after each with the file's. After `tools/program call_cases`:
 
     python3 tests/run_statements.py
 
@@ -14,7 +14,7 @@ import subprocess
 import sys
 
 ROOT = os.path.dirname(os.path.dirname(os.path.abspath(__file__)))
-PROGRAM = os.path.join(ROOT, "target/bin/call_cases")
+PROGRAM = os.path.join(ROOT, "crates/call_cases/out/call_cases")
 # what call_cases reads in one run
 MOST_BYTES = 262144
 

@@ -1,5 +1,5 @@
 #!/usr/bin/env python3
-"""measure_runs.py [SHOW]: instructions a statement in whole runs of the show program (default target/bin/show), on the programs of
+"""measure_runs.py [SHOW]: instructions a statement in whole runs of the show program (default crates/show/out/show), on the programs of
 bench/programs.py. What show prints is held to the model's line first. `bench/run` has the Rust, a C loop and times beside them.
 """
 import os

@@ -23,8 +23,8 @@ if [ -n "$missing" ]; then
 fi
 
 python3 check_carried_over.py
-if [ -z "${HOST_LIBRARY_DIR:-}" ] && ! [ -f ../../target/staticlib/libhost_first.a ]; then
-    (cd ../.. && rt staticlib host && rt staticlib host_first)
+if [ -z "${HOST_LIBRARY_DIR:-}" ] && ! [ -f ../../crates/host_first/out/libhost_first.a ]; then
+    (cd ../.. && tools/libraries)
 fi
 
 if [ "${1:-}" = sample ]; then
