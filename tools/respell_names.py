@@ -38,7 +38,13 @@ def laws_of_one_name(declared, every):
     return {n for n in declared if "-" in n and len(by[plain(n)]) > 1} | {"is-nan"}
 
 
+# What an earlier run wrote down, for pages that cite the names.
+WRITTEN = {}
+
+
 def respelled(name):
+    if name in WRITTEN:
+        return WRITTEN[name]
     return plain(name) + ("_law" if name in LAWS else "")
 
 
@@ -221,7 +227,8 @@ def main():
         return
     if "--documents" in args:
         names = os.path.join(root, "tools", "respelled_names.txt")
-        was = {line.split()[0] for line in read(names).split("\n") if line}
+        WRITTEN.update(line.split() for line in read(names).split("\n") if line)
+        was = set(WRITTEN)
         pages = [os.path.join(root, "README.md")]
         for where, dirs, found in os.walk(os.path.join(root, "docs")):
             pages += [os.path.join(where, n) for n in sorted(found) if n.endswith(".md")]
