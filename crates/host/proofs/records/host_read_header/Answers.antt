@@ -3,9 +3,8 @@ use Rattle.host.proofs.RecordLaws.{header_short, header_there, header_long}
 use borrow.Author.Rules.{rules}
 use Rattle.host.proofs.records.host_read_header.Goals as goal
 
--- look: no step `no_Header`
 pub returns-then-file-lt60 : goal.returns-then-file-lt60
-returns-then-file-lt60 c = c.no_Header.ensures ∙ header_short _ c.if-file-lt60.true
+returns-then-file-lt60 c = c.no_header.ensures ∙ header_short _ c.if-file-lt60.true
 
 pub returns-then-length_fits : goal.returns-then-length_fits
 returns-then-length_fits c = header_there _ _ c.file_of-recorded.ensures (sym c.length_fits.ensures ∙ c.if-length_fits.true)
