@@ -4,7 +4,7 @@ use std::env;
 use std::path::PathBuf;
 use std::process::exit;
 
-/// The folder of the libraries, where they aren't in the folders in which `rt lib` makes them.
+/// The folder of the libraries, where they aren't in the repository's own folders.
 const FOLDER: &str = "HOST_LIBRARY_DIR";
 
 fn main() {
@@ -21,7 +21,7 @@ fn main() {
         println!("cargo:rerun-if-changed={}", archive.display());
         if !archive.is_file() {
             eprintln!(
-                "error: there is no {}: run `rt lib` in the repository's folder crates/{name}, or set {FOLDER} to the folder that has it",
+                "error: there is no {}: run `tools/libraries` in the repository's top folder, or set {FOLDER} to the folder that has it",
                 archive.display()
             );
             exit(1);

@@ -24,7 +24,7 @@ impl fmt::Display for LayoutError {
     fn fmt(&self, f: &mut fmt::Formatter<'_>) -> fmt::Result {
         write!(
             f,
-            "the library that is linked, libhost.a, isn't this crate's: {}; `rt lib` in crates/host of the crate's own \
+            "the library that is linked, libhost.a, isn't this crate's: {}; `tools/libraries` in the crate's own \
              repository makes the right one",
             self.0
         )
@@ -211,7 +211,7 @@ mod tests {
         assert_eq!(
             error,
             "the library that is linked, libhost.a, isn't this crate's: its context.pc isn't the 8 bytes at 144; \
-             `rt lib` in crates/host of the crate's own repository makes the right one"
+             `tools/libraries` in the crate's own repository makes the right one"
         );
         assert!(compare(&[FILL; ROOM]).is_err());
     }
