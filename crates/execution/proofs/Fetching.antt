@@ -1,5 +1,5 @@
 -- What the statement at a position does, by its fetch; and whether one would be handed over.
-use Prim.Native.Nat.{ℕ, zero, suc, ◌<◌, ◌≤◌}
+use Prim.Native.Nat.{ℕ, zero, suc, ◌<◌}
 use mathlib.Core.Path.{◌≡◌, refl, sym, ◌∙◌, ap}
 use mathlib.Core.List.{List}
 use mathlib.Core.Bool.{Bool, true, false, true≢false, not}
@@ -7,12 +7,11 @@ use native.Mathlib.Omega.{arith}
 use lib.IntN.{ℤ, pos}
 use lib.ListN.{length}
 use Rattle.definition.specs.declared.Statement.{Statement}
-use Rattle.definition.specs.declared.FunctionDef.{FunctionDef}
 use Rattle.definition.specs.Checks.{Conditions, judge}
 use Rattle.definition.specs.Cells.{Typing, cell_of}
 use Rattle.definition.specs.declared.FileRecord.{FileRecord}
 use Rattle.definition.specs.File.{Contents, contents_at}
-use Rattle.functions.specs.Parts.{part_of, functions_in}
+use Rattle.functions.specs.Parts.{part_of}
 use Rattle.functions.specs.Laws.{AllFit}
 use Rattle.definition.specs.Statements.{Entities, Does, or_refused, provided, fetch_conditions, statement_at, execute, does_at, branches_do, builtin_does, call_does, Tables, execute_as, execute_in}
 use Rattle.definition.specs.Statements.{Shape, floats, values, vectors, vectors_to_float, strings, negates, negates_v, negates_s, stores, stores_v, loads, addresses, stores_p, branches, jumps, call, return, host, shape_of}
@@ -26,7 +25,7 @@ use Rattle.execution.specs.declared.Executed.{Executed}
 use Rattle.execution.specs.declared.Executed.TheVariants as does
 use Rattle.execution.specs.declared.shapes.Shape.TheVariants.{Call}
 use Rattle.execution.specs.Shapes.{is_call, is_host}
-use Rattle.execution.specs.Execution.{statement, callee_does, executed, execution, tables_in, on_parts}
+use Rattle.execution.specs.Execution.{statement, executed, execution, tables_in, on_parts}
 use Rattle.execution.proofs.Opcodes.{call_shape}
 use Rattle.execution.proofs.Transfers.{does_is, builtin_rounds, builtin_hosts}
 

@@ -1,10 +1,10 @@
 -- Laws of the statements that write no cells, and of execution by shape. Assumes nothing.
-use Prim.Native.Nat.{ℕ, zero, suc, ◌<◌, ◌≤◌}
+use Prim.Native.Nat.{ℕ, zero, suc}
 use mathlib.Core.Path.{◌≡◌, refl, sym, ap, ◌∙◌}
 use mathlib.Core.List.{List}
-use mathlib.Core.Bool.{Bool, true, false, not, beq, cond}
+use mathlib.Core.Bool.{Bool, true, false, beq, cond}
 use native.Mathlib.Omega.{arith}
-use borrow.Author.Tests.{eq-eqb, ne_eqb, lt-ltb, le-ltb}
+use borrow.Author.Tests.{ne_eqb, lt-ltb, le-ltb}
 use lib.IntN.{ℤ, pos, ◌+ℤ◌}
 use lib.ListN.{length, get_or}
 use lib.Dec.{eqb, ltb}
@@ -16,7 +16,7 @@ use Rattle.definition.specs.Checks.{judge}
 use Rattle.definition.specs.File.{no_function, is_builtin, builtin_of, builtin_known}
 use Rattle.definition.specs.Floats.{is_zero, rounding_of}
 use Rattle.definition.specs.Cells.{cell_of, Typing, cell_access, access}
-use Rattle.definition.specs.Statements.{Entities, Effect, Does, next, puts, calls, refuses, hands_over, or_refused, provided, effect_does, put_does, floats_effect, Shape, floats, shape_of, branches_do, builtin_does, call_of, call_does, Tables, execute_as, execute_in}
+use Rattle.definition.specs.Statements.{Entities, Effect, Does, next, puts, calls, refuses, or_refused, provided, effect_does, put_does, floats_effect, Shape, shape_of, branches_do, builtin_does, call_of, call_does, Tables, execute_as, execute_in}
 use Rattle.functions.specs.declared.FunctionId.TheVariants.{Id, NoFunction}
 use Rattle.functions.specs.Answers.{function_id}
 use Rattle.functions.specs.Laws.{function_found, function_missing}

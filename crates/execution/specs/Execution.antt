@@ -1,22 +1,21 @@
 -- EXECUTION OF A FETCHED STATEMENT by the parts of the file that the code takes, and what it answers.
-use Rattle.std.specs.Prelude.{ℕ, ◌*◌, ◌≤◌, ◌<◌, ◌≡◌, refl, ℤ, pos, ◌+ℤ◌, length}
-use Rattle.std.proofs.Common.{sym, ◌∙◌}
+use Rattle.std.specs.Prelude.{ℕ, ◌*◌, ◌≤◌, ◌<◌, ◌≡◌, ℤ, pos, ◌+ℤ◌, length}
+use Rattle.std.proofs.Common.{◌∙◌}
 use Rattle.std.proofs.Math.Path.{ap}
-use mathlib.Core.List.{List, []}
+use mathlib.Core.List.{List}
 use Rattle.definition.specs.declared.Answer.{Answer}
 use Rattle.definition.specs.declared.Answer.TheVariants as answer
 use Rattle.definition.specs.declared.Statement.{Statement}
-use Rattle.definition.specs.declared.FunctionDef.{FunctionDef}
 use Rattle.definition.specs.declared.Definition.{Definition}
 use Rattle.definition.specs.declared.FileRecord.{FileRecord}
-use Rattle.definition.specs.File.{Contents, contents_at, u32_at}
+use Rattle.definition.specs.File.{contents_at, u32_at}
 use Rattle.definition.proofs.RecordLaws.{length_records}
 use Rattle.functions.specs.Laws.{AllFit}
 use Rattle.functions.specs.Parts.{part_of, functions_in}
 use Rattle.functions.specs.PartLaws.{part_globaldefs, part_fielddefs, part_functions, part_strings}
 use Rattle.typed.specs.Typing.{typing}
 use Rattle.definition.specs.declared.Handover.TheVariants.{Builtin}
-use Rattle.definition.specs.Cells.{cell_of, Typing, typing_of, fields_of}
+use Rattle.definition.specs.Cells.{Typing, typing_of, fields_of}
 use Rattle.definition.specs.Statements.{Entities, Does, next, puts, calls, returns, refuses, hands_over, effect_does, rounding_effect, Tables, tables_of, execute_in, execute}
 use Rattle.floats.specs.Rounding.{rounding_op}
 use Rattle.execution.specs.declared.Callee.{Callee}

@@ -1,6 +1,5 @@
 use mathlib.Core.Path.{sym, ◌∙◌}
 use Rattle.execution.proofs.Transfers.{builtin_rounds, builtin_hosts}
-use borrow.Author.Rules.{rules}
 use Rattle.execution.proofs.builtin.Goals as goal
 
 pub returns-then-is_rounding : goal.returns-then-is_rounding

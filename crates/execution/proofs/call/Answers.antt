@@ -1,7 +1,6 @@
 use Rattle.execution.proofs.Transfers.{kept, called_known, completed_is}
 use Rattle.execution.specs.declared.Callee.TheVariants.{Function, Rounding, Host, Refused}
 use Rattle.execution.specs.declared.Executed.TheVariants as does
-use borrow.Author.Rules.{rules}
 use Rattle.execution.proofs.call.Goals as goal
 
 pub returns-in-Function : goal.returns-in-Function

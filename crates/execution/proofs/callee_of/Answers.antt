@@ -2,7 +2,6 @@ use mathlib.Core.Path.{sym, ◌∙◌}
 use Rattle.definition.proofs.RecordLaws.{length_records}
 use Rattle.functions.specs.Laws.{function_found}
 use Rattle.execution.proofs.Transfers.{call_none, call_missing, call_unknown, call_builtin, call_enters}
-use borrow.Author.Rules.{rules}
 use Rattle.execution.proofs.callee_of.Goals as goal
 
 pub returns-then-value-eq0 : goal.returns-then-value-eq0

@@ -1,11 +1,9 @@
 use mathlib.Core.Path.{sym, ◌∙◌, ap}
-use borrow.Author.Tests.{not-true, not-false}
 use Rattle.definition.proofs.RecordLaws.{length_records}
 use Rattle.definition.specs.Operations.{is_handed_over}
 use Rattle.functions.specs.Laws.{function_found}
 use Rattle.execution.proofs.Transfers.{call_none, call_missing, call_unknown, call_builtin, call_enters}
 use Rattle.execution.proofs.Fetching.{builtin_handed}
-use borrow.Author.Rules.{rules}
 use Rattle.execution.proofs.calls_host.Goals as goal
 
 pub returns-then-value-eq0 : goal.returns-then-value-eq0

@@ -1,7 +1,6 @@
 use mir.Syntax.{w64}
 use mir.Facts.{to_z-of_z}
 use Rattle.execution.proofs.Transfers.{completed_next, completed_refused}
-use borrow.Author.Rules.{rules}
 use Rattle.execution.proofs.completed.Goals as goal
 
 pub returns-in-Accepted : goal.returns-in-Accepted

@@ -1,13 +1,11 @@
 use mir.Facts.{to_z-of_z}
 use mir.Val.{SFits}
 use mir.Syntax.{w64}
-use mathlib.Core.Path.{◌≡◌, sym, ap, ◌∙◌}
-use mathlib.Core.List.{List}
+use mathlib.Core.Path.{◌≡◌, sym, ◌∙◌}
 use native.Mathlib.Omega.{arith}
 use Rattle.definition.specs.File.{contents_at}
 use Rattle.functions.specs.Answers.{fetched}
 use Rattle.functions.specs.Laws.{fetch_accepts, lump_fitting, count_statements}
-use Rattle.functions.specs.Parts.{statements_in}
 use Rattle.functions.specs.PartLaws.{part_statements}
 use Rattle.execution.proofs.Fetching.{not_fetched, is_fetched}
 use borrow.Author.Rules.{rules}

@@ -4,7 +4,6 @@ use mir.Facts.{to_z-of_z}
 use Rattle.execution.proofs.Transfers.{written, string_written, fielded, transferred, called, floats_written}
 use Rattle.execution.specs.Execution.{executed_here}
 use Rattle.execution.specs.declared.shapes.Shape.TheVariants.{Branch, Goto, Return, Host}
-use borrow.Author.Rules.{rules}
 use Rattle.execution.proofs.execute.Goals as goal
 
 pub returns-then-is_floats : goal.returns-then-is_floats

@@ -1,7 +1,6 @@
 use mathlib.Core.Path.{refl}
 use Rattle.execution.proofs.Transfers.{completed_is, put_is, field_known}
 use Rattle.execution.specs.declared.shapes.FieldOp.TheVariants.{Loads, Address, StoresP}
-use borrow.Author.Rules.{rules}
 use Rattle.execution.proofs.field.Goals as goal
 
 pub op_loads-read-requires : goal.op_loads-read-requires

@@ -1,6 +1,5 @@
 use mathlib.Core.Path.{refl, sym, ◌∙◌, ap}
 use borrow.Author.Rules.{rules}
-use borrow.Author.Tests.{not-true, not-false}
 use Rattle.definition.specs.Operations.{is_handed_over}
 use Rattle.typed.specs.Laws.{cell_reach}
 use Rattle.execution.proofs.Transfers.{call_refused, call_goes}

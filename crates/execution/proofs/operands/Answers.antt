@@ -1,4 +1,3 @@
-use borrow.Author.Rules.{rules}
 use Rattle.execution.proofs.operands.Goals as goal
 
 pub returns : goal.returns

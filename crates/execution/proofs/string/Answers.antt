@@ -1,5 +1,4 @@
 use Rattle.execution.specs.Shapes.{string_effect}
-use borrow.Author.Rules.{rules}
 use Rattle.execution.proofs.string.Goals as goal
 
 pub returns-in-Compare : goal.returns-in-Compare

@@ -1,5 +1,4 @@
 use Rattle.execution.specs.Shapes.{effect_as}
-use borrow.Author.Rules.{rules}
 use Rattle.execution.proofs.write.Goals as goal
 
 pub returns-in-Values : goal.returns-in-Values

@@ -1,4 +1,3 @@
-use borrow.Author.Rules.{rules}
 use Rattle.execution.proofs.Opcodes.{bit_and_is, other_bit_is}
 use Rattle.execution.proofs.shapes.is_floats.Goals as goal
 

@@ -1,4 +1,3 @@
-use borrow.Author.Rules.{rules}
 use Rattle.execution.proofs.Opcodes.{host_number_is}
 use Rattle.execution.proofs.shapes.is_host.Goals as goal
 

@@ -1,13 +1,14 @@
+use borrow.Author.Rules.{rules}
 use native.Mathlib.Omega.{arith}
 use mathlib.Core.Path.{refl}
 use mathlib.Core.Bool.{true, false}
 use mathlib.Core.List.{[], ◌∷◌}
 use Rattle.definition.specs.Statements.{opcodes, shape_of}
 use Rattle.floats.specs.Opcodes.{value_op, component_op, vectors_to_float_op, not_op}
-use Rattle.execution.specs.declared.shapes.CellOp.TheVariants.{Values, Vectors, VectorsToFloat, Nots, NotV, Stores, StoreV}
-use Rattle.execution.specs.declared.shapes.StringOp.TheVariants.{Compare, Not}
-use Rattle.execution.specs.declared.shapes.FieldOp.TheVariants.{Loads, Address, StoresP}
-use Rattle.execution.specs.declared.shapes.Shape.TheVariants.{Cells, Strings, Fields, Branch, Goto, Call, Return, Host}
+use Rattle.execution.specs.declared.shapes.CellOp.TheVariants.{Values, Vectors, VectorsToFloat}
+use Rattle.execution.specs.declared.shapes.StringOp.TheVariants.{Compare}
+use Rattle.execution.specs.declared.shapes.FieldOp.TheVariants.{Loads, Address}
+use Rattle.execution.specs.declared.shapes.Shape.TheVariants.{Cells, Strings, Fields, Return}
 use Rattle.execution.proofs.Opcodes.{at, no_call_before, rest}
 use Rattle.execution.proofs.shapes.shape_before_stores.Goals as goal
 
@@ -97,4 +98,4 @@ returns-in-30 c = at (Fields Address) 30 _ c.in-30.is refl
 
 pub returns-in_default : goal.returns-in_default
 unfolding value_op component_op vectors_to_float_op not_op opcodes shape_of
-returns-in_default c = let h = c.requires.0 in rest 0 31 (0 ∷ 2 ∷ 3 ∷ 4 ∷ 7 ∷ 9 ∷ 11 ∷ 12 ∷ 13 ∷ 14 ∷ 16 ∷ 17 ∷ 18 ∷ 19 ∷ 24 ∷ 25 ∷ 26 ∷ 27 ∷ 28 ∷ 29 ∷ 30 ∷ []) c.args.op (omega (arith, h)) (omega arith) h c.requires.1 (no_call_before _ h) refl c.in_default.in_default-own.rest
+returns-in_default c = let h = c.requires.0 in rest 0 31 (0 ∷ 2 ∷ 3 ∷ 4 ∷ 7 ∷ 9 ∷ 11 ∷ 12 ∷ 13 ∷ 14 ∷ 16 ∷ 17 ∷ 18 ∷ 19 ∷ 24 ∷ 25 ∷ 26 ∷ 27 ∷ 28 ∷ 29 ∷ 30 ∷ []) c.args.op (omega (arith, h)) (omega arith) h c.requires.1 (no_call_before _ h) refl (search rules)

@@ -1,12 +1,13 @@
+use borrow.Author.Rules.{rules}
 use mathlib.Core.Path.{refl}
 use mathlib.Core.Bool.{true, false}
 use mathlib.Core.List.{[], ◌∷◌}
 use Rattle.definition.specs.Statements.{opcodes, shape_of}
 use Rattle.floats.specs.Opcodes.{value_op, component_op, vectors_to_float_op, not_op}
-use Rattle.execution.specs.declared.shapes.CellOp.TheVariants.{Values, Vectors, VectorsToFloat, Nots, NotV, Stores, StoreV}
-use Rattle.execution.specs.declared.shapes.StringOp.TheVariants.{Compare, Not}
-use Rattle.execution.specs.declared.shapes.FieldOp.TheVariants.{Loads, Address, StoresP}
-use Rattle.execution.specs.declared.shapes.Shape.TheVariants.{Cells, Strings, Fields, Branch, Goto, Call, Return, Host}
+use Rattle.execution.specs.declared.shapes.CellOp.TheVariants.{Nots, NotV, Stores, StoreV}
+use Rattle.execution.specs.declared.shapes.StringOp.TheVariants.{Not}
+use Rattle.execution.specs.declared.shapes.FieldOp.TheVariants.{StoresP}
+use Rattle.execution.specs.declared.shapes.Shape.TheVariants.{Cells, Strings, Fields, Branch, Goto, Return}
 use Rattle.execution.proofs.Opcodes.{at, is_call_law, rest}
 use Rattle.execution.proofs.shapes.shape_of.Goals as goal
 
@@ -108,4 +109,4 @@ returns-in-61 c = at Goto 61 _ c.in-61.is refl
 
 pub returns-in_default : goal.returns-in_default
 unfolding value_op component_op vectors_to_float_op not_op opcodes shape_of
-returns-in_default c = rest 31 66 (31 ∷ 32 ∷ 33 ∷ 34 ∷ 35 ∷ 36 ∷ 37 ∷ 38 ∷ 39 ∷ 40 ∷ 41 ∷ 42 ∷ 43 ∷ 44 ∷ 45 ∷ 46 ∷ 47 ∷ 48 ∷ 49 ∷ 50 ∷ 61 ∷ []) c.args.op c.requires.0 c.if-op-lt-STORE_F.false c.requires.0 c.requires.1 c.if-op.false refl c.in_default.in_default-own.rest
+returns-in_default c = rest 31 66 (31 ∷ 32 ∷ 33 ∷ 34 ∷ 35 ∷ 36 ∷ 37 ∷ 38 ∷ 39 ∷ 40 ∷ 41 ∷ 42 ∷ 43 ∷ 44 ∷ 45 ∷ 46 ∷ 47 ∷ 48 ∷ 49 ∷ 50 ∷ 61 ∷ []) c.args.op c.requires.0 c.if-op-lt-STORE_F.false c.requires.0 c.requires.1 c.if-op.false refl (search rules)
