@@ -15,10 +15,6 @@ use Rattle.loader.proofs.Loads.{Loads, loads}
 use Rattle.padding.proofs.Laws.{too_long, load_refused, no_room, prints_file, padded_as, Wrote, Kept, answered, at_front_law}
 use Rattle.padding.proofs.pad.Goals as goal
 
--- no condition of a load fails
-
--- what was written is the padded file
-
 pub returns-then-file-gt-LONGEST : goal.returns-then-file-gt-LONGEST
 returns-then-file-gt-LONGEST c = record { result_after = at_front_law _ c.refused_line.ensures.result_after (too_long _ c.if-file-gt-LONGEST.true); upper_bound = omega (arith, c.refused_line.ensures.upper_bound) }
 
@@ -35,7 +31,7 @@ write_program-requires c =
     let clear' : judge (file_conditions least_to_pad check_number c.args.file.now 0 most_cells saved_store 0) ≡ 0 = sym c.file_refusal-refusal.ensures ∙ c.if-refusal-ne0.false in
     let here' : Loads c.args.file.now most_cells c.file_of-recorded.result = loads _ _ _ _ _ _ _ _ clear' c.file_of-recorded.ensures in
     let h = here' in
-    (h.lumps, (omega (arith, h.size), omega (arith, h.cells_most, c.zeros-added.ensures)))
+    record { all_fit = h.lumps; entityfields_bound = (omega (arith, h.size), omega (arith, h.cells_most, c.zeros-added.ensures)) }
 
 pub returns-in-Length : goal.returns-in-Length
 returns-in-Length c =
@@ -44,7 +40,7 @@ returns-in-Length c =
     let same = as_padded' in
     let w = answered _ _ _ (Length _) c.requires (rw c.in-Length.is at c.write_program.ensures) in
     let short = rw same at w.short in
-    (at_front_law _ w.all (same ∙ prints_file _ c.if-file-gt-LONGEST.false clear' short), omega (arith, ap (λ (o : Output). o.next) w.all, w.short))
+    record { result_after = at_front_law _ w.all (same ∙ prints_file _ c.if-file-gt-LONGEST.false clear' short); upper_bound = omega (arith, ap (λ (o : Output). o.next) w.all, w.short) }
 
 pub returns-in-Refused : goal.returns-in-Refused
 returns-in-Refused c =
@@ -54,4 +50,4 @@ returns-in-Refused c =
     let k = answered _ _ _ (Refused _) c.requires (rw c.in-Refused.is at c.write_program.ensures) in
     let long = rw same at k.long in
     let line = rw (k.number, k.same) at c.refused_line-in-Refused.ensures.result_after in
-    (at_front_law _ line (no_room _ c.if-file-gt-LONGEST.false clear' long), omega (arith, c.refused_line-in-Refused.ensures.upper_bound))
+    record { result_after = at_front_law _ line (no_room _ c.if-file-gt-LONGEST.false clear' long); upper_bound = omega (arith, c.refused_line-in-Refused.ensures.upper_bound) }

@@ -1,6 +1,7 @@
 -- `sentences::outcome_worded` meets its contract: at each number the word is the definition's. Assumes nothing.
 use Prim.Native.Nat.{ℕ}
 use mathlib.Core.Path.{◌≡◌, sym, ap}
+use borrow.Author.Rules.{rules}
 use borrow.Author.Tests.{ne_eqb}
 use Rattle.definition.specs.Answers.{refused_word}
 use Rattle.sentences.specs.Sentence.{word_numbered}
@@ -28,4 +29,4 @@ returns-in-5 c = ap word_numbered (sym c.in-5.is)
 
 pub returns-in_default : goal.returns-in_default
 unfolding word_numbered
-returns-in_default c = other _ c.in_default.in_default-own.rest.0.0.0.1 c.in_default.in_default-own.rest.0.0.1 c.in_default.in_default-own.rest.0.1 c.in_default.in_default-own.rest.1
+returns-in_default c = other c.args.word (search rules) (search rules) (search rules) (search rules)
