@@ -23,7 +23,7 @@ use Rattle.functions.specs.Parts.{part_of, statements_in}
 use Rattle.functions.specs.PartLaws.{part_statements}
 use Rattle.progs.specs.declared.ExecutionContext.{ExecutionContext}
 use Rattle.progs.specs.declared.Answered.{Answered}
-use Rattle.progs.specs.Contexts.{config, outcome_of, after, refusing, accepting, onward, Loaded, Within, AtStatement}
+use Rattle.progs.specs.Contexts.{config, outcome_of, after, refusing, accepting, onward, Loaded, AtStatement}
 use Rattle.progs.proofs.OutcomeLaws.{refused_outcome, accepted_outcome}
 
 module _ (file : List ℕ) (r : FileRecord) (h : Loaded file r) where

@@ -1,19 +1,19 @@
 -- The conditions of an entry, test by test, and what it is for all to hold.
-use Prim.Native.Nat.{ℕ, zero, suc, ◌+◌, ◌≤◌, ◌<◌}
-use mathlib.Core.Path.{◌≡◌, refl, sym, ◌∙◌, ap}
+use Prim.Native.Nat.{ℕ, ◌+◌, ◌≤◌, ◌<◌}
+use mathlib.Core.Path.{◌≡◌}
 use mathlib.Core.List.{List, [], ◌∷◌}
-use mathlib.Core.Bool.{Bool, true, false, not, ◌&&◌, and-false}
+use mathlib.Core.Bool.{true, false, not, ◌&&◌, and-false}
 use native.Mathlib.Omega.{arith}
 use borrow.Author.Tests.{lt-ltb, le-ltb, le-leb, lt-leb, ltb-true, leb-true}
 use lib.IntN.{ℤ}
 use lib.ListN.{length, drop}
 use lib.Seq.{paste}
-use lib.Dec.{leb, ltb}
+use lib.Dec.{leb}
 use Rattle.definition.specs.declared.FunctionDef.{FunctionDef}
-use Rattle.definition.specs.Checks.{Conditions, ◌otherwise◌, judge}
+use Rattle.definition.specs.Checks.{◌otherwise◌, judge}
 use Rattle.definition.specs.File.{negative, is_builtin}
-use Rattle.definition.specs.Machine.{Program, function_of, State, Config, present, copied, arguments_of, copies_present, entry_conditions, entered, enter}
-use Rattle.definition.proofs.CheckLaws.{All, judge_passed, and_right}
+use Rattle.definition.specs.Machine.{Program, function_of, present, copied, arguments_of, copies_present, entry_conditions, entered, enter}
+use Rattle.definition.proofs.CheckLaws.{judge_passed, and_right}
 use Rattle.progs.specs.declared.ExecutionContext.{ExecutionContext}
 use Rattle.progs.specs.declared.Answered.{Answered}
 use Rattle.progs.specs.Contexts.{state_of, config, bare, outcome_of, after, refusing, accepting}

@@ -1,21 +1,19 @@
 -- What the host's calls answer, by the tests that decide it.
 use Prim.Native.Nat.{ℕ, zero, suc, ◌+◌, ◌-◌, ◌≤◌, ◌<◌}
-use mathlib.Core.Path.{◌≡◌, refl, sym, ◌∙◌, ap}
-use mathlib.Core.List.{List, [], ◌∷◌}
-use mathlib.Core.Bool.{Bool, true, false, true≢false}
+use mathlib.Core.Path.{◌≡◌, refl, sym, ◌∙◌}
+use mathlib.Core.List.{List}
+use mathlib.Core.Bool.{true, false}
 use native.Mathlib.Omega.{arith}
-use borrow.Author.Tests.{lt-ltb, le-ltb, ltb-true}
-use lib.IntN.{ℤ, pos, negsuc}
+use borrow.Author.Tests.{lt-ltb, le-ltb}
+use lib.IntN.{ℤ}
 use lib.ListN.{length, get_or, set}
-use lib.Dec.{ltb}
-use Rattle.definition.specs.declared.ReadAnswer.{ReadAnswer}
 use Rattle.definition.specs.declared.ReadAnswer.TheVariants as read
 use Rattle.definition.specs.Checks.{judge, guard}
 use Rattle.definition.specs.Statements.{place_of}
 use Rattle.definition.specs.Machine.{Program, Config, entry_conditions, enter}
 use Rattle.definition.specs.Operations.{sound, natural, below, host_enter, left_times, leavings_conditions, abandon_conditions, abandon, raw_conditions, raw_read, raw_write, pairs_conditions, pairs_written, write_all_conditions, write_all}
 use Rattle.definition.specs.Load.{program_of}
-use Rattle.definition.specs.Answers.{Outcome, outcome, read_answer}
+use Rattle.definition.specs.Answers.{Outcome, read_answer}
 use Rattle.definition.proofs.CheckLaws.{judge_passed}
 use Rattle.definition.proofs.PlaceLaws.{below_place, below_natural, place_zero, place_natural}
 use Rattle.pairs.specs.Together.{unless_refused}

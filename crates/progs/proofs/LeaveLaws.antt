@@ -1,16 +1,15 @@
 -- The conditions of a leaving, test by test, and what it is for all to hold; the same for a Return.
-use Prim.Native.Nat.{ℕ, zero, suc, ◌+◌, ◌-◌, ◌≤◌, ◌<◌}
-use mathlib.Core.Path.{◌≡◌, refl, sym, ◌∙◌, ap}
+use Prim.Native.Nat.{ℕ, ◌-◌, ◌≤◌, ◌<◌}
+use mathlib.Core.Path.{◌≡◌, sym, ap}
 use mathlib.Core.List.{List, [], ◌∷◌}
-use mathlib.Core.Bool.{Bool, true, false}
+use mathlib.Core.Bool.{true, false}
 use native.Mathlib.Omega.{arith}
-use borrow.Author.Tests.{lt-ltb, le-ltb, le-leb, lt-leb, ltb-true, leb-true}
-use lib.ListN.{length, drop}
+use borrow.Author.Tests.{lt-ltb, le-leb, lt-leb, ltb-true, leb-true}
+use lib.ListN.{drop}
 use lib.Seq.{paste}
-use lib.Dec.{leb, ltb}
-use Rattle.definition.specs.Checks.{Conditions, ◌otherwise◌, judge}
-use Rattle.definition.specs.Machine.{Program, function_of, Config, present, copied, successive, with_cells, leave_conditions, left, leave, return_conditions, returned}
-use Rattle.definition.proofs.CheckLaws.{All, judge_passed}
+use Rattle.definition.specs.Checks.{◌otherwise◌, judge}
+use Rattle.definition.specs.Machine.{Program, function_of, Config, present, copied, successive, leave_conditions, left, leave}
+use Rattle.definition.proofs.CheckLaws.{judge_passed}
 use Rattle.progs.specs.declared.ExecutionContext.{ExecutionContext}
 use Rattle.progs.specs.declared.Answered.{Answered}
 use Rattle.progs.specs.declared.calls.Locals.{Locals}

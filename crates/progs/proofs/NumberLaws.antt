@@ -2,7 +2,7 @@
 use Prim.Native.Nat.{ℕ, zero, suc, ◌+◌, ◌/◌, ◌≤◌, ◌<◌}
 use mathlib.Core.Path.{◌≡◌, refl, sym, ◌∙◌, ap}
 use mathlib.Core.List.{List, []}
-use mathlib.Core.Bool.{false, not, ◌&&◌}
+use mathlib.Core.Bool.{false, not}
 use native.Mathlib.Omega.{arith}
 use borrow.Author.Tests.{le-ltb, ltb-true, leb-true}
 use lib.IntN.{ℤ, pos}
@@ -15,7 +15,7 @@ use Rattle.definition.specs.File.{negative, no_function, read_function}
 use Rattle.definition.specs.Statements.{refuses}
 use Rattle.definition.proofs.RecordLaws.{length_records}
 use Rattle.functions.specs.Parts.{functions_in}
-use Rattle.definition.specs.Machine.{Fetch, Program, function_of, Config, copied, arguments_of, entry_conditions, entered, enter}
+use Rattle.definition.specs.Machine.{Fetch, Program, function_of, copied, arguments_of, entry_conditions, entered, enter}
 use Rattle.definition.proofs.CheckLaws.{judge_passed, and_right}
 use Rattle.definition.proofs.LoadLaws.{InRange}
 use Rattle.progs.specs.declared.ExecutionContext.{ExecutionContext}

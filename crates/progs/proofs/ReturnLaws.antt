@@ -1,13 +1,12 @@
 -- Return on numbers, and what the context makes of it.
-use Prim.Native.Nat.{ℕ, zero, suc, ◌+◌, ◌-◌, ◌≤◌, ◌<◌}
+use Prim.Native.Nat.{ℕ, zero, suc, ◌-◌, ◌≤◌, ◌<◌}
 use mathlib.Core.Path.{◌≡◌, refl, sym, ◌∙◌, ap}
 use mathlib.Core.List.{List}
 use mathlib.Core.Bool.{true, false}
-use native.Mathlib.Omega.{arith}
-use lib.ListN.{length, drop}
+use lib.ListN.{drop}
 use lib.Seq.{paste}
 use Rattle.definition.specs.Checks.{judge}
-use Rattle.definition.specs.Machine.{Program, function_of, Config, present, copied, successive, leave_conditions, left, return_conditions, returned}
+use Rattle.definition.specs.Machine.{Program, function_of, present, copied, successive, leave_conditions, left, return_conditions, returned}
 use Rattle.definition.proofs.CheckLaws.{judge_passed, judge_all}
 use Rattle.progs.specs.declared.ExecutionContext.{ExecutionContext}
 use Rattle.progs.specs.declared.Answered.{Answered}

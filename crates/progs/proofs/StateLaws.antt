@@ -2,14 +2,14 @@
 use Prim.Native.Nat.{ℕ, zero, suc, ◌+◌, ◌-◌, ◌*◌, ◌≤◌, ◌<◌}
 use mathlib.Core.Path.{◌≡◌, refl, sym, ◌∙◌, ap}
 use mathlib.Core.Logic.{⊎_elim}
-use mathlib.Core.List.{List, [], ◌∷◌}
+use mathlib.Core.List.{List, ◌∷◌}
 use mathlib.Core.Bool.{Bool, true, false, not, ◌&&◌, and-true, and-false}
 use native.Mathlib.Omega.{arith}
 use native.Mathlib.Nat.{add_assoc, add-zero}
 use borrow.Author.Tests.{lt-ltb, le-ltb, le-leb, lt-leb, leb-true, ltb-true}
 use lib.IntN.{ℤ}
 use lib.ListN.{length, get_or}
-use lib.Dec.{leb, ltb, eqb}
+use lib.Dec.{leb, eqb}
 use Rattle.definition.specs.declared.FileRecord.{FileRecord}
 use Rattle.definition.specs.declared.StackFrame.{StackFrame}
 use Rattle.definition.specs.declared.FunctionDef.{FunctionDef}
@@ -20,7 +20,7 @@ use Rattle.definition.specs.Load.{program_with, program_of, recorded_in}
 use Rattle.definition.specs.Operations.{frame_functions, entered_at, entered_functions, all_present, locals_of, sound}
 use Rattle.definition.proofs.CheckLaws.{judge_passed, and_left, and_right}
 use Rattle.definition.proofs.LoadLaws.{settings_fit_law}
-use Rattle.functions.specs.Laws.{Recorded, recorded, EntitySize, entities_room}
+use Rattle.functions.specs.Laws.{recorded, EntitySize, entities_room}
 use Rattle.progs.specs.declared.ExecutionContext.{ExecutionContext}
 use Rattle.progs.specs.declared.Answered.{Answered}
 use Rattle.progs.specs.Contexts.{state_of, config, bare, outcome_of, after, return, Loaded, Within}

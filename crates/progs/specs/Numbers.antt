@@ -2,7 +2,6 @@
 use Rattle.std.specs.Prelude.{ℕ, zero, suc, ◌+◌, ◌-◌, List, [], ℤ, pos, get_or, drop, set}
 use Rattle.std.proofs.Math.Seq.{paste}
 use Rattle.definition.specs.declared.FunctionDef.{FunctionDef}
-use Rattle.definition.specs.declared.StackFrame.{StackFrame}
 use Rattle.definition.specs.declared.Settings.{Settings}
 use Rattle.definition.specs.Checks.{judge}
 use Rattle.definition.specs.Machine.{Program, function_of, zero_frame, copied, successive, arguments_of, entry_conditions, return_conditions}

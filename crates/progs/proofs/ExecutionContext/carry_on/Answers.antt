@@ -6,7 +6,6 @@ use Rattle.definition.specs.Load.{program_of}
 use Rattle.progs.specs.Contexts.{config, Within}
 use Rattle.progs.proofs.StateLaws.{passed, own_within}
 use Rattle.progs.proofs.DoesLaws.{carry_13, carry_refused, carry_at, carry_done}
-use borrow.Author.Tests.{not-true, not-false}
 use mir.Facts.{to_z-of_z}
 use mir.Val.{SFits}
 use mir.Syntax.{w64}

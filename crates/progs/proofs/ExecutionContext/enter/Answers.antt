@@ -6,7 +6,6 @@ use Rattle.progs.proofs.FileLaws.{function_count}
 use Rattle.definition.specs.Statements.{place_of}
 use mathlib.Core.Path.{◌≡◌, sym, ◌∙◌}
 use mathlib.Core.Bool.{true}
-use borrow.Author.Tests.{not-true, not-false}
 use Rattle.definition.specs.Load.{program_of}
 use Rattle.definition.specs.Operations.{sound}
 use Rattle.progs.specs.Contexts.{config}

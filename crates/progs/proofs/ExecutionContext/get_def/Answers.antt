@@ -1,7 +1,6 @@
 use Rattle.definition.specs.Load.{program_of}
 use Rattle.progs.proofs.FileLaws.{functions_here, functions_count}
 use Rattle.progs.proofs.NumberLaws.{functions_read}
-use borrow.Author.Rules.{rules}
 use Rattle.progs.proofs.ExecutionContext.get_def.Goals as goal
 
 pub get_def-requires : goal.get_def-requires

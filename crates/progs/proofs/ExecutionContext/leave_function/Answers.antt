@@ -2,7 +2,6 @@ use native.Mathlib.Omega.{arith}
 use Rattle.progs.proofs.CopyLaws.{present_of}
 use Rattle.progs.proofs.LeaveLaws.{left_config}
 use Rattle.progs.proofs.ReturnLaws.{left_of}
-use borrow.Author.Rules.{rules}
 use Rattle.progs.proofs.ExecutionContext.leave_function.Goals as goal
 
 pub move_cells-requires : goal.move_cells-requires

@@ -1,6 +1,5 @@
 use Rattle.progs.proofs.ReturnLaws.{leave_by_count}
 use mathlib.Core.Path.{◌∙◌}
-use borrow.Author.Rules.{rules}
 use Rattle.progs.proofs.ExecutionContext.leave_refusal.Goals as goal
 
 pub returns : goal.returns

@@ -1,6 +1,5 @@
 use Rattle.definition.specs.Load.{program_of}
 use Rattle.progs.proofs.FileLaws.{functions_here}
-use borrow.Author.Rules.{rules}
 use Rattle.progs.proofs.ExecutionContext.locals.Goals as goal
 
 pub returns : goal.returns

@@ -1,15 +1,9 @@
 -- The entered functions that are left, with the sum of the others' local counts, give what all of them give.
-use Prim.Native.Nat.{◌+◌, ◌*◌, ◌≤◌}
-use mathlib.Core.Path.{◌≡◌, ◌∙◌}
-use mathlib.Core.Bool.{◌&&◌}
+use mathlib.Core.Path.{◌∙◌}
 use native.Mathlib.Omega.{arith}
 use borrow.Author.Rules.{rules}
-use lib.Dec.{eqb}
-use Rattle.definition.specs.Load.{program_of}
-use Rattle.definition.specs.Operations.{entered_at, entered_functions, all_present, locals_of}
-use Rattle.progs.specs.Contexts.{state_of}
 use Rattle.progs.proofs.FileLaws.{function_there, function_absent}
-use Rattle.progs.proofs.StateLaws.{adds_up, add_start, add_absent, add_negative, add_on, add_none}
+use Rattle.progs.proofs.StateLaws.{add_start, add_absent, add_negative, add_on, add_none}
 use Rattle.progs.proofs.ExecutionContext.locals_add_up.Goals as goal
 
 pub loop-k-init : goal.loop-k-init

@@ -3,7 +3,6 @@ use Rattle.progs.proofs.FileLaws.{functions_here}
 use Rattle.progs.specs.Numbers.{leaving_of, returning}
 use Rattle.definition.specs.Load.{program_of}
 use mathlib.Core.Path.{◌≡◌, ◌∙◌}
-use borrow.Author.Rules.{rules}
 use Rattle.progs.proofs.ExecutionContext.op_return.Goals as goal
 
 pub returns-then-leaving-ne0 : goal.returns-then-leaving-ne0

@@ -1,15 +1,10 @@
 -- The leavings that are left give what all of them give.
-use Prim.Native.Nat.{ℕ, ◌-◌, ◌*◌, ◌≤◌}
-use mathlib.Core.Path.{◌≡◌, refl, sym, ◌∙◌, ap}
-use mathlib.Core.List.{List, []}
+use mathlib.Core.Path.{◌≡◌, refl, ◌∙◌}
+use mathlib.Core.List.{[]}
 use native.Mathlib.Omega.{arith}
-use borrow.Author.Rules.{rules}
-use lib.ListN.{length}
-use Rattle.definition.specs.Checks.{judge}
-use Rattle.definition.specs.Machine.{leave_conditions, left}
+use Rattle.definition.specs.Machine.{left}
 use Rattle.definition.specs.Load.{program_of}
-use Rattle.definition.specs.Operations.{leavings_conditions, left_times}
-use Rattle.progs.specs.Contexts.{state_of, config, bare, Within}
+use Rattle.progs.specs.Contexts.{state_of, bare}
 use Rattle.progs.proofs.CopyLaws.{present_more}
 use Rattle.progs.proofs.LeaveLaws.{Leaves, leaves, left_state}
 use Rattle.progs.proofs.StateLaws.{depth_falls, left_within}

@@ -1,19 +1,12 @@
 -- The leavings that are left give what all of them give.
-use Prim.Native.Nat.{ℕ, ◌-◌, ◌*◌, ◌≤◌}
-use mathlib.Core.Path.{◌≡◌, refl, sym, ◌∙◌, ap}
-use mathlib.Core.List.{List, []}
-use native.Mathlib.Omega.{arith}
-use borrow.Author.Rules.{rules}
+use Prim.Native.Nat.{ℕ, ◌-◌, ◌*◌}
+use mathlib.Core.Path.{◌≡◌}
+use mathlib.Core.List.{List}
 use lib.ListN.{length}
 use Rattle.definition.specs.Checks.{judge}
-use Rattle.definition.specs.Machine.{leave_conditions, left}
 use Rattle.definition.specs.Load.{program_of}
 use Rattle.definition.specs.Operations.{leavings_conditions, left_times}
-use Rattle.progs.specs.Contexts.{state_of, config, bare, Within}
-use Rattle.progs.proofs.CopyLaws.{present_more}
-use Rattle.progs.proofs.LeaveLaws.{Leaves, leaves, left_state}
-use Rattle.progs.proofs.StateLaws.{depth_falls, left_within}
-use Rattle.progs.proofs.AbandonLaws.{leaves_first, leavings_on, times_on, times_end}
+use Rattle.progs.specs.Contexts.{config, bare, Within}
 use Rattle.progs.proofs.ExecutionContext.unwound.Given as goal
 
 abbrev pub invariant-loop-context : goal.invariant-loop-context

@@ -3,17 +3,12 @@ use Rattle.progs.proofs.EntryLaws.{Accepted, accepted}
 use Rattle.progs.proofs.CopyLaws.{present_of, present_more, copies_more}
 use Rattle.progs.specs.Numbers.{numbered}
 use Rattle.functions.specs.Parts.{functions_in}
-use Rattle.definition.specs.Machine.{Program}
-use Rattle.definition.proofs.RecordLaws.{length_records}
-use Rattle.definition.specs.File.{no_function, read_function}
-use Rattle.definition.specs.declared.FunctionDef.{FunctionDef}
 use mir.Facts.{to_z_pos}
 use mir.Val.{SFits}
 use mir.Syntax.{w64}
-use lib.ListN.{length, get_or}
 use lib.IntN.{pos}
 use native.Mathlib.Omega.{arith}
-use mathlib.Core.Path.{◌≡◌, refl, sym, ◌∙◌, ap}
+use mathlib.Core.Path.{refl, sym, ◌∙◌}
 use borrow.Author.Rules.{rules}
 use Rattle.progs.proofs.calls.enter_cells.Goals as goal
 

@@ -1,6 +1,5 @@
 use Rattle.progs.proofs.EntryLaws.{entry_22, entry_23, entry_15, entry_24, entry_15_arguments, entry_21, entry_0}
 use Rattle.progs.specs.Numbers.{numbered}
-use borrow.Author.Tests.{not-true, not-false}
 use mathlib.Core.Path.{refl, sym, ◌∙◌}
 use borrow.Author.Rules.{rules}
 use Rattle.progs.proofs.calls.entry_refusal.Goals as goal

@@ -1,8 +1,6 @@
 use Rattle.progs.proofs.LeaveLaws.{leave_25, leave_26, leave_15, leave_0}
 use Rattle.progs.specs.Numbers.{numbered_in}
-use borrow.Author.Tests.{not-true, not-false}
 use mathlib.Core.Path.{refl, sym, ◌∙◌}
-use borrow.Author.Rules.{rules}
 use Rattle.progs.proofs.calls.leaving_refusal.Goals as goal
 
 pub returns-then-depth-eq0 : goal.returns-then-depth-eq0

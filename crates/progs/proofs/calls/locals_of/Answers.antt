@@ -1,7 +1,6 @@
 use Rattle.progs.proofs.NumberLaws.{functions_read, functions_absent, no_function_law}
 use Rattle.progs.specs.Contexts.{range_of}
 use mathlib.Core.Path.{ap}
-use borrow.Author.Rules.{rules}
 use Rattle.progs.proofs.calls.locals_of.Goals as goal
 
 pub returns-then-functions-f : goal.returns-then-functions-f

@@ -4,10 +4,8 @@ use Rattle.progs.proofs.NumberLaws.{functions_program}
 use Rattle.progs.proofs.CopyLaws.{present_more, present_of}
 use Rattle.progs.specs.Numbers.{numbered_in}
 use Rattle.functions.specs.Parts.{functions_in}
-use borrow.Author.Tests.{not-true, not-false}
 use native.Mathlib.Omega.{arith}
-use mathlib.Core.Path.{◌≡◌, refl, sym, ◌∙◌}
-use borrow.Author.Rules.{rules}
+use mathlib.Core.Path.{refl, sym, ◌∙◌}
 use Rattle.progs.proofs.calls.return_cells.Goals as goal
 
 pub returns-then-not-in_range : goal.returns-then-not-in_range

@@ -1,12 +1,11 @@
 -- The test of the arguments that are left gives that of all.
-use Prim.Native.Nat.{◌^◌, ◌*◌, ◌+◌, ◌-◌, ◌≤◌, ◌<◌}
-use mathlib.Core.Path.{◌≡◌, refl, sym, ◌∙◌}
+use Prim.Native.Nat.{◌^◌, ◌+◌, ◌-◌, ◌<◌}
+use mathlib.Core.Path.{◌≡◌, sym, ◌∙◌}
 use mathlib.Core.Bool.{true}
 use native.Mathlib.Omega.{arith}
 use borrow.Author.Rules.{rules}
-use borrow.Author.Tests.{not-true, not-false}
-use lib.ListN.{length, get_or, drop}
-use Rattle.definition.specs.Machine.{present, arguments, copies_present}
+use lib.ListN.{get_or}
+use Rattle.definition.specs.Machine.{present}
 use Rattle.progs.proofs.CopyLaws.{present_ends, no_source, no_target, both_there, copies_none}
 use Rattle.progs.proofs.copies.arguments_in_range.Goals as goal
 

@@ -1,13 +1,8 @@
 -- The test of the arguments that are left gives that of all.
-use Prim.Native.Nat.{◌^◌, ◌*◌, ◌+◌, ◌-◌, ◌≤◌, ◌<◌}
-use mathlib.Core.Path.{◌≡◌, refl, sym, ◌∙◌}
-use mathlib.Core.Bool.{true}
-use native.Mathlib.Omega.{arith}
-use borrow.Author.Rules.{rules}
-use borrow.Author.Tests.{not-true, not-false}
-use lib.ListN.{length, get_or, drop}
-use Rattle.definition.specs.Machine.{present, arguments, copies_present}
-use Rattle.progs.proofs.CopyLaws.{present_ends, no_source, no_target, both_there, copies_none}
+use Prim.Native.Nat.{◌^◌, ◌-◌, ◌≤◌, ◌<◌}
+use mathlib.Core.Path.{◌≡◌}
+use lib.ListN.{length, drop}
+use Rattle.definition.specs.Machine.{arguments, copies_present}
 use Rattle.progs.proofs.copies.arguments_in_range.Given as goal
 
 abbrev pub invariant-loop-i : goal.invariant-loop-i

@@ -1,11 +1,9 @@
 -- The arguments that are left, copied in the cells as they are, give what all of them give at the start.
-use Prim.Native.Nat.{◌^◌, ◌+◌, ◌-◌, ◌≤◌, ◌<◌}
-use mathlib.Core.Path.{◌≡◌, refl, sym, ◌∙◌}
-use mathlib.Core.Bool.{true}
+use Prim.Native.Nat.{◌^◌, ◌+◌, ◌-◌, ◌<◌}
+use mathlib.Core.Path.{◌≡◌, refl, ◌∙◌}
 use native.Mathlib.Omega.{arith}
 use borrow.Author.Rules.{rules}
-use lib.ListN.{length, get_or, drop}
-use Rattle.definition.specs.Machine.{arguments, copied, copies_present}
+use lib.ListN.{length, get_or}
 use Rattle.progs.proofs.CopyLaws.{present_ends, Turn, turn_of, copied_on, copied_none}
 use Rattle.progs.proofs.copies.copy_arguments.Goals as goal
 

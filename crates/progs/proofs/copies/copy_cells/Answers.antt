@@ -1,11 +1,9 @@
 -- What is left of the copying, done to the cells as they are, gives what all of it gives at the start.
-use Prim.Native.Nat.{◌+◌, ◌-◌, ◌≤◌, ◌<◌}
-use mathlib.Core.Path.{◌≡◌, ◌∙◌}
+use Prim.Native.Nat.{◌+◌, ◌<◌}
+use mathlib.Core.Path.{◌∙◌}
 use native.Mathlib.Omega.{arith}
-use borrow.Author.Rules.{rules}
 use lib.ListN.{length, length-set}
-use Rattle.definition.specs.Machine.{copied, successive}
-use Rattle.progs.proofs.CopyLaws.{present_at, left_of, left_at_start, left_on, left_at_end}
+use Rattle.progs.proofs.CopyLaws.{present_at, left_at_start, left_on, left_at_end}
 use Rattle.progs.proofs.copies.copy_cells.Goals as goal
 
 pub loop-i-init : goal.loop-i-init

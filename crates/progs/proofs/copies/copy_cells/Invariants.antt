@@ -1,11 +1,9 @@
 -- What is left of the copying, done to the cells as they are, gives what all of it gives at the start.
-use Prim.Native.Nat.{◌+◌, ◌-◌, ◌≤◌, ◌<◌}
-use mathlib.Core.Path.{◌≡◌, ◌∙◌}
-use native.Mathlib.Omega.{arith}
-use borrow.Author.Rules.{rules}
-use lib.ListN.{length, length-set}
+use Prim.Native.Nat.{◌-◌, ◌≤◌}
+use mathlib.Core.Path.{◌≡◌}
+use lib.ListN.{length}
 use Rattle.definition.specs.Machine.{copied, successive}
-use Rattle.progs.proofs.CopyLaws.{present_at, left_of, left_at_start, left_on, left_at_end}
+use Rattle.progs.proofs.CopyLaws.{left_of}
 use Rattle.progs.proofs.copies.copy_cells.Given as goal
 
 abbrev pub invariant-loop-i : goal.invariant-loop-i

@@ -1,11 +1,8 @@
 -- After i turns the target has i cells of the source.
-use Prim.Native.Nat.{◌+◌, ◌-◌, ◌≤◌, ◌<◌}
+use Prim.Native.Nat.{◌-◌, ◌≤◌}
 use mathlib.Core.Path.{◌≡◌}
-use native.Mathlib.Omega.{arith}
-use borrow.Author.Rules.{rules}
-use lib.ListN.{length, drop, length-set}
-use lib.Seq.{paste, paste-zero}
-use Rattle.progs.proofs.CopyLaws.{present_at, pasted_on}
+use lib.ListN.{length, drop}
+use lib.Seq.{paste}
 use Rattle.progs.proofs.copies.move_cells.Given as goal
 
 abbrev pub invariant-loop-i : goal.invariant-loop-i

@@ -5,7 +5,6 @@ use mir.Val.{SFits}
 use mir.Facts.{to_z-of_z}
 use lib.ListN.{length}
 use mathlib.Core.Bool.{true}
-use borrow.Author.Tests.{not-true, not-false}
 use Rattle.definition.specs.Checks.{judge}
 use Rattle.definition.specs.File.{least_cells, settings_fit}
 use Rattle.definition.specs.Load.{file_conditions, entities_given}
