@@ -1,8 +1,8 @@
 -- What the padding program prints, by what was found out of the file. Assumes nothing.
 use Prim.Native.Nat.{ℕ, zero, suc, ◌-◌, ◌≤◌, ◌<◌}
-use mathlib.Core.Path.{◌≡◌, refl, sym, ap, ◌∙◌}
+use mathlib.Core.Path.{◌≡◌, refl, ap, ◌∙◌}
 use mathlib.Core.List.{List, [], ◌∷◌, ◌++◌}
-use mathlib.Core.Bool.{Bool, true, false, ◌&&◌}
+use mathlib.Core.Bool.{Bool, true, false}
 use native.Mathlib.Omega.{arith}
 use borrow.Author.Tests.{le-leb, lt-leb, leb-true, leb-false}
 use lib.Dec.{leb}
@@ -10,11 +10,11 @@ use lib.ListN.{length, drop}
 use Rattle.definition.specs.declared.FileRecord.{FileRecord}
 use Rattle.definition.specs.declared.WriteAnswer.{WriteAnswer}
 use Rattle.definition.specs.declared.WriteAnswer.TheVariants.{Length, Refused}
-use Rattle.definition.specs.Checks.{Conditions, ◌otherwise◌, judge, decided, guard}
-use Rattle.definition.specs.File.{check_number, least_to_pad, most_cells, saved_store, file_of, contents_at, contents_of}
+use Rattle.definition.specs.Checks.{Conditions, ◌otherwise◌, judge, guard}
+use Rattle.definition.specs.File.{check_number, least_to_pad, most_cells, saved_store, file_of, contents_at}
 use Rattle.definition.specs.Load.{file_conditions}
 use Rattle.definition.proofs.RecordLaws.{length_globals}
-use Rattle.definition.specs.Written.{written, padded, padded_file, Image, placed, room_conditions, WriteOutcome, write_outcome}
+use Rattle.definition.specs.Written.{written, padded, padded_file, WriteOutcome}
 use Rattle.text.specs.Output.{Output, output, at_front}
 use Rattle.text.specs.Text.{refused_line}
 use Rattle.loader.proofs.Each.{holds, judge_stop, judge_next}

@@ -7,7 +7,6 @@ use Rattle.definition.specs.Cells.{lookup, scalar, passes, signed, cell_of, cell
 use Rattle.definition.specs.Statements.{opcodes, shape_of, floats_effect, fetch_conditions, execute, does_at}
 use Rattle.definition.specs.Operations.{frame_functions, entered_functions, all_present, locals_of, sound, statement}
 use Rattle.padding_laws.specs.Padding.{installed}
-use Rattle.definition.specs.Written.{padded_file}
 use Rattle.definition.specs.Machine.{entities_fit, step_as, step, Stepped, Config, completed, refused_step, handed_step}
 use Rattle.definition.specs.Written.{u16_bytes, u32_bytes, statement_bytes, definition_bytes, function_bytes, bytes_of, layout, header_numbers, written}
 use Rattle.padding.specs.Padding.{pad_conditions, pad_text}

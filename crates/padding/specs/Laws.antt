@@ -1,13 +1,13 @@
 -- LAWS OF THE PADDING PROGRAM (document 02, R-7): what it writes loads; a file that needs no cells is read and refused as a load does; what it writes is padded alike.
 use Rattle.std.specs.Prelude.{ℕ, ◌≤◌, ◌≡◌, List, [], ◌∷◌, ◌++◌, true, ℤ, leb}
 use Rattle.std.proofs.Math.Path.{refl}
-use Rattle.std.proofs.Common.{sym, ap, ◌∙◌, arith}
+use Rattle.std.proofs.Common.{ap, ◌∙◌, arith}
 use borrow.Author.Tests.{leb-true, le-leb}
 use Rattle.std.proofs.Math.ListN.{length}
 use Rattle.definition.specs.declared.Settings.{Settings}
 use Rattle.definition.specs.Checks.{Conditions, ◌otherwise◌, judge, guard, accepted}
-use Rattle.definition.proofs.CheckLaws.{All, judge_passed, all_front, all_back}
-use Rattle.definition.specs.File.{check_number, least_cells, least_to_pad, most_cells, saved_store, longest_file, file_of, contents_of, settings_fit, Contents}
+use Rattle.definition.proofs.CheckLaws.{judge_passed, all_front, all_back}
+use Rattle.definition.specs.File.{check_number, least_cells, least_to_pad, most_cells, saved_store, file_of, contents_of, settings_fit}
 use Rattle.definition.proofs.RecordLaws.{length_globals}
 use Rattle.definition.specs.Load.{cell_conditions, file_conditions, loaded, entities_given, load}
 use Rattle.definition.specs.Written.{written, padded, padded_file}

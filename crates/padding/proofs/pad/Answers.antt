@@ -1,10 +1,6 @@
 -- `padding::pad` meets its contract: a refusal's line, or what the writer leaves. Assumes nothing.
-use Prim.Native.Nat.{ℕ, ◌<◌}
 use mathlib.Core.Path.{◌≡◌, refl, sym, ap, ◌∙◌}
-use mathlib.Core.List.{List}
 use native.Mathlib.Omega.{arith}
-use borrow.Author.Rules.{rules}
-use lib.ListN.{length}
 use Rattle.definition.specs.declared.WriteAnswer.TheVariants.{Length, Refused}
 use Rattle.definition.specs.Checks.{judge}
 use Rattle.definition.specs.File.{check_number, least_to_pad, most_cells, saved_store, contents_at}
@@ -12,7 +8,7 @@ use Rattle.definition.specs.Load.{file_conditions}
 use Rattle.definition.specs.Written.{written, padded, padded_file}
 use Rattle.text.specs.Output.{Output}
 use Rattle.loader.proofs.Loads.{Loads, loads}
-use Rattle.padding.proofs.Laws.{too_long, load_refused, no_room, prints_file, padded_as, Wrote, Kept, answered, at_front_law}
+use Rattle.padding.proofs.Laws.{too_long, load_refused, no_room, prints_file, padded_as, answered, at_front_law}
 use Rattle.padding.proofs.pad.Goals as goal
 
 pub returns-then-file-gt-LONGEST : goal.returns-then-file-gt-LONGEST
