@@ -1,6 +1,6 @@
 -- What a run answers, by the tests that decide it.
 use Prim.Native.Nat.{ℕ, zero, suc, ◌≤◌, ◌<◌}
-use mathlib.Core.Path.{◌≡◌, refl, sym, ◌∙◌, ap}
+use mathlib.Core.Path.{◌≡◌, refl, sym, ◌∙◌}
 use mathlib.Core.List.{List}
 use mathlib.Core.Bool.{true, false, and-false}
 use native.Mathlib.Omega.{arith}
@@ -11,7 +11,7 @@ use Rattle.definition.specs.Statements.{place_of}
 use Rattle.definition.specs.Machine as machine
 use Rattle.definition.specs.Machine.{Program, Config, run_for}
 use Rattle.definition.specs.Load.{program_with, program_of}
-use Rattle.definition.specs.Operations.{sound, natural, below, permitted, run_conditions, run}
+use Rattle.definition.specs.Operations.{sound, natural, permitted, run_conditions, run}
 use Rattle.progs.specs.declared.ExecutionContext.{ExecutionContext}
 use Rattle.progs.specs.Contexts.{config}
 use Rattle.definition.proofs.PlaceLaws.{below_place, place_zero, place_natural}

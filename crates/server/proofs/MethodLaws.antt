@@ -1,20 +1,19 @@
 -- A turn of the first engine's loop in which a method of the context enters or returns.
 use Prim.Native.Nat.{ℕ, ◌+◌, ◌-◌, ◌<◌, ◌≤◌}
-use mathlib.Core.Path.{◌≡◌, refl, sym, ◌∙◌, ap}
+use mathlib.Core.Path.{◌≡◌, sym, ◌∙◌, ap}
 use mathlib.Core.List.{List}
 use mathlib.Core.Bool.{not}
 use native.Mathlib.Omega.{arith}
 use borrow.Author.Tests.{ltb-true, leb-true}
 use lib.Dec.{leb}
 use lib.IntN.{ℤ}
-use Rattle.definition.specs.declared.Answer.{Answer}
 use Rattle.definition.specs.declared.Answer.TheVariants as answer
 use Rattle.definition.specs.declared.RunAnswer.TheVariants as run
 use Rattle.definition.specs.Checks.{Checked, refused, accepted}
 use Rattle.definition.specs.File.{negative}
-use Rattle.definition.proofs.CheckLaws.{All, and_right, accepted_all}
-use Rattle.definition.specs.Machine.{Program, function_of, Config, completed, entry_conditions, entered, enter, leave_conditions, left, return_conditions, returned, as_step, step, run_for}
-use Rattle.definition.specs.Answers.{Outcome, answer_of, kept, outcome}
+use Rattle.definition.proofs.CheckLaws.{and_right, accepted_all}
+use Rattle.definition.specs.Machine.{Program, function_of, Config, completed, entry_conditions, entered, enter, left, as_step, step, run_for}
+use Rattle.definition.specs.Answers.{Outcome, outcome}
 use Rattle.progs.specs.declared.ExecutionContext.{ExecutionContext}
 use Rattle.progs.specs.declared.Answered.{Answered}
 use Rattle.progs.specs.Contexts.{config, outcome_of, after, return, Within}

@@ -1,14 +1,12 @@
 -- A run by turns: what is left of it, from where it is, gives what all of it gives from the start.
-use Prim.Native.Nat.{ℕ, zero, suc, ◌<◌, ◌≤◌, ◌+◌, ◌-◌}
-use mathlib.Core.Path.{◌≡◌, refl, sym, ◌∙◌, ap}
-use mathlib.Core.Bool.{Bool, true, false}
+use Prim.Native.Nat.{ℕ, suc, ◌<◌, ◌≤◌, ◌+◌, ◌-◌}
+use mathlib.Core.Path.{◌≡◌, sym, ◌∙◌, ap}
 use native.Mathlib.Omega.{arith}
 use borrow.Author.Tests.{eq-eqb, ne_eqb}
-use lib.Dec.{eqb}
 use Rattle.definition.specs.declared.Handover.{Handover}
 use Rattle.definition.specs.declared.RunAnswer.{RunAnswer}
 use Rattle.definition.specs.declared.RunAnswer.TheVariants as answers
-use Rattle.definition.specs.Machine.{Config, Program, Stepped, completed, refused_step, handed_step, step, Ran, one_more, go_on, run_as, run_for}
+use Rattle.definition.specs.Machine.{Config, Program, Stepped, completed, refused_step, handed_step, step, Ran, run_as, run_for}
 
 abbrev pub plus : ℕ → Ran → Ran
 plus n r = record { answer = r.answer; count = n + r.count; config = r.config }

@@ -13,7 +13,7 @@ use Rattle.definition.specs.declared.RunAnswer.{RunAnswer}
 use Rattle.definition.specs.declared.RunAnswer.TheVariants as run
 use Rattle.definition.specs.Checks.{judge, guard}
 use Rattle.definition.specs.declared.FileRecord.{FileRecord}
-use Rattle.definition.specs.File.{Contents, file_of, contents_at, contents_of}
+use Rattle.definition.specs.File.{Contents, file_of, contents_of}
 use Rattle.definition.proofs.CheckLaws.{judge_passed}
 use Rattle.definition.specs.Statements.{Entities, Does, next, puts, calls, returns, refuses, hands_over, or_refused, place_of, fetch_conditions, statement_at, execute, does_at}
 use Rattle.definition.specs.Machine as machine

@@ -1,5 +1,4 @@
 use Rattle.server.proofs.StepLaws.{answered_as}
-use borrow.Author.Rules.{rules}
 use Rattle.server.proofs.as_statement.Goals as goal
 
 pub returns-in-Ended : goal.returns-in-Ended

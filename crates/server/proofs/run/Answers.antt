@@ -4,12 +4,11 @@ use Rattle.progs.specs.Contexts.{config}
 use Rattle.definition.specs.Operations.{sound}
 use Rattle.definition.specs.Load.{program_of}
 use Rattle.definition.specs.Statements.{place_of}
-use borrow.Author.Tests.{not-true, not-false, ltb-true, ltb-false}
 use mir.Facts.{to_z-of_z}
 use mir.Val.{SFits}
 use mir.Syntax.{w64}
 use mathlib.Core.Bool.{true}
-use mathlib.Core.Path.{◌≡◌, refl, sym, ◌∙◌, ap}
+use mathlib.Core.Path.{◌≡◌, sym, ◌∙◌}
 use native.Mathlib.Omega.{arith}
 use borrow.Author.Rules.{rules}
 use Rattle.server.proofs.run.Goals as goal
@@ -24,8 +23,8 @@ returns-then-most-eq0 c =
     let most' : c.place_of-most.result ≡ place_of 0 c.args.limit = let g : SFits w64 c.args.limit = search rules in
     (rw (to_z-of_z g) at c.place_of-most.ensures) in
     elim c.then-most-eq0.branch [
-      then-most-eq0-via-then-most-eq0 w ↦ run_28_none _ _ _ _ _ _ _ sound_here' (file_room _) _ most' w.if-most-eq0.true _ c.not_run-then-most-eq0.ensures
-    | then-most-eq0-via-else-most-eq0+then-settings-most w ↦ run_28_over _ _ _ _ _ _ _ sound_here' (file_room _) _ most' w.if-settings-most.true _ c.not_run-then-most-eq0.ensures
+      | then-most-eq0-via-then-most-eq0 w ↦ run_28_none _ _ _ _ _ _ _ sound_here' (file_room _) _ most' w.if-most-eq0.true _ c.not_run-then-most-eq0.ensures
+      | then-most-eq0-via-else-most-eq0+then-settings-most w ↦ run_28_over _ _ _ _ _ _ _ sound_here' (file_room _) _ most' w.if-settings-most.true _ c.not_run-then-most-eq0.ensures
     ]
 
 pub returns-then-context-down : goal.returns-then-context-down

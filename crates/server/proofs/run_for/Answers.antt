@@ -1,4 +1,4 @@
-use Prim.Native.Nat.{ℕ, ◌-◌, ◌+◌}
+use Prim.Native.Nat.{ℕ}
 use lib.IntN.{ℤ, pos, ◌+ℤ◌}
 use lib.ListN.{length}
 use native.Mathlib.Omega.{arith}
@@ -18,8 +18,8 @@ use Rattle.progs.specs.Contexts.{config, outcome_of, after, return, Within, AtSt
 use Rattle.progs.proofs.StateLaws.{own_within}
 use Rattle.progs.proofs.DoesLaws.{does_here}
 use Rattle.server.specs.declared.Ran.{Ran}
-use Rattle.server.specs.Stepping.{ran_of, Apart}
-use Rattle.server.proofs.RunLaws.{RunLeft, run_start, run_spent}
+use Rattle.server.specs.Stepping.{ran_of}
+use Rattle.server.proofs.RunLaws.{run_start, run_spent}
 use Rattle.server.proofs.StepLaws.{does_call_at, call_at, within_lent}
 use Rattle.server.proofs.TurnLaws.{next_within, known, same, same_fields, turn_next, turn_refused, turn_handed}
 use Rattle.server.proofs.MethodLaws.{accepted_as, method_refused, method_again, method_ended, entered_kept, returned_kept}
@@ -76,18 +76,18 @@ returns-in-Refused-answer c =
     let step_enters' : let l = c.loop-count in let P = program_of c.args.file.now in let here = config l.now l.cells l.store l.entities in
     step P here ≡ as_step (enter P c.in-Calls.f (l.now.pc +ℤ pos 1) here) = sym (known _ _ _ _ _ _ _ _ _ c.loop-count.invariant.1 c.loop-count-test.true _ _ _ did' (does.Calls c.in-Calls.f) c.in-Calls.is) in
     let calls_kept' : (c.does-done.new.cells ≡ c.loop-count.cells) × (c.does-done.new.entities ≡ c.loop-count.entities) = (
-  same _ _ _ _ _ _ _ _ _ c.loop-count.invariant.1 c.loop-count-test.true _ _ _ did' (does.Calls c.in-Calls.f) c.in-Calls.is,
-  same_fields _ _ _ _ _ _ _ _ _ c.loop-count.invariant.1 c.loop-count-test.true _ _ _ did' (does.Calls c.in-Calls.f) c.in-Calls.is,
-) in
+      same _ _ _ _ _ _ _ _ _ c.loop-count.invariant.1 c.loop-count-test.true _ _ _ did' (does.Calls c.in-Calls.f) c.in-Calls.is,
+      same_fields _ _ _ _ _ _ _ _ _ c.loop-count.invariant.1 c.loop-count-test.true _ _ _ did' (does.Calls c.in-Calls.f) c.in-Calls.is,
+    ) in
     let called_at' : AtStatement c.loop-count.now.pc = call_at _ _ _ c.in-Calls.is (does_call_at _ c.loop-count.now _ _ _ _ _ c.loop-count.invariant.0.0.1.loaded did') in
     let place' : c.place_of.result ≡ place_of 0 c.loop-count.now.pc = let g : SFits w64 c.loop-count.now.pc = search rules in rw (to_z-of_z g) at c.place_of.ensures in
     let entered' : (es : List ℕ) → outcome_of c.enter_function-entered.result c.enter_function-entered.new.cells c.enter_function-entered.new.store es
     ≡ after (config c.loop-count.now c.does-done.new.cells c.loop-count.store es) (enter (program_of c.args.file.now) c.in-Calls.f (c.loop-count.now.pc +ℤ pos 1)) =
-      λ es.
-      let g : SFits w64 c.after-back.result = search rules in
-      let back = c.after-back.ensures ∙ ap (λ (j : ℕ). pos j +ℤ pos 1) place' ∙ ap (λ (p : ℤ). p +ℤ pos 1) (sym called_at'.is) in
-      (rw (to_z-of_z g) at (c.enter_function-entered.ensures es))
-      ∙ ap (λ (p : ℤ). after (config c.loop-count.now c.does-done.new.cells c.loop-count.store es) (enter (program_of c.args.file.now) c.in-Calls.f p)) back in
+    λ es.
+    let g : SFits w64 c.after-back.result = search rules in
+    let back = c.after-back.ensures ∙ ap (λ (j : ℕ). pos j +ℤ pos 1) place' ∙ ap (λ (p : ℤ). p +ℤ pos 1) (sym called_at'.is) in
+    (rw (to_z-of_z g) at (c.enter_function-entered.ensures es))
+    ∙ ap (λ (p : ℤ). after (config c.loop-count.now c.does-done.new.cells c.loop-count.store es) (enter (program_of c.args.file.now) c.in-Calls.f p)) back in
     let k = calls_kept' in
     method_refused _ _ _ _ _ _ _ _ _ c.loop-count.invariant.1 c.loop-count-test.true (enter (program_of c.args.file.now) c.in-Calls.f (c.loop-count.now.pc +ℤ pos 1)) step_enters' _ _ k.0 k.1 _ _ _ entered' _ c.in-Refused-answer.is _ c.ends.ensures
 
@@ -114,9 +114,9 @@ returns-in-Refused-answer-2 c =
     let step_returns' : let l = c.loop-count in let P = program_of c.args.file.now in let here = config l.now l.cells l.store l.entities in
     step P here ≡ as_step (return P c.in-Returns.a here) = sym (known _ _ _ _ _ _ _ _ _ c.loop-count.invariant.1 c.loop-count-test.true _ _ _ did' (does.Returns c.in-Returns.a) c.in-Returns.is) in
     let returns-kept' : (c.does-done.new.cells ≡ c.loop-count.cells) × (c.does-done.new.entities ≡ c.loop-count.entities) = (
-  same _ _ _ _ _ _ _ _ _ c.loop-count.invariant.1 c.loop-count-test.true _ _ _ did' (does.Returns c.in-Returns.a) c.in-Returns.is,
-  same_fields _ _ _ _ _ _ _ _ _ c.loop-count.invariant.1 c.loop-count-test.true _ _ _ did' (does.Returns c.in-Returns.a) c.in-Returns.is,
-) in
+      same _ _ _ _ _ _ _ _ _ c.loop-count.invariant.1 c.loop-count-test.true _ _ _ did' (does.Returns c.in-Returns.a) c.in-Returns.is,
+      same_fields _ _ _ _ _ _ _ _ _ c.loop-count.invariant.1 c.loop-count-test.true _ _ _ did' (does.Returns c.in-Returns.a) c.in-Returns.is,
+    ) in
     let k = returns-kept' in
     method_refused _ _ _ _ _ _ _ _ _ c.loop-count.invariant.1 c.loop-count-test.true (return (program_of c.args.file.now) c.in-Returns.a) step_returns' _ _ k.0 k.1 _ _ _ c.op_return-left.ensures _ c.in-Refused-answer-2.is _ c.ends-in-Refused-answer-2.ensures
 
@@ -138,9 +138,9 @@ returns-then-now-target c =
     let step_returns' : let l = c.loop-count in let P = program_of c.args.file.now in let here = config l.now l.cells l.store l.entities in
     step P here ≡ as_step (return P c.in-Returns.a here) = sym (known _ _ _ _ _ _ _ _ _ c.loop-count.invariant.1 c.loop-count-test.true _ _ _ did' (does.Returns c.in-Returns.a) c.in-Returns.is) in
     let returns-kept' : (c.does-done.new.cells ≡ c.loop-count.cells) × (c.does-done.new.entities ≡ c.loop-count.entities) = (
-  same _ _ _ _ _ _ _ _ _ c.loop-count.invariant.1 c.loop-count-test.true _ _ _ did' (does.Returns c.in-Returns.a) c.in-Returns.is,
-  same_fields _ _ _ _ _ _ _ _ _ c.loop-count.invariant.1 c.loop-count-test.true _ _ _ did' (does.Returns c.in-Returns.a) c.in-Returns.is,
-) in
+      same _ _ _ _ _ _ _ _ _ c.loop-count.invariant.1 c.loop-count-test.true _ _ _ did' (does.Returns c.in-Returns.a) c.in-Returns.is,
+      same_fields _ _ _ _ _ _ _ _ _ c.loop-count.invariant.1 c.loop-count-test.true _ _ _ did' (does.Returns c.in-Returns.a) c.in-Returns.is,
+    ) in
     let k = returns-kept' in
     method_ended _ _ _ _ _ _ _ _ _ c.loop-count.invariant.1 c.loop-count-test.true (return (program_of c.args.file.now) c.in-Returns.a) step_returns' _ _ k.0 k.1 _ _ _ c.op_return-left.ensures c.in_default-answer.is c.if-now-target.true _ c.ends-then-now-target.ensures
 
@@ -205,18 +205,18 @@ loop-count-preserved-in_default c =
     let step_enters' : let l = c.loop-count in let P = program_of c.args.file.now in let here = config l.now l.cells l.store l.entities in
     step P here ≡ as_step (enter P c.in-Calls.f (l.now.pc +ℤ pos 1) here) = sym (known _ _ _ _ _ _ _ _ _ c.loop-count.invariant.1 c.loop-count-test.true _ _ _ did' (does.Calls c.in-Calls.f) c.in-Calls.is) in
     let calls_kept' : (c.does-done.new.cells ≡ c.loop-count.cells) × (c.does-done.new.entities ≡ c.loop-count.entities) = (
-  same _ _ _ _ _ _ _ _ _ c.loop-count.invariant.1 c.loop-count-test.true _ _ _ did' (does.Calls c.in-Calls.f) c.in-Calls.is,
-  same_fields _ _ _ _ _ _ _ _ _ c.loop-count.invariant.1 c.loop-count-test.true _ _ _ did' (does.Calls c.in-Calls.f) c.in-Calls.is,
-) in
+      same _ _ _ _ _ _ _ _ _ c.loop-count.invariant.1 c.loop-count-test.true _ _ _ did' (does.Calls c.in-Calls.f) c.in-Calls.is,
+      same_fields _ _ _ _ _ _ _ _ _ c.loop-count.invariant.1 c.loop-count-test.true _ _ _ did' (does.Calls c.in-Calls.f) c.in-Calls.is,
+    ) in
     let called_at' : AtStatement c.loop-count.now.pc = call_at _ _ _ c.in-Calls.is (does_call_at _ c.loop-count.now _ _ _ _ _ c.loop-count.invariant.0.0.1.loaded did') in
     let place' : c.place_of.result ≡ place_of 0 c.loop-count.now.pc = let g : SFits w64 c.loop-count.now.pc = search rules in rw (to_z-of_z g) at c.place_of.ensures in
     let entered' : (es : List ℕ) → outcome_of c.enter_function-entered.result c.enter_function-entered.new.cells c.enter_function-entered.new.store es
     ≡ after (config c.loop-count.now c.does-done.new.cells c.loop-count.store es) (enter (program_of c.args.file.now) c.in-Calls.f (c.loop-count.now.pc +ℤ pos 1)) =
-      λ es.
-      let g : SFits w64 c.after-back.result = search rules in
-      let back = c.after-back.ensures ∙ ap (λ (j : ℕ). pos j +ℤ pos 1) place' ∙ ap (λ (p : ℤ). p +ℤ pos 1) (sym called_at'.is) in
-      (rw (to_z-of_z g) at (c.enter_function-entered.ensures es))
-      ∙ ap (λ (p : ℤ). after (config c.loop-count.now c.does-done.new.cells c.loop-count.store es) (enter (program_of c.args.file.now) c.in-Calls.f p)) back in
+    λ es.
+    let g : SFits w64 c.after-back.result = search rules in
+    let back = c.after-back.ensures ∙ ap (λ (j : ℕ). pos j +ℤ pos 1) place' ∙ ap (λ (p : ℤ). p +ℤ pos 1) (sym called_at'.is) in
+    (rw (to_z-of_z g) at (c.enter_function-entered.ensures es))
+    ∙ ap (λ (p : ℤ). after (config c.loop-count.now c.does-done.new.cells c.loop-count.store es) (enter (program_of c.args.file.now) c.in-Calls.f p)) back in
     let i = c.loop-count.invariant in
     let n = c.enter_function-entered in
     let k = n.auto.cells ∙ c.does-done.auto.cells in
@@ -240,9 +240,9 @@ loop-count-preserved c =
     let step_returns' : let l = c.loop-count in let P = program_of c.args.file.now in let here = config l.now l.cells l.store l.entities in
     step P here ≡ as_step (return P c.in-Returns.a here) = sym (known _ _ _ _ _ _ _ _ _ c.loop-count.invariant.1 c.loop-count-test.true _ _ _ did' (does.Returns c.in-Returns.a) c.in-Returns.is) in
     let returns-kept' : (c.does-done.new.cells ≡ c.loop-count.cells) × (c.does-done.new.entities ≡ c.loop-count.entities) = (
-  same _ _ _ _ _ _ _ _ _ c.loop-count.invariant.1 c.loop-count-test.true _ _ _ did' (does.Returns c.in-Returns.a) c.in-Returns.is,
-  same_fields _ _ _ _ _ _ _ _ _ c.loop-count.invariant.1 c.loop-count-test.true _ _ _ did' (does.Returns c.in-Returns.a) c.in-Returns.is,
-) in
+      same _ _ _ _ _ _ _ _ _ c.loop-count.invariant.1 c.loop-count-test.true _ _ _ did' (does.Returns c.in-Returns.a) c.in-Returns.is,
+      same_fields _ _ _ _ _ _ _ _ _ c.loop-count.invariant.1 c.loop-count-test.true _ _ _ did' (does.Returns c.in-Returns.a) c.in-Returns.is,
+    ) in
     let i = c.loop-count.invariant in
     let n = c.op_return-left in
     let k = n.auto.cells ∙ c.does-done.auto.cells in

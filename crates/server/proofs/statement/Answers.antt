@@ -1,9 +1,7 @@
 use Rattle.progs.proofs.StateLaws.{passed}
 use Rattle.server.proofs.StepLaws.{statement_13, statement_runs}
-use borrow.Author.Tests.{not-true, not-false}
 use mathlib.Core.Path.{sym, ◌∙◌}
 use native.Mathlib.Omega.{arith}
-use borrow.Author.Rules.{rules}
 use Rattle.server.proofs.statement.Goals as goal
 
 pub returns-then-not-check_state : goal.returns-then-not-check_state
