@@ -1,7 +1,7 @@
 -- One of several things more is drawn and written, whatever they are. Assumes nothing.
-use Rattle.std.proofs.Common.{◌≡◌, ℕ, ◌+◌, ◌-◌, ◌<◌, ◌≤◌, List, [], ◌++◌, refl, ap, arith}
+use Rattle.std.proofs.Common.{◌≡◌, ℕ, ◌+◌, ◌-◌, ◌<◌, ◌≤◌, List, [], ◌++◌, refl, arith}
 use Rattle.definition.specs.Written.{bytes_of}
-use Rattle.text.specs.Output.{Output, output, put, Room, room_same, put_none, Rest, rest_all, rest_room, rest_next, rest_end}
+use Rattle.text.specs.Output.{Output, output, put, Room, put_none, Rest, rest_all, rest_room, rest_next, rest_end}
 use Rattle.load_files.specs.Draws.{after, drawn}
 use Rattle.load_files.specs.Laws.{one_drawn, none_drawn}
 

@@ -1,5 +1,5 @@
 -- What is answered, by the tests that decide it. Assumes nothing.
-use Rattle.std.proofs.Common.{◌≡◌, ℕ, zero, suc, ◌<◌, ◌≤◌, true, false, not, ◌&&◌, eqb, List, ℤ, pos, negsuc, refl, ap, ◌∙◌, arith, eq-eqb, ne_eqb, le-leb}
+use Rattle.std.proofs.Common.{◌≡◌, ℕ, zero, suc, ◌<◌, ◌≤◌, true, false, not, ◌&&◌, eqb, List, ℤ, pos, negsuc, refl, ◌∙◌, arith, eq-eqb, ne_eqb, le-leb}
 use mathlib.Core.Bool.{and-false}
 use borrow.Author.Tests.{lt-leb}
 use Rattle.definition.specs.declared.WriteAnswer.{WriteAnswer}

@@ -1,5 +1,5 @@
 -- A number of 32 bits, and itself shifted: what the machine computes is the definition's. Assumes nothing.
-use Rattle.std.proofs.Common.{◌≡◌, ℕ, ◌*◌, ◌/◌, ◌%◌, ◌^◌, ◌<◌, sym, refl, ap, ◌∙◌, lt_of_le_of_lt, mod-lt, mod-eq_of_lt, pow_pos}
+use Rattle.std.proofs.Common.{◌≡◌, ℕ, ◌*◌, ◌/◌, ◌%◌, ◌^◌, ◌<◌, sym, ap, ◌∙◌, lt_of_le_of_lt, mod-lt, mod-eq_of_lt, pow_pos}
 use lib.Bits.{bit_xor, xor_mod, xor_lt}
 use lib.Pow.{shr_le}
 use Rattle.load_files.specs.Draws.{kept, xor_left, xor_right, draw}

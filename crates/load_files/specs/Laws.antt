@@ -1,14 +1,13 @@
 -- LAWS of load files: how long they are, and their bytes part by part.
-use Rattle.std.specs.Prelude.{◌≡◌, ℕ, zero, suc, ◌+◌, ◌-◌, ◌*◌, ◌<◌, List, [], ◌∷◌, ◌++◌, length, replicate, slice_set}
+use Rattle.std.specs.Prelude.{◌≡◌, ℕ, zero, suc, ◌+◌, ◌-◌, ◌<◌, List, [], ◌∷◌, ◌++◌, length, replicate, slice_set}
 use Rattle.std.proofs.Math.Path.{refl, ap}
 use Rattle.std.proofs.Common.{sym, ◌∙◌, append_assoc, append-nil, length-append}
 use native.Mathlib.Omega.{arith}
 use Rattle.definition.specs.declared.Lump.{Lump}
 use Rattle.definition.specs.declared.FileRecord.{FileRecord}
 use Rattle.definition.specs.declared.Statement.{Statement}
-use Rattle.definition.specs.File.{check_number, Contents}
-use Rattle.definition.specs.Written.{u16_bytes, u32_bytes, statement_bytes, function_bytes, definition_bytes, bytes_of, layout, layout_of, header_numbers, written}
-use Rattle.writing_laws.specs.ReadBack.{Each}
+use Rattle.definition.specs.File.{check_number}
+use Rattle.definition.specs.Written.{u16_bytes, u32_bytes, statement_bytes, function_bytes, bytes_of, layout_of, header_numbers, written}
 use Rattle.writing_laws.specs.Written.{AllEight, length_written, length_header}
 use Rattle.writing_laws.specs.Lumps.{laid_out}
 use Rattle.load_files.specs.Draws.{after, drawn}

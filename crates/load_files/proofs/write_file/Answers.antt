@@ -1,5 +1,5 @@
 -- `load_files::write_file` meets its contract: the header is put, then the lumps, where there is room for both. Assumes nothing.
-use Rattle.std.proofs.Common.{◌≡◌, ℕ, ◌+◌, ◌≤◌, List, ◌++◌, length, sym, refl, ap, ◌∙◌, arith, length-append, rules}
+use Rattle.std.proofs.Common.{◌≡◌, ℕ, ◌≤◌, List, ◌++◌, length, sym, refl, ap, ◌∙◌, arith, length-append}
 use Rattle.definition.specs.declared.FileRecord.{FileRecord}
 use Rattle.definition.specs.File.{check_number}
 use Rattle.definition.specs.Written.{u32_bytes, bytes_of, layout, header_numbers}

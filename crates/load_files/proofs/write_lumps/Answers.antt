@@ -1,8 +1,7 @@
 -- `load_files::write_lumps` meets its contract: each call puts the next lump. Assumes nothing.
-use Rattle.std.proofs.Common.{◌≡◌, ℕ, List, [], ◌∷◌, ◌++◌, set, replicate, refl, ap, rules}
-use Rattle.definition.specs.Written.{u32_bytes, statement_bytes, function_bytes, bytes_of}
+use Rattle.std.proofs.Common.{ℕ, List, [], ◌∷◌, ◌++◌, set, replicate, refl}
+use Rattle.definition.specs.Written.{u32_bytes, statement_bytes, bytes_of}
 use Rattle.text.specs.Output.{Output, output, Rest, rest_all, rest_room, rest_next, rest_end}
-use Rattle.load_files.specs.Draws.{after}
 use Rattle.load_files.specs.LoadFile.{cells_of, statements_from}
 use Rattle.load_files.specs.Laws.{lumps_for, functions_bytes}
 use Rattle.load_files.proofs.write_lumps.Goals as goal

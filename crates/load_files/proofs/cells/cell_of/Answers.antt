@@ -1,5 +1,4 @@
 -- `load_files::cells::cell_of` meets its contract. Assumes nothing.
-use Rattle.std.proofs.Common.{refl, rules}
 use Rattle.load_files.proofs.cells.cell_of.Goals as goal
 
 pub returns : goal.returns

@@ -1,5 +1,4 @@
 -- `load_files::cells::write_cells` meets its contract: the cells that are 0 are put, then those that are drawn. Assumes nothing.
-use Rattle.std.proofs.Common.{rules}
 use Rattle.text.specs.Output.{room_first, room_second, put_both}
 use Rattle.load_files.specs.Laws.{cells_parts}
 use Rattle.load_files.proofs.cells.write_cells.Goals as goal

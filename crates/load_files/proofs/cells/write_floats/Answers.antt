@@ -1,11 +1,10 @@
 -- `load_files::cells::write_floats` meets its contract. The loop's invariant: what is left to be put is the cells after i of them. The measure is how many they
 -- are. Assumes nothing.
-use Rattle.std.proofs.Common.{◌≡◌, ℕ, ◌-◌, ◌%◌, ◌≤◌, length, refl, ap, ◌∙◌, arith, rules}
-use Rattle.definition.specs.Written.{u32_bytes, bytes_of}
-use Rattle.text.specs.Output.{output, Rest}
-use Rattle.load_files.specs.Draws.{draw, after, drawn}
+use Rattle.std.proofs.Common.{◌≡◌, ℕ, ◌%◌, refl, ap, ◌∙◌, arith}
+use Rattle.definition.specs.Written.{u32_bytes}
+use Rattle.load_files.specs.Draws.{draw, after}
 use Rattle.load_files.specs.LoadFile.{float_of, drawn_cell}
-use Rattle.load_files.proofs.Drawing.{left, drawn_all, drawn_room, drawn_less, drawn_put}
+use Rattle.load_files.proofs.Drawing.{drawn_all, drawn_room, drawn_less, drawn_put}
 use Rattle.load_files.proofs.cells.write_floats.Goals as goal
 
 one_draw : (s : ℕ) → draw s ≡ after 1 s

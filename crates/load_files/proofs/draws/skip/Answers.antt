@@ -1,6 +1,6 @@
 -- `load_files::draws::skip` meets its contract. The loop's invariant: the draws that are left give what all give from the seed. The measure is how many they
 -- are. Assumes nothing.
-use Rattle.std.proofs.Common.{◌≡◌, ℕ, suc, ◌+◌, ◌-◌, ◌<◌, ◌≤◌, refl, ◌∙◌, arith, rules}
+use Rattle.std.proofs.Common.{◌≡◌, ℕ, suc, ◌+◌, ◌-◌, ◌<◌, ◌≤◌, refl, ◌∙◌, arith}
 use Rattle.load_files.specs.Draws.{draw, after}
 use Rattle.load_files.proofs.draws.skip.Goals as goal
 

@@ -1,5 +1,4 @@
 -- `load_files::statements::draw_statement` meets its contract: four draws, each made of the one before it. Assumes nothing.
-use Rattle.std.proofs.Common.{refl, rules}
 use Rattle.load_files.specs.Draws.{after}
 use Rattle.load_files.specs.LoadFile.{drawn_statement}
 use Rattle.load_files.proofs.statements.draw_statement.Goals as goal

@@ -1,5 +1,5 @@
 -- `load_files::statements::opcode_of` meets its contract, by what the draw leaves modulo 3. Assumes nothing.
-use Rattle.std.proofs.Common.{◌≡◌, ℕ, ◌%◌, refl, arith, rules}
+use Rattle.std.proofs.Common.{◌≡◌, ◌%◌, refl, arith}
 use Rattle.load_files.specs.LoadFile.{opcode_of}
 use Rattle.load_files.proofs.statements.opcode_of.Goals as goal
 

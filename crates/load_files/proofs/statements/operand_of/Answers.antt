@@ -1,5 +1,5 @@
 -- `load_files::statements::operand_of` meets its contract. Assumes nothing.
-use Rattle.std.proofs.Common.{refl, rules}
+use Rattle.std.proofs.Common.{refl}
 use Rattle.load_files.proofs.statements.operand_of.Goals as goal
 
 pub returns : goal.returns

@@ -1,11 +1,9 @@
 -- `load_files::statements::write_drawn` meets its contract. The loop's invariant: what is left to be put is the statements after i of them. The measure is how
 -- many they are. Assumes nothing.
-use Rattle.std.proofs.Common.{◌≡◌, ℕ, ◌-◌, ◌≤◌, length, refl, arith, rules}
-use Rattle.definition.specs.Written.{statement_bytes, bytes_of}
-use Rattle.text.specs.Output.{output, Rest}
-use Rattle.load_files.specs.Draws.{after, drawn}
+use Rattle.std.proofs.Common.{arith}
+use Rattle.definition.specs.Written.{statement_bytes}
 use Rattle.load_files.specs.LoadFile.{drawn_statement}
-use Rattle.load_files.proofs.Drawing.{left, drawn_all, drawn_room, drawn_less, drawn_put}
+use Rattle.load_files.proofs.Drawing.{drawn_all, drawn_room, drawn_less, drawn_put}
 use Rattle.load_files.proofs.statements.write_drawn.Goals as goal
 
 pub loop-i-init : goal.loop-i-init

@@ -1,5 +1,5 @@
 -- `load_files::statements::write_statement` meets its contract: each call puts the next number. Assumes nothing.
-use Rattle.std.proofs.Common.{ℕ, List, ◌++◌, refl, append_assoc, rules}
+use Rattle.std.proofs.Common.{ℕ, List, ◌++◌, append_assoc}
 use Rattle.definition.specs.Written.{u16_bytes, statement_bytes}
 use Rattle.text.specs.Output.{Output, output, Rest, rest_all, rest_room, rest_next, rest_end}
 use Rattle.load_files.proofs.statements.write_statement.Goals as goal

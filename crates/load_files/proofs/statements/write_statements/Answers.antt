@@ -1,5 +1,5 @@
 -- `load_files::statements::write_statements` meets its contract: the Done is put, then what is drawn, then the Return. Assumes nothing.
-use Rattle.std.proofs.Common.{ℕ, List, ◌++◌, rules}
+use Rattle.std.proofs.Common.{ℕ, List, ◌++◌}
 use Rattle.definition.specs.Written.{statement_bytes, bytes_of}
 use Rattle.text.specs.Output.{Output, output, Rest, rest_all, rest_room, rest_next, rest_end}
 use Rattle.load_files.specs.Draws.{drawn}
