@@ -1,6 +1,5 @@
 use native.Mathlib.Omega.{arith}
 use lib.ListN.{length-take}
-use borrow.Author.Rules.{rules}
 use Rattle.statement_vectors.proofs.run_given.Goals as goal
 
 pub slice_bounds-run_case-end : goal.slice_bounds-run_case-end
