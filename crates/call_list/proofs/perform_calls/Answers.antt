@@ -18,4 +18,4 @@ pub perform_all-requires : goal.perform_all-requires
 perform_all-requires c = record { n_in_bounds = (omega arith, omega (arith, c.if-answers-calls.false)); n_value = sym c.all_formed.ensures ∙ c.if-not-all_formed.false }
 
 pub returns : goal.returns
-returns c = let p = c.perform_all.ensures in all_performed _ _ _ _ _ c.if-calls-ne0.false c.if-answers-calls.false (sym c.all_formed.ensures ∙ c.if-not-all_formed.false) _ _ p.0 p.1
+returns c = let p = c.perform_all.ensures in all_performed _ _ _ _ _ c.if-calls-ne0.false c.if-answers-calls.false (sym c.all_formed.ensures ∙ c.if-not-all_formed.false) _ _ p.entities_after p.answers_after

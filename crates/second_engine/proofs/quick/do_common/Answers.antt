@@ -20,10 +20,12 @@ pub loop-went-init : goal.loop-went-init
 loop-went-init c = ((omega arith, refl), λ k e hs all. goes_none _ _ _)
 
 pub do_one-turn-requires : goal.do_one-turn-requires
-do_one-turn-requires c = let p = c.requires in (p.0, (omega (arith, p.1.0, c.loop-went.invariant.0.1), p.1.1))
-
-pub overflow_add-went : goal.overflow_add-went
-overflow_add-went c = omega (arith, c.loop-went-test.true, c.well-formed.1.1.1.1.1.0)
+do_one-turn-requires c =
+    let p = c.requires in
+    record {
+      count_in_bounds = p.count_in_bounds;
+      untyped_in_bounds = (omega (arith, p.untyped_in_bounds.0, c.loop-went.invariant.0.1), p.untyped_in_bounds.1);
+    }
 
 pub loop-went-smaller : goal.loop-went-smaller
 loop-went-smaller c = omega (arith, c.loop-went-test.true)
@@ -33,8 +35,7 @@ loop-went-preserved c =
     let g : SFits w64 c.loop-went.went.pc = search rules in
     let o = c.do_one-turn in
     let f : SFits w64 o.result.pc = search rules in
-    let yes : o.result.done ≡ true = c.if-not-turn.false in
-    ((omega (arith, c.loop-went-test.true), o.auto.1.1.1.0 ∙ c.loop-went.invariant.0.1), λ k e hs all. rw (to_z-of_z f) (goes_one _ _ _ _ _ _ _ _ (c.loop-went.invariant.1 k e hs all) (was_done o.result.done _ _ _ c.loop-went.cells yes (rw (to_z-of_z g) at (o.ensures k e hs all)))))
+    ((omega (arith, c.loop-went-test.true), o.auto.cells ∙ c.loop-went.invariant.0.1), λ k e hs all. rw (to_z-of_z f) (goes_one _ _ _ _ _ _ _ _ (c.loop-went.invariant.1 k e hs all) (was_done o.result.done _ _ _ c.loop-went.cells (not-false _ c.if-not-turn.false) (rw (to_z-of_z g) at (o.ensures k e hs all)))))
 
 pub shape_of-cells-after-loop-went : goal.shape_of-cells-after-loop-went
 shape_of-cells-after-loop-went c = c.loop-went.invariant.0.1
@@ -49,5 +50,4 @@ pub returns-then-not-turn : goal.returns-then-not-turn
 returns-then-not-turn c =
     let g : SFits w64 c.loop-went.went.pc = search rules in
     let o = c.do_one-turn in
-    let no : o.result.done ≡ false = c.if-not-turn.true in
-    (c.loop-went.invariant.0.0, λ k e hs all. rw (to_z-of_z c.ranges.pc) at (goes_same _ _ _ _ _ _ _ (was_not o.result.done _ _ _ c.loop-went.cells no (rw (to_z-of_z g) at (o.ensures k e hs all))) (c.loop-went.invariant.1 k e hs all)))
+    (c.loop-went.invariant.0.0, λ k e hs all. rw (to_z-of_z c.ranges.pc) at (goes_same _ _ _ _ _ _ _ (was_not o.result.done _ _ _ c.loop-went.cells (not-true _ c.if-not-turn.true) (rw (to_z-of_z g) at (o.ensures k e hs all))) (c.loop-went.invariant.1 k e hs all)))
