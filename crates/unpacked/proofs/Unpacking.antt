@@ -1,14 +1,13 @@
 -- The 16-bit numbers of the part that has the statements are those of the statements; and what an unpacking answers. Assumes nothing.
 use Prim.Native.Nat.{ℕ, zero, suc, ◌+◌, ◌*◌, ◌/◌, ◌≤◌, ◌<◌}
 use mathlib.Core.Path.{◌≡◌, refl, sym, ◌∙◌, ap}
-use mathlib.Core.List.{List, [], ◌∷◌, ◌++◌}
+use mathlib.Core.List.{List, ◌++◌}
 use mathlib.Core.Bool.{true, false}
 use native.Mathlib.Nat.{mul-div_cancel_left}
 use native.Mathlib.Omega.{arith}
 use borrow.Author.Tests.{le-leb, lt-leb}
 use lib.ListN.{length, drop}
 use Rattle.definition.specs.declared.FileRecord.{FileRecord}
-use Rattle.definition.specs.declared.Statement.{Statement}
 use Rattle.definition.specs.declared.Answer.TheVariants.{Accepted, Refused}
 use Rattle.definition.specs.Checks.{judge, guard}
 use Rattle.definition.specs.File.{records, read_statement, u16_at, numbers_of, file_of, contents_at}
@@ -17,7 +16,7 @@ use Rattle.definition.specs.Load.{program_with, program_of}
 use Rattle.definition.specs.Operations.{sound}
 use Rattle.definition.specs.Unpacked.{buffer_after, unpack}
 use Rattle.functions.specs.Laws.{AllFit}
-use Rattle.functions.specs.Parts.{part_of, statements_in}
+use Rattle.functions.specs.Parts.{part_of}
 use Rattle.functions.specs.PartLaws.{statement_local, length_part, count_part, part_statements}
 use Rattle.unpacked.specs.Numbers.{numbers_in, unpacked_of, unpack_outcome}
 

@@ -1,12 +1,8 @@
 use Prim.Native.Nat.{◌/◌, ◌-◌, ◌≤◌}
 use mathlib.Core.List.{◌++◌}
-use mathlib.Core.Path.{◌≡◌, refl, ◌∙◌, ap}
-use lib.ListN.{length, drop, length-set}
-use native.Mathlib.Nat.{zero-add}
-use native.Mathlib.Omega.{arith}
-use borrow.Author.Rules.{rules}
+use mathlib.Core.Path.{◌≡◌}
+use lib.ListN.{length, drop}
 use Rattle.definition.specs.File.{records, u16_at}
-use Rattle.loader.proofs.Filling.{filled}
 use Rattle.unpacked.proofs.write_numbers.Given as goal
 
 abbrev pub invariant-loop-i : goal.invariant-loop-i
