@@ -1,5 +1,5 @@
 -- WHAT IS ANSWERED, and the output buffer after it: "A seed of 0 or another n is refused 35, then a short output buffer 34; nothing is written."
-use Rattle.std.specs.Prelude.{ℕ, zero, suc, ◌+◌, ◌*◌, ◌≤◌, ◌<◌, ◌≡◌, List, ◌++◌, true, false, ℤ, pos, negsuc, drop}
+use Rattle.std.specs.Prelude.{ℕ, ◌+◌, ◌*◌, ◌≤◌, ◌<◌, ◌≡◌, List, ◌++◌, ℤ, pos, negsuc, drop}
 use Rattle.std.proofs.Math.Path.{refl}
 use Rattle.std.proofs.Math.Bool.{and-false}
 use Rattle.std.proofs.Common.{arith}
@@ -9,7 +9,7 @@ use Rattle.definition.specs.declared.WriteAnswer.TheVariants as write
 use Rattle.definition.specs.Checks.{judge, guard}
 use Rattle.definition.specs.Written.{layout, WriteOutcome, write_outcome}
 use Rattle.load_files.specs.LoadFile.{bytes_for, make_conditions, make_file}
-use Rattle.load_files.specs.Laws.{layout_for, length_file}
+use Rattle.load_files.specs.Laws.{length_file}
 
 -- its length: header, statements, functions, strings and cells
 pub length_is : (seed n : ℕ) → length (bytes_for seed n) ≡ 60 + 8 * (n + 2) + 36 * 2 + 1 + 4 * 64

@@ -1,8 +1,8 @@
 -- WHAT IS DRAWN: whatever the draws are, a statement is MulF, AddF or SubF of cells that are there.
-use Rattle.std.specs.Prelude.{ℕ, zero, suc, ◌+◌, ◌%◌, ◌<◌, ◌≡◌, refl, List, [], ◌∷◌, ◌++◌, length, get_or}
+use Rattle.std.specs.Prelude.{ℕ, zero, suc, ◌%◌, ◌<◌, ◌≡◌, refl, [], ◌∷◌, get_or}
 use Rattle.std.proofs.Common.{arith}
 use Rattle.definition.specs.declared.Statement.{Statement}
-use Rattle.definition.specs.Statements.{floats, opcodes, shape_of, no_statement}
+use Rattle.definition.specs.Statements.{floats, opcodes, shape_of}
 use Rattle.laws.specs.Loadable.{Every}
 use Rattle.load_files.specs.Draws.{after, drawn}
 use Rattle.load_files.specs.LoadFile.{opcode_of, drawn_statement}

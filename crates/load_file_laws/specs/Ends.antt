@@ -1,19 +1,18 @@
 -- "and function 1, entered directly after and run to depth 0 with a permitted limit above n, always ends after n+1 statements": by induction over the
 -- statements that are left.
-use Prim.Native.Nat.{ℕ, zero, suc, ◌+◌, ◌-◌, ◌*◌, ◌≤◌, ◌<◌}
-use Rattle.std.specs.Prelude.{◌≡◌, List, [], ◌∷◌, ◌++◌, true, false, ℤ, ◌+ℤ◌, length, get_or}
+use Prim.Native.Nat.{ℕ, zero, suc, ◌+◌, ◌-◌, ◌≤◌, ◌<◌}
+use Rattle.std.specs.Prelude.{◌≡◌, List, true, ℤ, ◌+ℤ◌}
 use Rattle.std.proofs.Math.Path.{refl, ap}
-use Rattle.std.proofs.Common.{sym, ◌∙◌, subst}
+use Rattle.std.proofs.Common.{◌∙◌, subst}
 use native.Mathlib.Omega.{arith}
 use borrow.Author.Tests.{le-leb, lt-ltb}
 use Rattle.std.proofs.Math.IntN.{pos}
-use Rattle.definition.specs.declared.FunctionDef.{FunctionDef}
 use Rattle.definition.specs.declared.Settings.{Settings}
 use Rattle.definition.specs.declared.RunAnswer.TheVariants.{Ended}
 use Rattle.definition.specs.Checks.{accepted}
-use Rattle.definition.specs.File.{check_number, Contents, file_of, contents_of}
+use Rattle.definition.specs.File.{check_number, Contents, file_of}
 use Rattle.definition.specs.Statements.{Entities, next, returns, does_at}
-use Rattle.definition.specs.Machine.{Program, Config, entities_of, count_of, present, copies_present, arguments, entry_conditions, entered, leave_conditions, left, returned, advanced, completed, step, Ran, one_more, run_for}
+use Rattle.definition.specs.Machine.{Program, Config, entities_of, present, copies_present, arguments, entry_conditions, entered, leave_conditions, left, returned, advanced, completed, step, Ran, run_for}
 use Rattle.definition.specs.Load.{program_with, program_of, loaded, load}
 use Rattle.definition.specs.Operations.{sound, host_enter, run_conditions, run}
 use Rattle.definition.specs.Written.{layout}
@@ -25,7 +24,7 @@ use Rattle.laws.specs.Runs.{run_ends, run_goes_on}
 use Rattle.laws.specs.Sound.{Consistent, consistent_sound, entered_consistent, loaded_consistent, load_suffices}
 use Rattle.load_files.specs.Draws.{after}
 use Rattle.load_files.specs.LoadFile.{functions_of, contents_for, bytes_for}
-use Rattle.load_files.specs.Laws.{layout_for, length_statements, length_cells}
+use Rattle.load_files.specs.Laws.{length_statements, length_cells}
 use Rattle.load_file_laws.specs.Loads.{Lent, says, recorded, always_loads}
 use Rattle.load_file_laws.specs.Steps.{GoesOn, arithmetic_goes_on, return_returns, drawn_at, return_at}
 

@@ -2,7 +2,6 @@
 -- and all that is drawn for that seed and n = 4. They were worked out from 02's words, not by the definition.
 use Rattle.std.specs.Prelude.{ℕ, ◌≡◌, refl, List, [], ◌∷◌, drop}
 use Rattle.std.specs.Float.Ieee as Ieee
-use Rattle.definition.specs.declared.Statement.{Statement}
 use Rattle.load_files.specs.Draws.{draw, after, drawn}
 use Rattle.load_files.specs.LoadFile.{cells_of, opcode_of, drawn_statement, statements_of}
 

@@ -1,13 +1,12 @@
 -- "Given what 12 and 13 ask, such a file always loads": of any seed, so of every one that is not 0.
-use Rattle.std.specs.Prelude.{ℕ, ◌+◌, ◌*◌, ◌≤◌, ◌<◌, ◌≡◌, refl, List, [], ◌∷◌, ◌++◌, true, pos, length}
+use Rattle.std.specs.Prelude.{ℕ, ◌+◌, ◌*◌, ◌≤◌, ◌≡◌, refl, List, [], ◌∷◌, ◌++◌, pos, length}
 use Rattle.std.proofs.Math.Path.{sym}
 use Rattle.std.proofs.Common.{ap, ◌∙◌}
 use native.Mathlib.Omega.{arith}
-use Rattle.definition.specs.declared.FileRecord.{FileRecord}
 use Rattle.definition.specs.declared.Statement.{Statement}
 use Rattle.definition.specs.declared.Settings.{Settings}
 use Rattle.definition.specs.Checks.{accepted}
-use Rattle.definition.specs.File.{check_number, file_of, lumps_fit, Contents, contents_of}
+use Rattle.definition.specs.File.{check_number, file_of, contents_of}
 use Rattle.definition.specs.Load.{loaded, load}
 use Rattle.definition.proofs.LoadLaws.{InRange}
 use Rattle.definition.specs.Written.{layout, written, image}
@@ -15,7 +14,7 @@ use Rattle.laws.specs.Loadable.{Every, StatementIs, Loadable, loadable}
 use Rattle.writing_laws.specs.Written.{version_written, check_written, file_written, contents_written}
 use Rattle.writing_laws.specs.Loads.{layout_fits}
 use Rattle.load_files.specs.Draws.{after, drawn}
-use Rattle.load_files.specs.LoadFile.{drawn_statement, done, return, statements_of, contents_for, bytes_for}
+use Rattle.load_files.specs.LoadFile.{drawn_statement, return, contents_for, bytes_for}
 use Rattle.load_files.specs.Laws.{layout_for, eight_for, layout_for_law, length_file}
 use Rattle.load_file_laws.specs.Drawn.{Arithmetic, all_arithmetic}
 

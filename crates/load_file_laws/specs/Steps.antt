@@ -1,18 +1,17 @@
 -- THE STATEMENTS of a load file, as the machine does them: a drawn statement completes and goes on to the next one, whatever the cells hold; the last one returns.
-use Rattle.std.specs.Prelude.{ℕ, zero, suc, ◌+◌, ◌<◌, ◌≡◌, List, [], ◌∷◌, ◌++◌, true, ℤ, pos, ◌+ℤ◌, length, get_or}
+use Rattle.std.specs.Prelude.{ℕ, zero, suc, ◌<◌, ◌≡◌, List, [], ◌∷◌, ◌++◌, pos, ◌+ℤ◌, length, get_or}
 use Rattle.std.proofs.Math.Path.{refl}
-use Rattle.std.proofs.Common.{sym, ap, ◌∙◌, le_of_suc-le-suc, arith, length-append}
+use Rattle.std.proofs.Common.{◌∙◌, le_of_suc-le-suc, arith}
 use borrow.Author.Tests.{lt-ltb}
 use Rattle.std.proofs.Math.ListN.{set, length-set}
 use Rattle.definition.specs.declared.Statement.{Statement}
-use Rattle.definition.specs.declared.Definition.{Definition}
-use Rattle.definition.specs.Checks.{Conditions, judge}
+use Rattle.definition.specs.Checks.{Conditions}
 use Rattle.definition.specs.File.{Contents}
 use Rattle.definition.specs.Cells.{float, lookup, passes, cell_of, Typing, cell_access, access, typing_of}
 use Rattle.definition.specs.Statements.{Entities, Does, next, returns, provided, shape_of, opcodes, floats_effect, no_statement, fetch_conditions, execute, does_at}
 use Rattle.definition.proofs.CheckLaws.{All, all_both, judge_all}
 use Rattle.laws.specs.Loadable.{Every}
-use Rattle.load_files.specs.Draws.{after, drawn}
+use Rattle.load_files.specs.Draws.{drawn}
 use Rattle.load_files.specs.LoadFile.{drawn_statement, return, statements_from}
 use Rattle.load_files.specs.Laws.{length_drawn}
 use Rattle.load_file_laws.specs.Drawn.{Arithmetic, all_arithmetic}

@@ -1,6 +1,6 @@
 -- THE LAW OF DOCUMENT 02, R-7: "Given 64 lent cells, a statement that used to complete still does, from the same old cells, saved store, entity cells and
 -- state but for what that records of the file, with the same results, and leaves the added cells alone."
-use Rattle.std.specs.Prelude.{ℕ, ◌≤◌, ◌≡◌, List, [], ◌∷◌, Bool, false, ◌&&◌, take, drop}
+use Rattle.std.specs.Prelude.{ℕ, ◌≤◌, ◌≡◌, List, Bool, false, ◌&&◌, take, drop}
 use Rattle.std.proofs.Math.Path.{refl, sym}
 use Rattle.std.proofs.Common.{◌∙◌, ap, subst, arith}
 use Rattle.std.proofs.Math.Bool.{true}
@@ -14,7 +14,7 @@ use Rattle.definition.proofs.CheckLaws.{and_left, and_right}
 use Rattle.definition.specs.Statements.{does_at}
 use Rattle.definition.specs.Machine.{Program, Config, entities_of, count_of, Stepped, completed, handed_step, step}
 use Rattle.definition.specs.Load.{header_conditions, recorded_in, program_with, program_of}
-use Rattle.definition.specs.Operations.{all_present, locals_of, entered_functions, sound, step_if, statement}
+use Rattle.definition.specs.Operations.{entered_functions, sound, step_if, statement}
 use Rattle.definition.proofs.RecordLaws.{length_globals}
 use Rattle.definition.specs.Written.{padded_file}
 use Rattle.functions.specs.Laws as functions
