@@ -8,16 +8,15 @@ use native.Mathlib.Omega.{arith}
 use borrow.Author.Tests.{le-leb, lt-leb}
 use lib.IntN.{ℤ, pos, ◌+ℤ◌}
 use lib.ListN.{length}
-use Rattle.definition.specs.declared.Handover.{Handover}
 use Rattle.definition.specs.declared.RunAnswer.TheVariants as run
-use Rattle.definition.specs.Checks.{judge, guard, decided}
+use Rattle.definition.specs.Checks.{judge, guard}
 use Rattle.definition.specs.declared.FileRecord.{FileRecord}
 use Rattle.definition.specs.File.{Contents, file_of, contents_at, unpacked_statements, with_statements}
 use Rattle.definition.proofs.RecordLaws.{length_records}
 use Rattle.definition.specs.Cells.{typing_of}
 use Rattle.definition.specs.Load.{program_with, program_of}
 use Rattle.definition.specs.Statements.{Entities, Does, place_of, does_at}
-use Rattle.definition.specs.Machine.{Program, with_unpacked, Config, entities_of, advanced, step_as, completed, refused_step, handed_step, entry_conditions, entered, enter, left, leave_conditions, return_conditions, returned, as_step, step, run_for}
+use Rattle.definition.specs.Machine.{Program, with_unpacked, Config, entities_of, step_as, completed, refused_step, entry_conditions, entered, leave_conditions, return_conditions, returned, as_step, step, run_for}
 use Rattle.definition.proofs.LoadLaws.{InRange}
 use Rattle.execution.specs.declared.Executed.{Executed}
 use Rattle.execution.specs.declared.Executed.TheVariants as does
@@ -25,7 +24,7 @@ use Rattle.execution.specs.Execution.{executed, execution, entities_at}
 use Rattle.progs.specs.declared.ExecutionContext.{ExecutionContext}
 use Rattle.progs.specs.declared.calls.Entry.{Entry}
 use Rattle.progs.specs.declared.calls.Leaving.{Leaving}
-use Rattle.progs.specs.Contexts.{config, bare, Loaded, Within, AtStatement}
+use Rattle.progs.specs.Contexts.{config, Loaded, Within, AtStatement}
 use Rattle.progs.specs.Numbers.{entered_context, left_context, entry_of, entering, leaving_of, returning}
 use Rattle.progs.proofs.NumberLaws as entry
 use Rattle.progs.proofs.ReturnLaws as return
@@ -33,7 +32,7 @@ use Rattle.progs.proofs.StateLaws.{moved_within}
 use Rattle.server.specs.declared.Ran.{Ran}
 use Rattle.server.specs.Stepping.{ran_as, ran_of, CallAt, Apart}
 use Rattle.second_engine.specs.Quickly.{AllFloats, Goes, GoesOn}
-use Rattle.server.proofs.RunLaws.{RunLeft, run_refused, run_handed, run_ended, run_again}
+use Rattle.server.proofs.RunLaws.{RunLeft, run_refused, run_ended, run_again}
 use Rattle.server.proofs.StepLaws.{step_by, kept_by, call_in_law, few_statements}
 use Rattle.server.proofs.TurnLaws.{known, same, same_fields}
 

@@ -10,7 +10,6 @@ use lib.IntN.{ℤ, pos, ◌+ℤ◌}
 use lib.ListN.{length, get_or, set}
 use Rattle.definition.specs.declared.FileRecord.{FileRecord}
 use Rattle.definition.specs.declared.Statement.{Statement}
-use Rattle.definition.specs.declared.Definition.{Definition}
 use Rattle.definition.specs.Checks.{judge}
 use Rattle.definition.specs.File.{Contents, contents_at, with_statements, records, u32_at}
 use Rattle.definition.proofs.RecordLaws.{length_records}

@@ -17,8 +17,6 @@ use Rattle.progs.specs.Numbers.{entry_of, entering, leaving_of, returning}
 use Rattle.progs.proofs.FileLaws.{functions_here}
 use Rattle.progs.proofs.NumberLaws.{by_count}
 use Rattle.progs.proofs.ReturnLaws.{return_by_count}
-use Rattle.server.specs.declared.Ran.{Ran}
-use Rattle.server.specs.Stepping.{ran_of}
 use Rattle.server.proofs.RunLaws.{RunLeft, run_start, run_spent}
 use Rattle.server.proofs.StepLaws.{call_at, within_lent, few_statements}
 use Rattle.server.proofs.TurnLaws.{next_within, turn_next, turn_refused, turn_handed}
@@ -133,7 +131,7 @@ do_common-went-requires c =
 pub returns-then-limit-count : goal.returns-then-limit-count
 returns-then-limit-count c =
     let at = (goal.at.returns-then-limit-count c).After-do_common-went in
-    ap (λ (w : Ran). ran_of w c.do_common-went.new.cells c.loop-count.store c.loop-count.entities) (rw (to_z-of_z (went_fits at)) at c.ends.ensures) ∙ run_spent _ _ _ _ _ _ c.if-limit-count.true (went_left at)
+    rw (rw (to_z-of_z (went_fits at)) at c.ends.ensures) (run_spent _ _ _ _ _ _ c.if-limit-count.true (went_left at))
 
 pub does-done-requires : goal.does-done-requires
 does-done-requires c =
@@ -219,9 +217,6 @@ returns-in-HandedOver c =
     let at = p.After-do_common-went in
     turn_handed _ _ _ _ _ _ _ _ _ (went_left at) (more_left p.Else-limit-count) _ _ _ (did p.After-does-done) _ _ c.in-HandedOver.is (rw (to_z-of_z (went_fits at)) at c.ends-in-HandedOver.ensures)
 
-pub loop-count-smaller-in-Next : goal.loop-count-smaller-in-Next
-loop-count-smaller-in-Next c = let m = more_left (goal.at.loop-count-smaller-in-Next c).Else-limit-count in omega (arith, m)
-
 pub loop-count-preserved-in-Next : goal.loop-count-preserved-in-Next
 loop-count-preserved-in-Next c =
     let p = goal.at.loop-count-preserved-in-Next c in
@@ -238,9 +233,6 @@ loop-count-preserved-in-Next c =
       apart = i.apart;
       left = rw (to_z-of_z g) (turn_next _ _ _ _ _ _ _ _ _ (went_left p.After-do_common-went) (more_left p.Else-limit-count) _ _ _ (did p.After-does-done) _ _ c.in-Next.is refl);
     }
-
-pub loop-count-smaller-else-entry-ne0 : goal.loop-count-smaller-else-entry-ne0
-loop-count-smaller-else-entry-ne0 c = let m = more_left (goal.at.loop-count-smaller-else-entry-ne0 c).Else-limit-count in omega (arith, m)
 
 pub loop-count-preserved-else-entry-ne0 : goal.loop-count-preserved-else-entry-ne0
 loop-count-preserved-else-entry-ne0 c =
@@ -264,9 +256,6 @@ loop-count-preserved-else-entry-ne0 c =
       left = rw (to_z-of_z f, to_z-of_z b) (turn_enters _ _ _ _ _ _ _ _ _ (went_left p.After-do_common-went) (more_left p.Else-limit-count) _ _ _ (did p.After-does-done) w.range _ c.in-Calls.is _ _ _ (entry_did p.After-enter_cells-entry) c.if-entry-ne0.false i.apart (called_at p.In-Calls) _ back);
     }
 
-pub loop-count-smaller : goal.loop-count-smaller
-loop-count-smaller c = let m = more_left (goal.at.loop-count-smaller c).Else-limit-count in omega (arith, m)
-
 pub loop-count-preserved : goal.loop-count-preserved
 loop-count-preserved c =
     let p = goal.at.loop-count-preserved c in
@@ -285,4 +274,4 @@ loop-count-preserved c =
     }
 
 pub returns : goal.returns
-returns c = ap (λ (w : Ran). ran_of w c.loop-count.cells c.loop-count.store c.loop-count.entities) c.ends-2.ensures ∙ run_spent _ _ _ _ _ _ c.loop-count-test.false c.loop-count.invariant.left
+returns c = rw c.ends-2.ensures (run_spent _ _ _ _ _ _ c.loop-count-test.false c.loop-count.invariant.left)

@@ -1,5 +1,4 @@
 use native.Mathlib.Omega.{arith}
-use borrow.Author.Rules.{rules}
 use Rattle.second_engine.proofs.QuickLaws.{none_pass, all_pass}
 use Rattle.second_engine.proofs.untyped_cells.Goals as goal
 

@@ -1,7 +1,6 @@
 use mathlib.Core.Path.{refl}
 use mir.Syntax.{w64}
 use mir.Facts.{to_z-of_z}
-use borrow.Author.Rules.{rules}
 use Rattle.second_engine.proofs.QuickLaws.{jumps, goes_past}
 use Rattle.second_engine.proofs.quick.branch.Goals as goal
 

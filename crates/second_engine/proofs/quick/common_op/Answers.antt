@@ -1,7 +1,6 @@
 use Prim.Native.Nat.{ℕ}
 use mathlib.Core.Path.{◌≡◌, refl}
 use mathlib.Core.Bool.{true}
-use borrow.Author.Rules.{rules}
 use Rattle.definition.specs.Statements.{opcodes, shape_of}
 use Rattle.floats.specs.Opcodes.{float_op}
 use Rattle.execution.specs.Shapes.{is_floats}
