@@ -31,7 +31,7 @@ write_program-requires c =
     let within' : Within c.args.file.now c.args.context (length c.args.cells.now) (length c.args.store.now) (length c.args.entities.now) = passed c.args.file.now c.args.cells.now c.args.store.now c.args.entities.now c.args.context sound_here' in
     let s = c.args in
     let w = within' in
-    (w.loaded.lumps, (omega (arith, w.size_most), omega (arith, (lump_fitting 4 (length s.file.now) s.context.file.globals w.loaded.lumps.globals).count)))
+    record { all_fit = w.loaded.lumps; entityfields_bound = (omega (arith, w.size_most), omega (arith, (lump_fitting 4 (length s.file.now) s.context.file.globals w.loaded.lumps.globals).count)) }
 
 pub returns : goal.returns
 returns c =

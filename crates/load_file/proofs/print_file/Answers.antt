@@ -23,7 +23,7 @@ returns-in-Length c =
     let made' : let a = c.read_numbers-asked.result in
     outcome_of c.make_file.result c.make_file.new.output ≡ write_outcome c.args.out.now (make_file a.seed (pos a.n) c.args.out.now) = let small : c.read_numbers-asked.result.n < 2 ^ 63 = search rules in rw (to_z_pos w64 small) at c.make_file.ensures in
     let p = length_printed c.read_numbers-asked.result c.args.out.now c.requires _ _ (rw c.in-Length.is at made') in
-    (p.text ∙ rw c.read_numbers-asked.ensures refl, p.most)
+    record { result_after = p.text ∙ rw c.read_numbers-asked.ensures refl; upper_bound = p.most }
 
 pub refused_line-requires : goal.refused_line-requires
 refused_line-requires c =
@@ -39,4 +39,4 @@ returns-in-Refused c =
     let refuses' : Refuses c.read_numbers-asked.result c.args.out.now c.requires c.in-Refused.n c.make_file.new.output = refused_printed _ _ _ _ _ (rw c.in-Refused.is at made') in
     let r = refuses' in
     let line : at_front (refused_line c.in-Refused.n) c.make_file.new.output ≡ at_front (printed_for c.read_numbers-asked.result) c.args.out.now = rw (r.same, r.text) refl in
-    (c.refused_line.ensures.result_after ∙ line ∙ rw c.read_numbers-asked.ensures refl, omega (arith, c.refused_line.ensures.upper_bound))
+    record { result_after = c.refused_line.ensures.result_after ∙ line ∙ rw c.read_numbers-asked.ensures refl; upper_bound = omega (arith, c.refused_line.ensures.upper_bound) }
