@@ -1,18 +1,17 @@
 -- The numbers of a list, one call after the other.
-use Prim.Native.Nat.{ℕ, zero, suc, ◌+◌, ◌*◌, ◌-◌, ◌<◌, ◌≤◌, ◌/◌, ◌%◌}
-use mathlib.Core.Path.{◌≡◌, refl, sym, ◌∙◌, ap, subst}
-use mathlib.Core.List.{List, [], ◌∷◌, ◌++◌}
-use mathlib.Core.Bool.{Bool, true, false, ◌&&◌, ◌||◌, cond}
+use Prim.Native.Nat.{ℕ, suc, ◌+◌, ◌*◌, ◌-◌, ◌<◌, ◌≤◌}
+use mathlib.Core.Path.{◌≡◌, sym, ◌∙◌, ap, subst}
+use mathlib.Core.List.{List, [], ◌∷◌}
+use mathlib.Core.Bool.{Bool, true, false, ◌||◌}
 use native.Mathlib.Omega.{arith}
-use borrow.Author.Tests.{eq-eqb, ne_eqb, lt-ltb, le-ltb, le-leb, lt-leb}
-use lib.IntN.{ℤ, pos, negsuc}
+use borrow.Author.Tests.{ne_eqb, lt-ltb, le-ltb}
+use lib.IntN.{ℤ, pos}
 use lib.ListN.{length, get_or, set}
 use lib.Seq.{sets}
-use lib.Dec.{eqb, ltb, leb}
+use lib.Dec.{ltb}
 use Rattle.definition.specs.File.{records}
 use Rattle.definition.specs.Statements.{place_of}
 use Rattle.definition.specs.Machine.{Program, Config}
-use Rattle.definition.specs.Operations.{natural, below}
 use Rattle.definition.proofs.CheckLaws.{and_left, and_right}
 use Rattle.definition.proofs.PlaceLaws.{below_place, place_natural}
 use Rattle.definition.specs.Calls.{Call, after}

@@ -1,6 +1,6 @@
 -- A LIST OF CALLS IN NUMBERS: three to a call (what it is, and up to two arguments), and three to its answer (word, detail, count). Beside the list stand the
 -- numbers of its pairs that are written together. What performing a list leaves is the definition's calls, one after the other.
-use Rattle.std.specs.Prelude.{ℕ, ◌+◌, ◌-◌, ◌/◌, ◌%◌, List, [], ◌∷◌, ◌++◌, Bool, true, false, not, ◌&&◌, ◌||◌, cond, ℤ, pos, length, get_or, take, drop, eqb, leb, ltb}
+use Rattle.std.specs.Prelude.{ℕ, ◌+◌, ◌-◌, ◌/◌, ◌%◌, List, [], ◌∷◌, ◌++◌, Bool, true, ◌&&◌, ◌||◌, cond, ℤ, pos, length, get_or, take, drop, eqb, leb, ltb}
 use Rattle.std.proofs.lemmas.List.Edits.{sets}
 use Rattle.definition.specs.declared.Answer.{Answer}
 use Rattle.definition.specs.declared.Answer.TheVariants as answer

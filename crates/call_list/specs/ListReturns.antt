@@ -1,7 +1,6 @@
 -- DEMAND 3 FOR A LIST OF ENCODED CALLS: after an accepted load, what performing the list goes through is what demand 3 speaks of, and it ends where
 -- the claim ends.
-use Rattle.std.specs.Prelude.{ℕ, zero, suc, ◌+◌, ◌/◌, ◌≡◌, refl, List, [], ◌∷◌, Bool, true, false, cond, eqb, ℤ, pos, length, get_or, take, drop}
-use Rattle.std.proofs.Common.{sym, ap, subst}
+use Rattle.std.specs.Prelude.{ℕ, zero, suc, ◌+◌, ◌/◌, ◌≡◌, List, [], ◌∷◌, Bool, true, false, cond, eqb, ℤ, pos, length, get_or, take, drop}
 use Rattle.definition.specs.declared.Settings.{Settings}
 use Rattle.definition.specs.Checks.{accepted}
 use Rattle.definition.specs.Machine.{Config}

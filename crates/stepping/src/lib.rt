@@ -28,7 +28,7 @@ pub fn step(
     stepped.answer
 }
 
-// The step on a context by value: a function that lends a context by `&mut` is proved by hand, and whoever calls this one is not.
+// The step on a context by value.
 pub fn step_once(
     context: ExecutionContext,
     file: &[u8],

@@ -1,11 +1,7 @@
 use Prim.Native.Nat.{◌*◌, ◌-◌}
-use mathlib.Core.Path.{◌≡◌, refl, sym, ◌∙◌}
-use native.Mathlib.Omega.{arith}
-use borrow.Author.Rules.{rules}
-use borrow.Author.Tests.{not-true, not-false}
+use mathlib.Core.Path.{◌≡◌}
 use Rattle.definition.specs.File.{records}
 use Rattle.call_list.specs.Encoding.{formed_at, all_true}
-use Rattle.call_list.proofs.Lists.{formed_start, formed_stops, formed_on, formed_end}
 use Rattle.call_list.proofs.all_formed.Given as goal
 
 abbrev pub invariant-loop-i : goal.invariant-loop-i

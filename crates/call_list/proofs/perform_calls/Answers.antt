@@ -1,8 +1,6 @@
 use Rattle.call_list.proofs.Whole.{part_of_a_call, no_room, ill_formed, all_performed}
-use borrow.Author.Tests.{not-true, not-false}
 use mathlib.Core.Path.{sym, ◌∙◌}
 use native.Mathlib.Omega.{arith}
-use borrow.Author.Rules.{rules}
 use Rattle.call_list.proofs.perform_calls.Goals as goal
 
 pub returns-then-calls-ne0 : goal.returns-then-calls-ne0

@@ -1,7 +1,6 @@
 use mathlib.Core.Path.{◌∙◌}
 use Rattle.call_list.specs.Encoding.{answer_reply}
 use Rattle.call_list.proofs.Replies.{known}
-use borrow.Author.Rules.{rules}
 use Rattle.call_list.proofs.reply_answer.Goals as goal
 
 pub returns-in-Accepted : goal.returns-in-Accepted

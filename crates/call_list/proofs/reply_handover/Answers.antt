@@ -1,6 +1,5 @@
 use mathlib.Core.Path.{◌∙◌}
 use Rattle.call_list.proofs.Replies.{known_handover}
-use borrow.Author.Rules.{rules}
 use Rattle.call_list.proofs.reply_handover.Goals as goal
 
 pub returns-in-Builtin : goal.returns-in-Builtin

@@ -1,7 +1,6 @@
 use mathlib.Core.Path.{◌∙◌}
 use Rattle.call_list.specs.Encoding.{read_reply}
 use Rattle.call_list.proofs.Replies.{known}
-use borrow.Author.Rules.{rules}
 use Rattle.call_list.proofs.reply_read.Goals as goal
 
 pub returns-in-Value : goal.returns-in-Value

@@ -1,6 +1,5 @@
 use mathlib.Core.Path.{◌∙◌}
 use Rattle.call_list.proofs.Replies.{known_run}
-use borrow.Author.Rules.{rules}
 use Rattle.call_list.proofs.reply_run.Goals as goal
 
 pub returns-in-Ended : goal.returns-in-Ended

@@ -1,7 +1,6 @@
 use mathlib.Core.Path.{◌∙◌}
 use Rattle.call_list.specs.Encoding.{statement_reply}
 use Rattle.call_list.proofs.Replies.{known}
-use borrow.Author.Rules.{rules}
 use Rattle.call_list.proofs.reply_statement.Goals as goal
 
 pub returns-in-Completed : goal.returns-in-Completed
