@@ -1,8 +1,9 @@
 -- Laws of checks, once for every operation: accepted exactly where all the conditions hold, refused n exactly where n's condition is the first to fail.
-use Rattle.std.specs.Prelude.{ℕ, zero, suc, ◌≡◌, refl, ◌⊎◌, List, [], ◌∷◌, ◌++◌, Bool, true, false, ◌&&◌, ◌||◌, cond, eqb}
-use Rattle.std.proofs.Common.{sym, ◌∙◌, ap, subst, inl, inr, arith}
+use Rattle.std.specs.Prelude.{ℕ, zero, suc, ◌≡◌, refl, ◌⊎◌, [], ◌∷◌, ◌++◌, Bool, true, false, ◌&&◌, ◌||◌, cond, eqb}
+use Rattle.std.proofs.Common.{sym, subst, inl, inr, arith}
 use Rattle.std.proofs.Math.Dec.{eqb-suc-zero}
-use Rattle.definition.specs.Checks.{Condition, Conditions, judge, Checked, refused, accepted, decided, guard}
+use Rattle.definition.specs.Checks.{Conditions, judge, refused, accepted, decided, guard}
+use Rattle.definition.specs.CheckLaws.{All, FailsFirst, WhenAccepted}
 
 pub no_true : (b : Bool) → (b ≡ true → ⊥) → b ≡ false
 no_true true h = absurd (h refl)
@@ -23,16 +24,6 @@ and_both false b p q = p
 pub or_cases : (a b : Bool) → (a || b) ≡ true → (a ≡ true) ⊎ (b ≡ true)
 or_cases true b e = inl refl
 or_cases false b e = inr e
-
--- all the conditions hold
-abbrev pub All : Conditions → Type 0
-All [] = Unit {0}
-All (c ∷ cs) = (c.holds ≡ true) × All cs
-
--- n's condition fails, and all before it hold
-abbrev pub FailsFirst : ℕ → Conditions → Type 0
-FailsFirst n [] = ⊥
-FailsFirst n (c ∷ cs) = ((c.holds ≡ false) × (n ≡ suc c.number_less_one)) ⊎ ((c.holds ≡ true) × FailsFirst n cs)
 
 pub judge_passed : (cs : Conditions) → judge cs ≡ 0 → All cs
 unfolding judge
@@ -88,10 +79,6 @@ all_both [] ds h k = k
 all_both (c ∷ cs) ds (h, hs) k = (h, all_both cs ds hs k)
 
 -- ---- what holds of a result, if there is one
-
-abbrev pub WhenAccepted : {A : Type 0} → (A → Type 0) → Checked A → Type 0
-WhenAccepted Q (refused n) = Unit {0}
-WhenAccepted Q (accepted a) = Q a
 
 pub guarded : {A : Type 0} (Q : A → Type 0) (cs : Conditions) (a : A) → (All cs → Q a) → WhenAccepted Q (guard cs a)
 unfolding guard

@@ -1,28 +1,30 @@
 -- INDUCTIVE INVARIANTS. What every small step preserves holds always, along every list of calls: proved once, for any property. With it: the small steps
 -- of a call are transitions, end where it ends, and are as many as a run counts.
-use Prim.Native.Nat.{ℕ, zero, suc, ◌+◌, ◌-◌, ◌*◌, ◌<◌}
-use Rattle.std.specs.Prelude.{◌≡◌, List, [], ◌∷◌, ◌++◌, Bool, true, false, ℤ, negsuc, ◌+ℤ◌, length, set, eqb, ltb}
+use Prim.Native.Nat.{ℕ, zero, suc}
+use Rattle.std.specs.Prelude.{◌≡◌, List, [], ◌∷◌, Bool, true, false, ℤ, negsuc, ◌+ℤ◌, length, set, eqb}
 use Rattle.std.proofs.Math.Path.{refl, subst, ap}
 use Rattle.std.proofs.Common.{sym, ◌∙◌, arith}
 use borrow.Author.Tests.{ltb-true}
 use Rattle.std.proofs.Math.IntN.{pos}
 use Rattle.definition.specs.Checks.{Condition, Conditions, judge, Checked, refused, accepted, guard}
-use Rattle.definition.specs.File.{Contents, contents_of}
 use Rattle.definition.specs.Statements.{Does, next, puts, calls, returns, refuses, hands_over}
-use Rattle.definition.specs.Machine.{Program, with_unpacked, Config, entities_of, count_of, with_cells, with_entities, advanced, entry_conditions, entered, enter, leave_conditions, left, leave, return_conditions, returned}
+use Rattle.definition.specs.Machine.{Program, with_unpacked, Config, entities_of, count_of, with_entities, entry_conditions, entered, enter, leave_conditions, left, return_conditions, returned}
 use Rattle.definition.specs.Machine.{Stepped, completed, refused_step, handed_step, as_step, step_as, step, Ran, go_on, run_as, run_for}
 use Rattle.definition.specs.Load.{program_of}
-use Rattle.definition.specs.Operations.{sound, natural, below, host_enter, step_if, statement, run_conditions, run_after, run, carry_on_conditions, carry_on}
-use Rattle.definition.specs.Operations.{left_times, leavings_conditions, leavings_to, abandon_conditions, abandon, raw_conditions, raw_write, pair_conditions, pairs_conditions, pairs_written, write_all}
+use Rattle.definition.specs.Operations.{sound, natural, host_enter, step_if, statement, run_conditions, run_after, run, carry_on_conditions, carry_on}
+use Rattle.definition.specs.Operations.{left_times, leavings_conditions, leavings_to, abandon_conditions, abandon, raw_write, pair_conditions, pairs_conditions, pairs_written, write_all}
 use Rattle.definition.specs.Answers.{kept, statement_outcome}
 use Rattle.definition.specs.Calls.{Call, enters, steps, runs, runs_unpacked, carries, abandons, reads, writes, writes_all, lends, after, if_accepted, if_completed, unless_ended, steps_as, run_steps, run_steps_after, steps_of_run, leavings, leavings_after, small_steps}
 use Rattle.definition.specs.Log.{Log, Kind, entry, leaving, other, statement_kind, kind_of}
 use Rattle.definition.specs.Trace.{kind_at, log_after, Transition, StepProperty, StateProperty, Trace, log_after_steps, Counted, Always}
 use Rattle.definition.specs.Unpacked.{Unpacked, Ready, AllReady}
 use Rattle.definition.proofs.UnpackedLaws.{same_program}
-use Rattle.definition.proofs.CheckLaws.{All, judge_passed, judge_all, all_front, all_back, WhenAccepted, guarded, guard_accepts}
+use Rattle.definition.specs.CheckLaws.{All, WhenAccepted}
+use Rattle.definition.proofs.CheckLaws.{judge_passed, all_front, all_back, guarded, guard_accepts}
 use Rattle.definition.proofs.PlaceLaws.{below_natural}
-use Rattle.definition.proofs.StatementLaws.{Keeps, keeps_all, keeps_set, keeps_one, HasKind, before_in, statement_has_kind}
+use Rattle.definition.specs.StatementLaws.{Keeps, HasKind, before_in}
+use Rattle.definition.proofs.StatementLaws.{keeps_all, keeps_set, keeps_one, statement_has_kind}
+use Rattle.definition.specs.Invariant.{Preserves, Inductive}
 
 -- ---- a run's small steps are as many as it counts
 
@@ -75,27 +77,6 @@ pairs_keep count cells (a ∷ v ∷ numbers) cells' h k =
     pairs_keep count cells numbers (set cells' (natural a) (natural v)) h.1.1 (keeps_set count cells cells' (natural a) (natural v) (below_natural count a h.0) k)
 
 -- ---- what is preserved
-
--- a small step of which Step holds, and after which the invariant K does
-abbrev pub Preserves : List ℕ → StateProperty → StepProperty → Kind → Config → Log → Config → Type 0
-Preserves file K Step κ c l c' = Step κ c l c' × K c' (log_after file κ c l)
-
--- how many entity cells the entities have
-abbrev pub room_in : List ℕ → Config → ℕ
-room_in file c = c.state.entity_count * (contents_of file).entityfields
-
--- K is inductive: every kind of small step, from where K holds, has the property Step and preserves K
-pub record Inductive (file : List ℕ) (K : StateProperty) (Step : StepProperty) : Type 0 where
-  pub plain : (c : Config) (l : Log) (p : ℤ) (cells entities : List ℕ) → K c l → Keeps (length (contents_of file).globals) c.cells cells
-      → Keeps (room_in file c) c.entities entities → Preserves file K Step other c l (advanced c p cells entities)
-  pub writing : (c : Config) (l : Log) (cells : List ℕ) → K c l → Keeps (count_of c) c.cells cells → Preserves file K Step other c l (with_cells c cells)
-  pub lending : (c : Config) (l : Log) (entities : List ℕ) → K c l → Preserves file K Step other c l (with_entities c entities)
-  pub entering : (c : Config) (l : Log) (f : ℕ) (back : ℤ) → K c l → All (entry_conditions (program_of file) f c)
-      → Preserves file K Step (entry f back) c l (entered (program_of file) f back c)
-  pub returning : (c : Config) (l : Log) (a : ℕ) → K c l → All (return_conditions (program_of file) a c)
-      → Preserves file K Step leaving c l (returned (program_of file) a c)
-  pub leave_one : (c : Config) (l : Log) → K c l → All (leave_conditions (program_of file) c)
-      → Preserves file K Step leaving c l (left (program_of file) c)
 
 module _ (file : List ℕ) (K : StateProperty) (Step : StepProperty) (S : Inductive file K Step) where
   abbrev P : Program

@@ -1,21 +1,13 @@
 -- Laws of a load: the ranges of its settings, and the rows of its conditions, one by one.
-use Rattle.std.specs.Prelude.{ℕ, ◌≤◌, ◌≡◌, List, ◌++◌, Bool, true, ◌&&◌, leb}
+use Rattle.std.specs.Prelude.{ℕ, ◌≡◌, List, ◌++◌, Bool, true, ◌&&◌, leb}
 use Rattle.std.proofs.Common.{leb-true, le-leb}
 use Rattle.definition.specs.declared.Settings.{Settings}
 use Rattle.definition.specs.Checks.{Conditions}
 use Rattle.definition.specs.File.{saved_store, greatest_depth, greatest_limit, greatest_check_number, file_of, contents_of, between, settings_fit}
 use Rattle.definition.specs.Load.{header_conditions, record_conditions, cell_conditions, entity_conditions, file_conditions}
-use Rattle.definition.proofs.CheckLaws.{All, and_left, and_right, all_front, all_back}
-
--- settings in range, by the numbers of R-11: "Check number (0 to 65,535), greatest depth (1 to 31), greatest saved count (0 to 2,048) and greatest run
--- limit (1 to 99,999)"
-pub record InRange (s : Settings) : Type 0 where
-  pub check_most : s.check_number ≤ 65535
-  pub depth_least : 1 ≤ s.depth
-  pub depth_most : s.depth ≤ 31
-  pub saved_most : s.saved ≤ 2048
-  pub limit_least : 1 ≤ s.limit
-  pub limit_most : s.limit ≤ 99999
+use Rattle.definition.specs.CheckLaws.{All}
+use Rattle.definition.proofs.CheckLaws.{and_left, and_right, all_front, all_back}
+use Rattle.definition.specs.LoadLaws.{InRange, LoadRows}
 
 pub settings_fit_law : (s : Settings) → settings_fit s ≡ true → InRange s
 unfolding settings_fit
@@ -48,13 +40,6 @@ in_range_fits s h =
       le-leb 1 s.limit h.limit_least,
       le-leb s.limit 99999 h.limit_most,
     )
-
--- the conditions of a load of a file hold, row by row; `least` is the least number of cells
-pub record LoadRows (least check : ℕ) (file : List ℕ) (n lent store entities : ℕ) : Type 0 where
-  pub header : All (header_conditions check file)
-  pub records : All (record_conditions (file_of file).strings.count (contents_of file))
-  pub cells : All (cell_conditions least (file_of file) lent store)
-  pub fields : All (entity_conditions (file_of file) n entities)
 
 pub load_rows_law : (least check : ℕ) (file : List ℕ) (n lent store entities : ℕ) → All (file_conditions least check file n lent store entities)
     → LoadRows least check file n lent store entities

@@ -1,14 +1,12 @@
 -- Laws of lists and of copying that the proof of demand 3 rests on. Nothing here speaks of a program.
-use Rattle.std.specs.Prelude.{ℕ, zero, suc, ◌+◌, ◌-◌, ◌≤◌, ◌<◌, ◌≡◌, refl, ◌⊎◌, List, [], ◌∷◌, ◌++◌, Bool, true, false, ◌&&◌, ◌||◌, length, take, drop, get_or, set, leb, ltb, eqb}
-use Rattle.std.proofs.Common.{sym, ◌∙◌, ap, inl, inr, ⊎_elim, append_assoc, arith, eqb-true, leb-true, ltb-true, length-set, length-drop, length-take, take-append-drop, take_at, drop_at, length-take-le, drop-set-lt, drop-drop}
+use Rattle.std.specs.Prelude.{ℕ, ◌+◌, ◌-◌, ◌≤◌, ◌<◌, ◌≡◌, refl, List, [], ◌∷◌, ◌++◌, true, ◌&&◌, length, take, drop, get_or, set, leb, ltb, eqb}
+use Rattle.std.proofs.Common.{sym, ◌∙◌, ap, inl, inr, ⊎_elim, append_assoc, arith, eqb-true, leb-true, ltb-true, length-set, length-drop, take-append-drop, take_at, drop_at, length-take-le, drop-set-lt, drop-drop}
 use Rattle.std.proofs.Math.Seq.{paste, paste-zero}
 use Rattle.std.proofs.lemmas.List.Edits.{length-paste, drop-paste}
 use Rattle.std.proofs.lemmas.List.{take-append-le, drop-append-le}
 use Rattle.definition.specs.Machine.{present, Copy, copied, copies_present}
 use Rattle.definition.proofs.CheckLaws.{or_cases, and_left, and_right}
-
-abbrev pub part : List ℕ → ℕ → ℕ → List ℕ
-part xs a n = take n (drop a xs)
+use Rattle.definition.specs.Parts.{part, Present}
 
 -- what is in the front is not changed by what stands behind
 pub part_front : (xs ys : List ℕ) (a n : ℕ) → a + n ≤ length xs → part (xs ++ ys) a n ≡ part xs a n
@@ -33,9 +31,6 @@ part_pasted d at s n hd hs =
     ∙ take_at (take n s) (drop (at + n) d) n (length-take-le n s hs)
 
 -- ---- ranges that are present: there are none, or they lie below the count
-
-unfoldable pub Present : ℕ → ℕ → ℕ → Type 0
-Present a n count = (n ≡ 0) ⊎ (a + n ≤ count)
 
 pub present_true : (a n count : ℕ) → present a n count ≡ true → Present a n count
 unfolding present Present

@@ -1,5 +1,5 @@
 -- Laws of a file's records.
-use Rattle.std.specs.Prelude.{ℕ, zero, suc, ◌+◌, ◌*◌, ◌<◌, ◌≡◌, refl, List, [], ◌∷◌, length, get_or}
+use Rattle.std.specs.Prelude.{ℕ, zero, suc, ◌+◌, ◌*◌, ◌<◌, ◌≡◌, refl, List, length, get_or}
 use Rattle.std.proofs.Common.{ap, ◌∙◌, arith}
 use native.Mathlib.Nat.{not-suc-le-zero, le_of_suc-le-suc}
 use Rattle.definition.specs.File.{records, contents_at, contents_of, file_of, u32_at}

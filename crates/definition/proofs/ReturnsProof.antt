@@ -1,27 +1,26 @@
 -- DEMAND 3, proved, by an inductive invariant, `StackMatches`: the depths match the log, and each note's frame and saved cells are in their places.
-use Rattle.std.specs.Prelude.{ℕ, zero, suc, ◌+◌, ◌-◌, ◌≤◌, ◌<◌, ◌≡◌, List, [], ◌∷◌, ◌++◌, Bool, true, false, not, ◌&&◌, ℤ, pos, ◌+ℤ◌, length, take, drop, get_or, set, leb, ltb}
+use Rattle.std.specs.Prelude.{ℕ, ◌+◌, ◌-◌, ◌≤◌, ◌<◌, ◌≡◌, List, [], ◌∷◌, not, ℤ, length, drop, get_or, leb}
 use Rattle.std.proofs.Math.Path.{refl, ap}
-use Rattle.std.proofs.Common.{sym, ◌∙◌, subst, ltb-true, leb-true, length-append, get_or-set_same}
+use Rattle.std.proofs.Common.{◌∙◌, subst, ltb-true, leb-true, length-append, get_or-set_same}
 use native.Mathlib.Omega.{arith}
 use Rattle.std.proofs.Math.ListN.{length-set, length-drop}
 use Rattle.std.proofs.lemmas.List.{length-replicate}
-use Rattle.std.proofs.Math.Seq.{paste, length-paste, get_or-set_other}
+use Rattle.std.proofs.Math.Seq.{length-paste, get_or-set_other}
 use Rattle.definition.specs.declared.FunctionDef.{FunctionDef}
 use Rattle.definition.specs.declared.StackFrame.{StackFrame}
 use Rattle.definition.specs.declared.Settings.{Settings}
-use Rattle.definition.specs.Checks.{Condition, Conditions, Checked, accepted, guard}
 use Rattle.definition.specs.File.{least_cells, saved_store, greatest_depth, negative, contents_of, file_of}
-use Rattle.definition.specs.Machine.{Program, function_of, Config, count_of, zero_frame, present, copied, successive, arguments_of, with_cells, with_entities, advanced}
-use Rattle.definition.specs.Machine.{entry_conditions, entered, leave_conditions, left, return_conditions, returned}
+use Rattle.definition.specs.Machine.{Config, count_of, zero_frame, copied, successive, arguments_of, with_cells, with_entities, advanced}
+use Rattle.definition.specs.Machine.{entry_conditions, entered, leave_conditions, left}
 use Rattle.definition.specs.Load.{cell_conditions, entities_given, loaded, load, program_with, program_of}
-use Rattle.definition.specs.Calls.{Call}
 use Rattle.definition.specs.Log.{Note, Log, function_in, local_cells, Kind, entry, leaving, other}
-use Rattle.definition.specs.Trace.{log_after}
-use Rattle.definition.specs.Returns.{locals_noted, DepthsMatch, Restored, LeavingRestores, StepCorrect, Demand3}
-use Rattle.definition.proofs.CheckLaws.{All, and_right, WhenAccepted, guarded}
-use Rattle.definition.proofs.Parts.{part, part_below, part_pasted, Present, present_true, present_more, present_source, length_pasted, part_restored, length_copied}
-use Rattle.definition.proofs.StatementLaws.{Keeps}
-use Rattle.definition.proofs.Invariant.{Preserves, Inductive, always}
+use Rattle.definition.specs.Returns.{locals_noted, DepthsMatch, Restored, StepCorrect, Demand3}
+use Rattle.definition.specs.CheckLaws.{All, WhenAccepted}
+use Rattle.definition.proofs.CheckLaws.{and_right, guarded}
+use Rattle.definition.specs.Parts.{part, Present}
+use Rattle.definition.proofs.Parts.{part_below, part_pasted, present_true, present_more, present_source, length_pasted, part_restored, length_copied}
+use Rattle.definition.specs.Invariant.{Preserves, Inductive}
+use Rattle.definition.proofs.Invariant.{always}
 use Rattle.definition.proofs.RecordLaws.{length_globals}
 use Rattle.definition.proofs.LoadLaws.{settings_fit_law, load_rows_law}
 

@@ -1,28 +1,28 @@
 -- What a statement does, by the file: a function is entered exactly at a Call opcode of one that is no builtin, left exactly at Return or Done, and any
 -- other statement that completes changes only cells below the file's count, or entity cells below their number times the cells per entity. The table of opcodes is gone through once, by a computed test.
 use Prim.Native.Nat.{ℕ, zero, suc, ◌+◌, ◌*◌, ◌/◌, ◌%◌, ◌≤◌, ◌<◌}
-use Rattle.std.specs.Prelude.{◌≡◌, List, [], ◌∷◌, ◌++◌, Bool, true, false, not, ◌&&◌, ◌||◌, cond, ℤ, pos, ◌+ℤ◌, length, get_or, set, drop, T, leb, ltb, eqb}
+use Rattle.std.specs.Prelude.{◌≡◌, List, [], ◌∷◌, ◌++◌, Bool, true, false, not, ◌&&◌, ◌||◌, cond, ℤ, pos, ◌+ℤ◌, length, get_or, set, ltb, eqb}
 use Rattle.std.proofs.Math.Path.{refl}
-use Rattle.std.proofs.Common.{sym, ◌∙◌, ap, subst, arith, add-zero, zero-add, add-suc, suc-add, le_of_suc-le-suc, not-suc-le-zero, mul-le-mul_right, suc-mul, div-add-mod', ltb-true, length-set, drop-set-lt}
+use Rattle.std.proofs.Common.{sym, ◌∙◌, subst, arith, add-zero, zero-add, add-suc, suc-add, le_of_suc-le-suc, not-suc-le-zero, mul-le-mul_right, suc-mul, div-add-mod', ltb-true, length-set, drop-set-lt}
 use Rattle.std.specs.Bool.{beq}
 use Rattle.std.proofs.Math.Option.{Option, none, some}
 use Rattle.definition.specs.declared.Statement.{Statement}
 use Rattle.definition.specs.declared.FunctionDef.{FunctionDef}
-use Rattle.definition.specs.declared.Handover.TheVariants.{Builtin, Opcode}
-use Rattle.definition.specs.Checks.{Condition, Conditions, ◌otherwise◌, judge}
-use Rattle.definition.specs.File.{opcode_count, greatest_pointer, Contents, contents_of, file_of, no_function, negative, between, is_builtin, builtin_of, builtin_known}
-use Rattle.definition.specs.Floats.{flag, not_v, is_zero, rounding_of}
-use Rattle.definition.specs.Cells.{float, vector, string, entity, field, function, pointer, cell_of, signed, Typing, typing_of, fields_of, type_is, addressed, cell_access, vector_access, access, must_be_natural, read_access, field_cell_access, field_access}
-use Rattle.definition.specs.Statements.{Entities, Does, next, puts, calls, returns, refuses, hands_over, or_refused, provided, moved}
+use Rattle.definition.specs.Checks.{Conditions, ◌otherwise◌, judge}
+use Rattle.definition.specs.File.{opcode_count, contents_of, no_function, negative, between, is_builtin, builtin_of}
+use Rattle.definition.specs.Floats.{rounding_of}
+use Rattle.definition.specs.Cells.{float, vector, entity, field, pointer, cell_of, Typing, cell_access, vector_access, access, must_be_natural, read_access, field_cell_access, field_access}
+use Rattle.definition.specs.Statements.{Entities, Does, calls, or_refused, provided}
 use Rattle.definition.specs.Strings.{text_access}
 use Rattle.definition.specs.Statements.{Shape, floats, values, vectors, vectors_to_float, strings, negates, negates_v, negates_s, stores, stores_v, loads, addresses, stores_p, branches, jumps, call, return, host, opcodes, shape_of}
 use Rattle.definition.specs.Statements.{floats_effect, values_effect, vector_result, vectors_effect, vectors_to_float_effect, operand_given, string_access, strings_effect, unused, negates_effect, negates_v_effect, negates_s_effect}
 use Rattle.definition.specs.Statements.{stored_natural, stores_effect, reserved_cell, move_access, stores_v_effect, branches_do, rounding_effect, builtin_does, call_of, call_does, statement_at, fetch_conditions, Tables, tables_of, execute_as, execute, does_at}
-use Rattle.definition.specs.Statements.{value_moved, loads_effect, addresses_effect, points_at_field, stores_p_effect, put_does}
-use Rattle.definition.specs.Machine.{Program}
+use Rattle.definition.specs.Statements.{value_moved, loads_effect, addresses_effect, points_at_field, stores_p_effect}
 use Rattle.definition.specs.Load.{program_with, program_of}
-use Rattle.definition.specs.Log.{function_in, Kind, entry, leaving, other, statement_kind}
-use Rattle.definition.proofs.CheckLaws.{All, judge_passed, all_front, all_back, and_left, and_right}
+use Rattle.definition.specs.Log.{Kind, entry, leaving, other, statement_kind}
+use Rattle.definition.specs.CheckLaws.{All}
+use Rattle.definition.proofs.CheckLaws.{judge_passed, all_front, all_back, and_left, and_right}
+use Rattle.definition.specs.StatementLaws.{every, Keeps, last_of, Before, HasKind, before_in}
 
 -- ---- the table of opcodes
 
@@ -59,11 +59,6 @@ call_opcode op = between 51 59 op
 abbrev return_opcode : ℕ → Bool
 return_opcode op = eqb op 0 || eqb op 43
 
--- the test f passes at each entry of a list and its place, counted from i
-abbrev pub every : {A : Type 0} → (ℕ → A → Bool) → ℕ → List A → Bool
-every f i [] = true
-every f i (x ∷ xs) = f i x && every f (suc i) xs
-
 pub every_at : {A : Type 0} (f : ℕ → A → Bool) (d : A) (xs : List A) (i : ℕ) → every f i xs ≡ true → (k : ℕ) → k < length xs → f (i + k) (get_or xs k d) ≡ true
 every_at f d [] i e k h = absurd (not-suc-le-zero h)
 every_at f d (x ∷ xs) i e zero h = subst (λ (m : ℕ). f m x ≡ true) (sym (add-zero i)) (and_left (f i x) (every f (suc i) xs) e)
@@ -99,10 +94,6 @@ named op h =
     }
 
 -- ---- only cells below a count are changed
-
-pub record Keeps (count : ℕ) (cells cells' : List ℕ) : Type 0 where
-  pub same_length : length cells' ≡ length cells
-  pub same_above : drop count cells' ≡ drop count cells
 
 pub keeps_all : (count : ℕ) (cells : List ℕ) → Keeps count cells cells
 keeps_all count cells = record { same_length = refl; same_above = refl }
@@ -146,10 +137,6 @@ move_below g false a b h = ltb-true b g.count h.1.1.1.0
 field_below : (h : Typing) (t field : ℕ) → All (field_cell_access h t field) → field < h.count
 unfolding field_cell_access
 field_below h t field k = ltb-true field h.count k.1.0
-
--- the last cell of a value of a type from a cell on
-abbrev pub last_of : ℕ → ℕ → ℕ
-last_of t cell = cond (eqb t vector) (cell + 2) cell
 
 pub fields_below : (h : Typing) (t field : ℕ) → All (field_access h t field) → last_of t field < h.count
 unfolding field_access
@@ -205,23 +192,6 @@ pointed_last number size t at owner last = go (eqb t vector) last
         omega (arith, entity_cell number size (at / size) (at % size) owner h, pointer_cell at size)
 
 -- ---- the kind of a statement
-
--- what a statement does agrees with the kind that the log takes it for: from what is there before it (the file's count of cells, the number of entity
--- cells that the entities have, the position, the lent cells and entity cells)
-pub record Before : Type 0 where
-  pub count : ℕ
-  pub room : ℕ
-  pub position : ℤ
-  pub cells : List ℕ
-  pub entities : List ℕ
-
-abbrev pub HasKind : Before → Kind → Does → Type 0
-HasKind x κ (next p' cells') = (κ ≡ other) × Keeps x.count x.cells cells'
-HasKind x κ (puts p' entities') = (κ ≡ other) × Keeps x.room x.entities entities'
-HasKind x κ (calls f) = κ ≡ entry f (x.position +ℤ pos 1)
-HasKind x κ (returns a) = κ ≡ leaving
-HasKind x κ (refuses n) = Unit {0}
-HasKind x κ (hands_over h) = Unit {0}
 
 provided_has_kind : (x : Before) (κ : Kind) (cs : Conditions) (d : Does) → (All cs → HasKind x κ d) → HasKind x κ (provided cs d)
 provided_has_kind x κ cs d is = go (judge cs) refl
@@ -378,17 +348,6 @@ kind_of_law file p e cells s n =
         enters = λ b. rw (sym n.as_call ∙ c, b);
         enters_none = λ b. rw (sym n.as_call ∙ c, b, sym n.as_return ∙ r);
       };
-    }
-
--- before a statement of a file
-abbrev pub before_in : List ℕ → ℤ → Entities → List ℕ → Before
-before_in file p e cells =
-    record {
-      count = length (contents_of file).globals;
-      room = e.count * (contents_of file).entityfields;
-      position = p;
-      cells = cells;
-      entities = e.cells;
     }
 
 pub statement_has_kind : (file : List ℕ) (p : ℤ) (e : Entities) (cells : List ℕ)

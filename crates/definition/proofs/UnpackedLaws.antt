@@ -1,19 +1,19 @@
 -- R-12: the program whose statements come from a buffer that was unpacked from these bytes is the program of the bytes.
-use Prim.Native.Nat.{ℕ, zero, suc, ◌+◌, ◌*◌, ◌-◌, ◌≤◌}
-use Rattle.std.specs.Prelude.{◌≡◌, Bool, true, not, ◌&&◌, ℤ, length, get_or, leb}
+use Prim.Native.Nat.{ℕ, zero, suc, ◌+◌, ◌*◌, ◌≤◌}
+use Rattle.std.specs.Prelude.{◌≡◌, true, ℤ, length, get_or, leb}
 use Rattle.std.proofs.Math.Path.{refl, subst}
-use Rattle.std.proofs.Common.{sym, ◌∙◌, ap, add_assoc, add-zero, zero-add, arith, length-drop, get_or-drop}
+use Rattle.std.proofs.Common.{sym, ◌∙◌, ap, add_assoc, add-zero, zero-add, arith, get_or-drop}
 use mathlib.Core.List.{List, [], ◌∷◌, ◌++◌}
 use borrow.Author.Tests.{le-leb, leb-true}
 use Rattle.std.proofs.Math.ListN.{drop, length-append}
 use Rattle.definition.specs.declared.Statement.{Statement}
-use Rattle.definition.specs.Checks.{Checked, accepted}
-use Rattle.definition.specs.File.{records, read_unpacked, unpacked_size, unpacked_statements, numbers_of, file_of, contents_at, contents_of, negative}
-use Rattle.definition.specs.Machine.{Program, with_unpacked, function_of, Config}
+use Rattle.definition.specs.File.{records, read_unpacked, unpacked_size, unpacked_statements, numbers_of, file_of, contents_at, contents_of}
+use Rattle.definition.specs.Machine.{Program, with_unpacked, Config}
 use Rattle.definition.specs.Load.{program_with, program_of}
 use Rattle.definition.specs.Operations.{entered_functions, all_present, locals_of, sound, run}
 use Rattle.definition.specs.Unpacked.{unpack_conditions, buffer_after, unpack, Unpacked}
-use Rattle.definition.proofs.CheckLaws.{WhenAccepted, guarded}
+use Rattle.definition.specs.CheckLaws.{WhenAccepted}
+use Rattle.definition.proofs.CheckLaws.{guarded}
 use Rattle.definition.proofs.RecordLaws.{length_records}
 
 -- ---- what was unpacked is read back

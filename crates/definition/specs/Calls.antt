@@ -1,5 +1,5 @@
 -- A LIST OF CALLS after a load, as demand 3 speaks of it: what each call leaves, and the small steps that it completes on the way.
-use Rattle.std.specs.Prelude.{ℕ, zero, suc, ◌+◌, ◌-◌, List, [], ◌∷◌, Bool, true, false, ℤ, eqb}
+use Rattle.std.specs.Prelude.{ℕ, zero, suc, List, [], ◌∷◌, Bool, true, false, ℤ, eqb}
 use Rattle.definition.specs.Checks.{Checked, refused, accepted, judge}
 use Rattle.definition.specs.Machine.{Program, with_unpacked, Config, with_entities, left, Stepped, completed, refused_step, handed_step, step}
 use Rattle.definition.specs.Operations.{natural, host_enter, statement, run_conditions, run, carry_on, leavings_to, abandon_conditions, abandon, raw_write, write_all}

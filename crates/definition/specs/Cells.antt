@@ -1,7 +1,7 @@
 -- CELLS. Document 01, "Cells and statements", first paragraph, and the row "operands, raw access": type lookup and typed access.
-use Rattle.std.specs.Prelude.{ℕ, ◌+◌, ◌-◌, ◌%◌, List, [], ◌∷◌, ◌++◌, Bool, true, false, not, ◌&&◌, ◌||◌, cond, length, get_or, leb, ltb, eqb, ℤ, pos, negsuc}
+use Rattle.std.specs.Prelude.{ℕ, ◌+◌, ◌-◌, ◌%◌, List, [], ◌∷◌, ◌++◌, Bool, not, ◌&&◌, ◌||◌, cond, length, get_or, ltb, eqb, ℤ, pos, negsuc}
 use Rattle.definition.specs.declared.Definition.{Definition}
-use Rattle.definition.specs.Checks.{Condition, Conditions, ◌otherwise◌}
+use Rattle.definition.specs.Checks.{Conditions, ◌otherwise◌}
 use Rattle.definition.specs.File.{Contents, negative, save_flag}
 
 -- ---- types: "0 void, 1 string, 2 float, 3 vector, 4 entity, 5 field, 6 function, 7 pointer"

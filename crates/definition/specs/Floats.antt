@@ -1,6 +1,6 @@
 -- FLOATS. Document 01: "Floats are IEEE 754 single, rounded once per operation; a NaN made by arithmetic is stored as 7fc00000. Comparisons give 1.0
 -- or 0.0." A cell holds the bits of a float; the arithmetic is the library's `lib.Ieee`, whose `to_bits` writes a NaN as 7fc00000.
-use Rattle.std.specs.Prelude.{ℕ, ◌+◌, ◌*◌, ◌/◌, ◌%◌, Bool, true, false, not, ◌&&◌, ◌||◌, cond, leb, ltb, eqb, ℤ, Float}
+use Rattle.std.specs.Prelude.{ℕ, ◌+◌, ◌*◌, ◌/◌, ◌%◌, Bool, false, not, ◌&&◌, ◌||◌, cond, leb, ltb, eqb, ℤ, Float}
 use Rattle.std.proofs.Math.Option.{Option, none, some}
 use Rattle.std.specs.Float.Ieee as Ieee
 use Rattle.std.specs.Float.{nan, inf, fin, binary32}

@@ -18,3 +18,8 @@ pub mod Unpacked
 pub mod Log
 pub mod Trace
 pub mod Returns
+pub mod CheckLaws
+pub mod Parts
+pub mod StatementLaws
+pub mod Invariant
+pub mod LoadLaws

@@ -1,7 +1,6 @@
 -- THE LOG that goes beside the definition: what it notes, and what it takes a small step for. It "reads neither frames nor saved store".
-use Rattle.std.specs.Prelude.{ℕ, List, [], ◌∷◌, Bool, true, false, not, ◌&&◌, ◌||◌, cond, ℤ, pos, ◌+ℤ◌, get_or, take, drop, eqb}
+use Rattle.std.specs.Prelude.{ℕ, List, [], ◌∷◌, not, ◌&&◌, ◌||◌, cond, ℤ, pos, ◌+ℤ◌, get_or, take, drop, eqb}
 use Rattle.definition.specs.declared.FunctionDef.{FunctionDef}
-use Rattle.definition.specs.declared.Statement.{Statement}
 use Rattle.definition.specs.File.{contents_of, no_function, negative, between}
 use Rattle.definition.specs.Cells.{cell_of}
 use Rattle.definition.specs.Statements.{statement_at}

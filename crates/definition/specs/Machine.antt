@@ -1,6 +1,6 @@
 -- THE MACHINE. Document 01, "Calls", progs/mod.rs and pr_exec.c: the state, entry, leaving, Return, one statement, a run. What a program's bytes say
 -- is behind a `Program`.
-use Rattle.std.specs.Prelude.{ℕ, zero, suc, ◌+◌, ◌*◌, ◌-◌, List, [], ◌∷◌, ◌++◌, Bool, true, false, not, ◌&&◌, ◌||◌, ℤ, pos, negsuc, ◌+ℤ◌, length, get_or, set, drop, replicate, leb, ltb, eqb}
+use Rattle.std.specs.Prelude.{ℕ, zero, suc, ◌+◌, ◌*◌, ◌-◌, List, [], ◌∷◌, ◌++◌, Bool, true, false, not, ◌&&◌, ◌||◌, ℤ, pos, ◌+ℤ◌, length, get_or, set, drop, replicate, leb, ltb, eqb}
 use Rattle.std.proofs.Math.Seq.{paste}
 use Rattle.definition.specs.declared.FileRecord.{FileRecord}
 use Rattle.definition.specs.declared.Settings.{Settings}
@@ -9,7 +9,7 @@ use Rattle.definition.specs.declared.StackFrame.{StackFrame}
 use Rattle.definition.specs.declared.Handover.{Handover}
 use Rattle.definition.specs.declared.RunAnswer.{RunAnswer}
 use Rattle.definition.specs.declared.RunAnswer.TheVariants.{Ended, Spent, Refused, HandedOver}
-use Rattle.definition.specs.Checks.{Condition, Conditions, ◌otherwise◌, Checked, refused, accepted, guard}
+use Rattle.definition.specs.Checks.{Conditions, ◌otherwise◌, Checked, refused, accepted, guard}
 use Rattle.definition.specs.File.{most_entities, greatest_depth, most_arguments, negative, no_function, is_builtin}
 use Rattle.definition.specs.Statements.{Entities, Does, next, puts, calls, returns, refuses, hands_over}
 

@@ -3,8 +3,8 @@
 use Rattle.std.specs.Prelude.{ℕ, zero, suc, ◌+◌, ◌-◌, ◌*◌, ◌%◌, List, [], ◌∷◌, ◌++◌, Bool, true, false, not, ◌&&◌, ℤ, pos, negsuc, ◌+ℤ◌, length, get_or, set, leb, ltb, eqb}
 use Rattle.definition.specs.declared.StackFrame.{StackFrame}
 use Rattle.definition.specs.declared.RunAnswer.TheVariants.{Refused}
-use Rattle.definition.specs.Checks.{Condition, Conditions, ◌otherwise◌, judge, Checked, refused, accepted, guard}
-use Rattle.definition.specs.File.{saved_store, most_entities, negative, between, settings_fit}
+use Rattle.definition.specs.Checks.{Conditions, ◌otherwise◌, judge, Checked, guard}
+use Rattle.definition.specs.File.{saved_store, negative, between, settings_fit}
 use Rattle.definition.specs.Statements.{Does, next, puts, calls, returns, refuses, hands_over, place_of}
 use Rattle.definition.specs.Machine.{Program, function_of, State, Config, entities_of, count_of, entities_fit, zero_frame, with_cells, advanced}
 use Rattle.definition.specs.Machine.{entry_conditions, entered, leave_conditions, left, Stepped, refused_step, step, Ran, run_for}

@@ -8,7 +8,7 @@ use Rattle.definition.specs.Load.{load}
 use Rattle.definition.specs.Calls.{Call}
 use Rattle.definition.specs.Unpacked.{AllReady}
 use Rattle.definition.specs.Log.{Note, Log, function_in, local_cells, Kind, entry, leaving, other}
-use Rattle.definition.specs.Trace.{StepProperty, StateProperty, log_after, Always}
+use Rattle.definition.specs.Trace.{StepProperty, log_after, Always}
 
 -- the sum of the local counts of the functions that have a note
 unfoldable pub locals_noted : List ℕ → Log → ℕ

@@ -1,6 +1,6 @@
 -- THE STARRED SITUATIONS of document 01, as rows of one table that is computed from the definition, with some of its other sentences. Each row starts
 -- from the bytes of a file, and goes on by the operations that a host calls, with check 13 in each.
-use Rattle.std.specs.Prelude.{ℕ, zero, suc, ◌+◌, ◌-◌, ◌*◌, ◌/◌, ◌%◌, List, [], ◌∷◌, ◌++◌, Bool, true, false, ◌&&◌, ℤ, pos, negsuc, length, get_or, set, take, drop, replicate, T, eqb}
+use Rattle.std.specs.Prelude.{ℕ, zero, suc, ◌+◌, ◌-◌, ◌*◌, ◌/◌, ◌%◌, List, [], ◌∷◌, ◌++◌, Bool, true, false, ◌&&◌, ℤ, pos, negsuc, length, get_or, set, take, drop, replicate, eqb}
 use Prim.Native.String.{String}
 use Rattle.std.specs.Float.Ieee as Ieee
 use Rattle.definition.specs.declared.Statement.{Statement}

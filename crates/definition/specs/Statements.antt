@@ -6,7 +6,7 @@ use Rattle.definition.specs.declared.Statement.{Statement}
 use Rattle.definition.specs.declared.FunctionDef.{FunctionDef}
 use Rattle.definition.specs.declared.Handover.{Handover}
 use Rattle.definition.specs.declared.Handover.TheVariants.{Builtin, Opcode}
-use Rattle.definition.specs.Checks.{Condition, Conditions, ◌otherwise◌, judge}
+use Rattle.definition.specs.Checks.{Conditions, ◌otherwise◌, judge}
 use Rattle.definition.specs.File.{opcode_count, greatest_pointer, negative, Contents, no_function, is_builtin, builtin_of, builtin_known}
 use Rattle.definition.specs.Floats.{add_f, sub_f, mul_f, div_f, eq_f, ne_f, le_f, ge_f, lt_f, gt_f, and_f, or_f, not_f, bit_and_f, bit_or_f, is_zero, flag}
 use Rattle.definition.specs.Floats.{mul_v, eq_v, ne_v, not_v, eq_n, ne_n, not_n, rounding_of}

@@ -1,6 +1,6 @@
 -- STRINGS. Document 02, R-4: the text of a string number, and when two texts are the same.
 use Rattle.std.specs.Prelude.{ℕ, List, [], ◌∷◌, ◌++◌, Bool, true, false, ◌&&◌, cond, length, get_or, drop, ltb, eqb}
-use Rattle.definition.specs.Checks.{Condition, Conditions, ◌otherwise◌}
+use Rattle.definition.specs.Checks.{Conditions, ◌otherwise◌}
 use Rattle.definition.specs.Cells.{string, Typing, access}
 
 -- "bytes up to a zero byte or the end of the strings"

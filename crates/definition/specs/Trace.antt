@@ -2,7 +2,7 @@
 -- property of every small step, and one of every state between the calls.
 use Rattle.std.specs.Prelude.{ℕ, ◌≡◌, List, [], ◌∷◌, length}
 use Rattle.definition.specs.Checks.{accepted}
-use Rattle.definition.specs.Machine.{Program, with_unpacked, Config, with_entities, leave, completed, step}
+use Rattle.definition.specs.Machine.{with_unpacked, Config, with_entities, leave, completed, step}
 use Rattle.definition.specs.Load.{program_of}
 use Rattle.definition.specs.Operations.{host_enter, run, carry_on, raw_write, write_all}
 use Rattle.definition.specs.Calls.{Call, enters, steps, runs, runs_unpacked, carries, abandons, reads, writes, writes_all, lends, after, small_steps}

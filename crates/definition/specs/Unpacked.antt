@@ -1,7 +1,6 @@
 -- UNPACKING STATEMENTS, document 02's R-12: once, into a lent buffer, from which the second engine runs (`with_unpacked`, and `run` on that program).
 use Rattle.std.specs.Prelude.{ℕ, ◌*◌, ◌≡◌, List, [], ◌∷◌, ◌++◌, drop}
-use Rattle.definition.specs.declared.Statement.{Statement}
-use Rattle.definition.specs.Checks.{Condition, Conditions, ◌otherwise◌, Checked, accepted, guard}
+use Rattle.definition.specs.Checks.{Conditions, ◌otherwise◌, Checked, accepted, guard}
 use Rattle.definition.specs.File.{file_of, contents_of, unpacked_size, numbers_of}
 use Rattle.definition.specs.Machine.{Program, with_unpacked, Config}
 use Rattle.definition.specs.Load.{program_of}

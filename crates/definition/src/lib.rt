@@ -1,11 +1,11 @@
 // The plain data that the definition, the code and the answers share. Nothing is computed here: what the machine does is in specs/.
 // A number of the file is kept as its unsigned bits; a signed one is negative where its top bit is set.
 
+#![tactic(auto)]
+
 // ---- the numbers of document 01, of which the definition has the same, in specs/File.antt (`longest_file` and so on)
 
 // "Version 6; check number 5927"
-#![tactic(auto)]
-
 pub const VERSION: u32 = 6;
 
 pub const CHECK_NUMBER: u32 = 5927;

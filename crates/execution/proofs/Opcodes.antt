@@ -10,7 +10,8 @@ use native.Mathlib.Omega.{arith}
 use borrow.Author.Tests.{eq-eqb, ne_eqb, le-leb, lt-leb, lt-ltb}
 use native.Mathlib.Nat.{zero-add}
 use Rattle.definition.specs.Statements.{Shape, floats, values, vectors, vectors_to_float, strings, negates, negates_v, negates_s, stores, stores_v, loads, addresses, stores_p, branches, jumps, call, return, host, opcodes, shape_of}
-use Rattle.definition.proofs.StatementLaws.{every, every_at}
+use Rattle.definition.specs.StatementLaws.{every}
+use Rattle.definition.proofs.StatementLaws.{every_at}
 use Rattle.floats.specs.Opcodes.{floats_of, float_op}
 use Rattle.floats.proofs.Opcodes.{among, Missed, missed}
 use Rattle.execution.specs.declared.shapes.Shape as code

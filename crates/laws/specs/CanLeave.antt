@@ -18,10 +18,12 @@ use Rattle.definition.specs.Calls.{Call}
 use Rattle.definition.specs.Unpacked.{AllReady}
 use Rattle.definition.specs.Log.{Log, Kind, entry, leaving, other}
 use Rattle.definition.specs.Trace.{StepProperty, Always}
-use Rattle.definition.proofs.CheckLaws.{All, all_both, WhenAccepted, guarded, guard_accepts}
+use Rattle.definition.specs.CheckLaws.{All, WhenAccepted}
+use Rattle.definition.proofs.CheckLaws.{all_both, guarded, guard_accepts}
 use Rattle.definition.proofs.Parts.{length_copied}
-use Rattle.definition.proofs.StatementLaws.{Keeps}
-use Rattle.definition.proofs.Invariant.{Preserves, Inductive, always, room_in}
+use Rattle.definition.specs.StatementLaws.{Keeps}
+use Rattle.definition.specs.Invariant.{Preserves, Inductive, room_in}
+use Rattle.definition.proofs.Invariant.{always}
 use Rattle.laws.specs.Entities.{Suffice, LendEnough, while_enough}
 use Rattle.laws.specs.Sound.{StackConsistent, depth_bound, Consistent, consistent_sound, entered_more, entered_less, suffice, advanced_consistent, entered_consistent, left_consistent, returned_consistent, loaded_consistent, load_suffices, AnyStep}
 

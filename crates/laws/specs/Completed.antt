@@ -12,7 +12,8 @@ use Rattle.definition.specs.Operations.{natural, host_enter, statement, run_cond
 use Rattle.definition.specs.Answers.{statement_outcome}
 use Rattle.definition.specs.Calls.{Call, enters, steps, runs, runs_unpacked, carries, abandons, reads, writes, writes_all, lends, after}
 use Rattle.definition.specs.Log.{Kind, entry, leaving, other, statement_kind}
-use Rattle.definition.proofs.StatementLaws.{HasKind, before_in, statement_has_kind}
+use Rattle.definition.specs.StatementLaws.{HasKind, before_in}
+use Rattle.definition.proofs.StatementLaws.{statement_has_kind}
 
 -- c' is the result of a completed statement of that kind from c
 abbrev pub ResultOf : List ℕ → Config → Config → Kind → Type 0

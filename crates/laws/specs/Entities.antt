@@ -34,9 +34,12 @@ use Rattle.definition.specs.Log.{Log, Kind, entry, leaving, other, statement_kin
 use Rattle.definition.specs.Trace.{StepProperty, StateProperty, log_after_steps, Always}
 use Rattle.definition.specs.Returns.{DepthsMatch, StepCorrect, Demand3}
 use Rattle.definition.proofs.ReturnsProof.{demand3}
-use Rattle.definition.proofs.CheckLaws.{All, judge_passed, judge_all, all_front, all_back, and_left, and_right, WhenAccepted, guarded, accepted_all}
-use Rattle.definition.proofs.StatementLaws.{every, every_at, last_of, fields_below, pointer_cell, Keeps, keeps_all, HasKind, before_in, statement_has_kind}
-use Rattle.definition.proofs.Invariant.{room_in, Inductive, always}
+use Rattle.definition.specs.CheckLaws.{All, WhenAccepted}
+use Rattle.definition.proofs.CheckLaws.{judge_passed, judge_all, all_front, all_back, and_left, and_right, guarded, accepted_all}
+use Rattle.definition.specs.StatementLaws.{every, last_of, Keeps, HasKind, before_in}
+use Rattle.definition.proofs.StatementLaws.{every_at, fields_below, pointer_cell, keeps_all, statement_has_kind}
+use Rattle.definition.specs.Invariant.{room_in, Inductive}
+use Rattle.definition.proofs.Invariant.{always}
 
 -- ---- what a call leaves of the entity cells
 

@@ -10,7 +10,8 @@ use Rattle.definition.specs.Statements.{Does, next, puts, calls, returns, refuse
 use Rattle.definition.specs.Machine.{Program, Config, entities_of, count_of, with_cells, advanced, entry_conditions, entered, leave_conditions, left, return_conditions, returned, as_step, step_as, completed, refused_step, handed_step, step, Ran, run_for}
 use Rattle.definition.specs.Load.{load_conditions, loaded, entities_given, load}
 use Rattle.definition.specs.Operations.{sound, natural, below, host_enter, statement, run_conditions, run_after, run, carry_on_conditions, carry_on, left_times, leavings_conditions, leavings_to, abandon_conditions, abandon, raw_conditions, raw_read, raw_write, pairs_written, write_all_conditions, write_all}
-use Rattle.definition.proofs.CheckLaws.{All, FailsFirst, all_front, all_back, judge_all, judge_first, guard_accepts, accepted_all, guard_refuses, refused_first, WhenAccepted, guarded}
+use Rattle.definition.specs.CheckLaws.{All, FailsFirst, WhenAccepted}
+use Rattle.definition.proofs.CheckLaws.{all_front, all_back, judge_all, judge_first, guard_accepts, accepted_all, guard_refuses, refused_first, guarded}
 
 -- x is accepted, with a, exactly where all of cs hold, and refused exactly with the number of the first that fails
 pub record Exactly {A : Type 0} (cs : Conditions) (a : A) (x : Checked A) : Type 0 where

@@ -16,8 +16,9 @@ use Rattle.definition.specs.Calls.{Call}
 use Rattle.definition.specs.Unpacked.{AllReady}
 use Rattle.definition.specs.Log.{Log, Kind, entry, leaving, other}
 use Rattle.definition.specs.Trace.{StepProperty, Always}
-use Rattle.definition.proofs.CheckLaws.{All}
-use Rattle.definition.proofs.Invariant.{Preserves, Inductive, always}
+use Rattle.definition.specs.CheckLaws.{All}
+use Rattle.definition.specs.Invariant.{Preserves, Inductive}
+use Rattle.definition.proofs.Invariant.{always}
 use Rattle.laws.specs.Starts.{load_starts, load_sizes}
 
 abbrev pub frame_at : Config → ℕ → StackFrame

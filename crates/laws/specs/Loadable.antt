@@ -10,8 +10,10 @@ use Rattle.definition.specs.File.{negative, version_of, check_number_of, file_of
 use Rattle.definition.specs.Cells.{type_of}
 use Rattle.definition.specs.Load.{function_conditions, statement_conditions, globaldef_conditions, fielddef_conditions, each, header_conditions, record_conditions, cell_conditions, entity_conditions, load_conditions, loaded, load}
 use Rattle.definition.specs.Machine.{entities_fit}
-use Rattle.definition.proofs.CheckLaws.{All, all_both, and_both, guard_accepts}
-use Rattle.definition.proofs.LoadLaws.{InRange, in_range_fits}
+use Rattle.definition.specs.CheckLaws.{All}
+use Rattle.definition.proofs.CheckLaws.{all_both, and_both, guard_accepts}
+use Rattle.definition.specs.LoadLaws.{InRange}
+use Rattle.definition.proofs.LoadLaws.{in_range_fits}
 
 -- of each record of a list
 abbrev pub Every : {A : Type 0} → (A → Type 0) → List A → Type 0

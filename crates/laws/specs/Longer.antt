@@ -15,7 +15,8 @@ use Rattle.definition.specs.Machine.{Stepped, completed, refused_step, handed_st
 use Rattle.definition.specs.Load.{program_of}
 use Rattle.definition.specs.Operations.{sound, natural, below, permitted, run_conditions, run_after, run}
 use Rattle.definition.specs.Calls.{runs, unless_ended, steps_as, run_steps, run_steps_after, small_steps}
-use Rattle.definition.proofs.CheckLaws.{All, judge_passed, judge_all, all_front, all_back, all_both, guarded}
+use Rattle.definition.specs.CheckLaws.{All}
+use Rattle.definition.proofs.CheckLaws.{judge_passed, judge_all, all_front, all_back, all_both, guarded}
 use Rattle.definition.proofs.PlaceLaws.{below_natural}
 use Rattle.laws.specs.Entities.{WhenCompleted, as_step_law}
 use Rattle.laws.specs.Runs.{Says, run_says, UnlessEnded, WhenShort, run_keeps}

@@ -17,7 +17,8 @@ use Rattle.definition.specs.Machine.{Stepped, completed, refused_step, handed_st
 use Rattle.definition.specs.Load.{program_with, program_of}
 use Rattle.definition.specs.Operations.{sound, natural, below, host_enter, step_if, statement, run_conditions, run_after, run, carry_on_conditions, carry_on, leavings_conditions, leavings_to, abandon_conditions, abandon}
 use Rattle.definition.specs.Operations.{raw_read, raw_write, pair_conditions, pairs_conditions, write_all}
-use Rattle.definition.proofs.CheckLaws.{All, judge_passed, judge_append}
+use Rattle.definition.specs.CheckLaws.{All}
+use Rattle.definition.proofs.CheckLaws.{judge_passed, judge_append}
 use Rattle.laws.specs.Runs.{Says, run_says, UnlessEnded, run_keeps, always_short}
 use Rattle.laws.specs.Sound.{suffice}
 use Rattle.laws.specs.StackLaws.{Stacked, left_stack, step_stack}

@@ -10,7 +10,8 @@ use Rattle.definition.specs.Machine.{Program, Config, count_of, with_cells}
 use Rattle.definition.specs.Operations.{sound, natural, below, raw_conditions, raw_write, pair_conditions, pairs_conditions, pairs_written, write_all_conditions, write_all}
 use Rattle.definition.specs.Answers.{kept}
 use Rattle.definition.specs.Calls.{writes, writes_all, after}
-use Rattle.definition.proofs.CheckLaws.{All, guard_accepts}
+use Rattle.definition.specs.CheckLaws.{All}
+use Rattle.definition.proofs.CheckLaws.{guard_accepts}
 use Rattle.definition.proofs.PlaceLaws.{below_natural}
 
 -- "For a single pair it equals the raw host write": of every address and every value of a cell

@@ -15,9 +15,11 @@ use Rattle.definition.specs.Statements.{Entities, Does, next, puts, calls, retur
 use Rattle.definition.specs.Machine.{Program, function_of, Config, entities_of, count_of, copied, successive, arguments_of, with_cells, advanced}
 use Rattle.definition.specs.Machine.{entry_conditions, entered, enter, leave_conditions, left, return_conditions, returned, step_as, step, run_for}
 use Rattle.definition.specs.Operations.{entered_functions, sound}
-use Rattle.definition.proofs.CheckLaws.{All, guarded}
+use Rattle.definition.specs.CheckLaws.{All}
+use Rattle.definition.proofs.CheckLaws.{guarded}
 use Rattle.definition.proofs.LoadLaws.{in_range_fits}
-use Rattle.definition.proofs.Parts.{Present, present_true, present_more, present_source, length_pasted, length_copied}
+use Rattle.definition.specs.Parts.{Present}
+use Rattle.definition.proofs.Parts.{present_true, present_more, present_source, length_pasted, length_copied}
 use Rattle.laws.specs.Entities.{WhenCompleted, as_step_law}
 use Rattle.laws.specs.Runs.{UnlessEnded, run_keeps, always_short}
 use Rattle.laws.specs.Sound.{StackConsistent, suffice}

@@ -19,7 +19,8 @@ use Rattle.definition.specs.Statements.{Entities, Does, or_refused, provided, un
 use Rattle.definition.specs.Statements.{Shape, loads, addresses, stores_p, opcodes, shape_of}
 use Rattle.definition.specs.Machine.{Program, Config, entities_of, advanced, completed, step_as, step}
 use Rattle.definition.specs.Load.{program_with, program_of}
-use Rattle.definition.proofs.CheckLaws.{All, judge_passed, judge_all, and_both, all_front, all_back, all_both}
+use Rattle.definition.specs.CheckLaws.{All}
+use Rattle.definition.proofs.CheckLaws.{judge_passed, judge_all, and_both, all_front, all_back, all_both}
 use Rattle.definition.proofs.StatementLaws.{fields_below, access_last, entity_cell}
 use Rattle.laws.specs.Entities.{width_of, Written, moved_written, width_inside, at}
 

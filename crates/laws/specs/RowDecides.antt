@@ -19,8 +19,10 @@ use Rattle.definition.specs.Calls.{Call}
 use Rattle.definition.specs.Unpacked.{buffer_after, unpack, AllReady}
 use Rattle.definition.proofs.UnpackedLaws.{sound_kept}
 use Rattle.definition.specs.Trace.{Always}
-use Rattle.definition.proofs.CheckLaws.{All, FailsFirst, judge_all, judge_first, WhenAccepted}
-use Rattle.definition.proofs.Invariant.{always, room_in}
+use Rattle.definition.specs.CheckLaws.{All, FailsFirst, WhenAccepted}
+use Rattle.definition.proofs.CheckLaws.{judge_all, judge_first}
+use Rattle.definition.specs.Invariant.{room_in}
+use Rattle.definition.proofs.Invariant.{always}
 use Rattle.laws.specs.Entities.{Suffice, LendEnough, while_enough}
 use Rattle.laws.specs.Sound.{Consistent, consistent_sound, consistent_inductive, loaded_consistent, load_suffices, AnyStep}
 use Rattle.laws.specs.Exactly.{Exactly, exactly}

@@ -14,7 +14,8 @@ use Rattle.definition.specs.Machine.{Stepped, completed, refused_step, handed_st
 use Rattle.definition.specs.Operations.{entered_at, entered_functions, locals_of, sound, natural, host_enter, step_if, statement, run_conditions, carry_on}
 use Rattle.definition.specs.Operations.{leavings_conditions, leavings_to, abandon_conditions, raw_write, write_all}
 use Rattle.definition.specs.Calls.{Call, enters, steps, runs, runs_unpacked, carries, abandons, reads, writes, writes_all, lends, if_accepted, if_completed, unless_ended, steps_as, run_steps, run_steps_after, steps_of_run, leavings, leavings_after, small_steps}
-use Rattle.definition.proofs.CheckLaws.{All, judge_passed, all_front, all_back, WhenAccepted, guarded}
+use Rattle.definition.specs.CheckLaws.{All, WhenAccepted}
+use Rattle.definition.proofs.CheckLaws.{judge_passed, all_front, all_back, guarded}
 use Rattle.laws.specs.Entities.{WhenCompleted}
 use Rattle.laws.specs.Sound.{entered_less, suffice}
 use Rattle.laws.specs.Passing.{sound_passing, passing_stack}

@@ -21,12 +21,15 @@ use Rattle.definition.specs.Calls.{Call}
 use Rattle.definition.specs.Unpacked.{AllReady}
 use Rattle.definition.specs.Log.{Log, Kind, entry, leaving, other}
 use Rattle.definition.specs.Trace.{StepProperty, StateProperty, Always}
-use Rattle.definition.proofs.CheckLaws.{All, and_left, and_right, and_both, WhenAccepted, guarded}
-use Rattle.definition.proofs.Parts.{Present, present_true, present_more, present_source, length_pasted, length_copied}
+use Rattle.definition.specs.CheckLaws.{All, WhenAccepted}
+use Rattle.definition.proofs.CheckLaws.{and_left, and_right, and_both, guarded}
+use Rattle.definition.specs.Parts.{Present}
+use Rattle.definition.proofs.Parts.{present_true, present_more, present_source, length_pasted, length_copied}
 use Rattle.definition.proofs.RecordLaws.{length_globals}
 use Rattle.definition.proofs.LoadLaws.{settings_fit_law, load_rows_law}
-use Rattle.definition.proofs.StatementLaws.{Keeps}
-use Rattle.definition.proofs.Invariant.{Preserves, Inductive, always, room_in}
+use Rattle.definition.specs.StatementLaws.{Keeps}
+use Rattle.definition.specs.Invariant.{Preserves, Inductive, room_in}
+use Rattle.definition.proofs.Invariant.{always}
 use Rattle.laws.specs.Starts.{load_starts}
 use Rattle.laws.specs.Entities.{Suffice, LendEnough, while_enough}
 

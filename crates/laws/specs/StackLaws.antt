@@ -12,7 +12,8 @@ use Rattle.definition.specs.Statements.{Does, next, puts, calls, returns, refuse
 use Rattle.definition.specs.Machine.{Program, function_of, State, Config, entities_of, zero_frame, copied, successive, with_cells, advanced}
 use Rattle.definition.specs.Machine.{entry_conditions, entered, enter, leave_conditions, left, return_conditions, returned, step_as, step}
 use Rattle.definition.specs.Operations.{entered_at, entered_functions, all_present, locals_of}
-use Rattle.definition.proofs.CheckLaws.{All, and_left, and_right, guarded}
+use Rattle.definition.specs.CheckLaws.{All}
+use Rattle.definition.proofs.CheckLaws.{and_left, and_right, guarded}
 use Rattle.laws.specs.Entities.{WhenCompleted, as_step_law}
 use Rattle.laws.specs.Sound.{StackConsistent, depth_bound, entered_more, entered_less}
 

@@ -8,9 +8,11 @@ use Rattle.definition.specs.Checks.{Condition, Conditions, judge, refused, accep
 use Rattle.definition.specs.File.{file_of, contents_of, length_fits, least_cells, cells_fit, settings_fit}
 use Rattle.definition.specs.Machine.{Config, entities_fit}
 use Rattle.definition.specs.Load.{header_conditions, record_conditions, cell_conditions, loaded, entities_given, load}
-use Rattle.definition.proofs.CheckLaws.{All, no_true, and_left, and_right, WhenAccepted, guarded}
+use Rattle.definition.specs.CheckLaws.{All, WhenAccepted}
+use Rattle.definition.proofs.CheckLaws.{no_true, and_left, and_right, guarded}
 use Rattle.definition.proofs.RecordLaws.{length_globals}
-use Rattle.definition.proofs.LoadLaws.{InRange, settings_fit_law, in_range_fits, load_rows_law}
+use Rattle.definition.specs.LoadLaws.{InRange}
+use Rattle.definition.proofs.LoadLaws.{settings_fit_law, in_range_fits, load_rows_law}
 
 -- "A load fills the lent cells from 0 and leaves those past the file's count. Position, function and depths start at 0. Frames start as zeros"; R-3: the
 -- entities' "number given at load and kept in the state", and the entity cells "are untouched, by a load too"; R-11: the "settings given at load and held in

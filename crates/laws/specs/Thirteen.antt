@@ -7,7 +7,8 @@ use Rattle.definition.specs.Load.{same_file, recorded_in}
 use Rattle.definition.specs.Machine.{Program, Config, entities_fit}
 use Rattle.definition.specs.Operations.{entered_functions, all_present, locals_of, sound}
 use Rattle.definition.proofs.CheckLaws.{and_left, and_right}
-use Rattle.definition.proofs.LoadLaws.{InRange, settings_fit_law, in_range_fits}
+use Rattle.definition.specs.LoadLaws.{InRange}
+use Rattle.definition.proofs.LoadLaws.{settings_fit_law, in_range_fits}
 
 pub record Thirteen (P : Program) (c : Config) : Type 0 where
   -- "file length, header lumps or cells per entity .. as the state records"; "lent cells" not "fewer than the file's"

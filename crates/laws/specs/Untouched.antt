@@ -20,12 +20,16 @@ use Rattle.definition.specs.Calls.{Call}
 use Rattle.definition.specs.Unpacked.{AllReady}
 use Rattle.definition.specs.Log.{Log, Kind, entry, leaving, other}
 use Rattle.definition.specs.Trace.{StepProperty, Always}
-use Rattle.definition.proofs.CheckLaws.{All, and_left, and_right, WhenAccepted, guarded}
-use Rattle.definition.proofs.Parts.{Present, present_true, present_more, present_source, paste_none, length_pasted, drop_pasted, length_copied, drop_copied}
+use Rattle.definition.specs.CheckLaws.{All, WhenAccepted}
+use Rattle.definition.proofs.CheckLaws.{and_left, and_right, guarded}
+use Rattle.definition.specs.Parts.{Present}
+use Rattle.definition.proofs.Parts.{present_true, present_more, present_source, paste_none, length_pasted, drop_pasted, length_copied, drop_copied}
 use Rattle.definition.proofs.RecordLaws.{length_globals}
 use Rattle.definition.proofs.LoadLaws.{load_rows_law}
-use Rattle.definition.proofs.StatementLaws.{Keeps, keeps_all}
-use Rattle.definition.proofs.Invariant.{Preserves, Inductive, always}
+use Rattle.definition.specs.StatementLaws.{Keeps}
+use Rattle.definition.proofs.StatementLaws.{keeps_all}
+use Rattle.definition.specs.Invariant.{Preserves, Inductive}
+use Rattle.definition.proofs.Invariant.{always}
 use Rattle.laws.specs.Sound.{StackConsistent, saved_bound, Consistent, advanced_consistent, entered_consistent, left_consistent, returned_consistent, loaded_consistent}
 
 -- the saved store after a small step: an entry writes the range that it saves, and nothing else writes

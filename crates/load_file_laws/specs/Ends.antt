@@ -16,8 +16,8 @@ use Rattle.definition.specs.Machine.{Program, Config, entities_of, present, copi
 use Rattle.definition.specs.Load.{program_with, program_of, loaded, load}
 use Rattle.definition.specs.Operations.{sound, host_enter, run_conditions, run}
 use Rattle.definition.specs.Written.{layout}
-use Rattle.definition.proofs.LoadLaws.{InRange}
-use Rattle.definition.proofs.CheckLaws.{All, WhenAccepted}
+use Rattle.definition.specs.LoadLaws.{InRange}
+use Rattle.definition.specs.CheckLaws.{All, WhenAccepted}
 use Rattle.laws.specs.Entities.{Suffice}
 use Rattle.laws.specs.Exactly.{entry_exactly, run_exactly, step_exactly}
 use Rattle.laws.specs.Runs.{run_ends, run_goes_on}

@@ -8,7 +8,7 @@ use Rattle.definition.specs.declared.Settings.{Settings}
 use Rattle.definition.specs.Checks.{accepted}
 use Rattle.definition.specs.File.{check_number, file_of, contents_of}
 use Rattle.definition.specs.Load.{loaded, load}
-use Rattle.definition.proofs.LoadLaws.{InRange}
+use Rattle.definition.specs.LoadLaws.{InRange}
 use Rattle.definition.specs.Written.{layout, written, image}
 use Rattle.laws.specs.Loadable.{Every, StatementIs, Loadable, loadable}
 use Rattle.writing_laws.specs.Written.{version_written, check_written, file_written, contents_written}

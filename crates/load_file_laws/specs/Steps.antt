@@ -9,7 +9,8 @@ use Rattle.definition.specs.Checks.{Conditions}
 use Rattle.definition.specs.File.{Contents}
 use Rattle.definition.specs.Cells.{float, lookup, passes, cell_of, Typing, cell_access, access, typing_of}
 use Rattle.definition.specs.Statements.{Entities, Does, next, returns, provided, shape_of, opcodes, floats_effect, no_statement, fetch_conditions, execute, does_at}
-use Rattle.definition.proofs.CheckLaws.{All, all_both, judge_all}
+use Rattle.definition.specs.CheckLaws.{All}
+use Rattle.definition.proofs.CheckLaws.{all_both, judge_all}
 use Rattle.laws.specs.Loadable.{Every}
 use Rattle.load_files.specs.Draws.{drawn}
 use Rattle.load_files.specs.LoadFile.{drawn_statement, return, statements_from}

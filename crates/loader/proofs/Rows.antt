@@ -11,7 +11,8 @@ use Rattle.definition.specs.Checks.{Conditions, ◌otherwise◌, judge}
 use Rattle.definition.specs.File.{file_of, contents_at, contents_of, lumps_fit}
 use Rattle.definition.specs.Machine.{entities_fit}
 use Rattle.definition.specs.Load.{header_conditions, record_conditions, cell_conditions, file_conditions}
-use Rattle.definition.proofs.CheckLaws.{All, and_left, judge_passed}
+use Rattle.definition.specs.CheckLaws.{All}
+use Rattle.definition.proofs.CheckLaws.{and_left, judge_passed}
 use Rattle.functions.specs.Laws.{AllFit, entity_size}
 use Rattle.functions.specs.Parts.{part_of}
 use Rattle.functions.specs.PartLaws.{part_functions, part_statements, part_globaldefs, part_fielddefs}

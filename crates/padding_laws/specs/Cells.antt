@@ -6,7 +6,8 @@ use Rattle.std.proofs.Common.{◌∙◌, inl, inr, arith, ltb-true, length-set, 
 use Rattle.std.proofs.Math.Seq.{take-nil, take-set-lt, paste, take-append-add, length_paste_head}
 use Rattle.definition.specs.Machine.{Copy, copied, copies_present}
 use Rattle.definition.proofs.CheckLaws.{and_left, and_right}
-use Rattle.definition.proofs.Parts.{part, Present, present_more, paste_none, length_pasted, drop_pasted}
+use Rattle.definition.specs.Parts.{part, Present}
+use Rattle.definition.proofs.Parts.{present_more, paste_none, length_pasted, drop_pasted}
 
 -- of two lists of cells, with n old cells: `cells'` has become of `before`
 pub record Agree (n : ℕ) (before cells cells' : List ℕ) : Type 0 where

@@ -5,12 +5,14 @@ use Rattle.std.proofs.Common.{ap, arith}
 use Rattle.std.proofs.Math.Bool.{true, false}
 use borrow.Author.Tests.{ltb-true, lt-ltb}
 use Rattle.definition.specs.Checks.{Conditions, ◌otherwise◌}
-use Rattle.definition.proofs.CheckLaws.{All, all_front, all_back, all_both}
+use Rattle.definition.specs.CheckLaws.{All}
+use Rattle.definition.proofs.CheckLaws.{all_front, all_back, all_both}
 use Rattle.definition.specs.File.{negative}
 use Rattle.definition.specs.Cells.{string, vector, Typing, cell_access, vector_access, access, read_access}
 use Rattle.definition.specs.Strings.{text_of, same_text, text_access}
 use Rattle.definition.specs.Statements.{component, move_access}
-use Rattle.definition.proofs.StatementLaws.{last_of, access_last}
+use Rattle.definition.specs.StatementLaws.{last_of}
+use Rattle.definition.proofs.StatementLaws.{access_last}
 use Rattle.padding_laws.specs.Cells.{Agree, same_at}
 
 -- where the conditions cs hold, so do cs', and F

@@ -15,7 +15,7 @@ use Rattle.definition.specs.Statements.{Does, next, puts, calls, returns, refuse
 use Rattle.definition.specs.Statements.{floats_effect, values_effect, component, vector_result, vectors_effect, vectors_to_float_effect, operand_given, strings_effect, unused, negates_effect, negates_v_effect, negates_s_effect}
 use Rattle.definition.specs.Statements.{moved, stored_natural, stores_effect, reserved_cell, stores_v_effect, value_moved}
 use Rattle.definition.specs.Statements.{branches_do}
-use Rattle.definition.proofs.StatementLaws.{last_of}
+use Rattle.definition.specs.StatementLaws.{last_of}
 use Rattle.padding_laws.specs.Cells.{Agree, same_at, agree_set}
 use Rattle.padding_laws.specs.Conditions.{Still, ◌and◌, unchanged, widened, first_below, component_below, typed, moves, reads, text, texts}
 

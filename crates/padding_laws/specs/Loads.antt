@@ -9,7 +9,8 @@ use Rattle.std.proofs.Math.ListN.{drop, replicate, length-append}
 use Rattle.std.proofs.Math.Seq.{take_at}
 use Rattle.definition.specs.declared.Settings.{Settings}
 use Rattle.definition.specs.Checks.{Conditions, ◌otherwise◌, accepted}
-use Rattle.definition.proofs.CheckLaws.{All, and_both, and_right, all_both, guard_accepts}
+use Rattle.definition.specs.CheckLaws.{All}
+use Rattle.definition.proofs.CheckLaws.{and_both, and_right, all_both, guard_accepts}
 use Rattle.definition.specs.File.{check_number, least_cells, least_to_pad, most_cells, longest_file, saved_store, file_of, contents_of, settings_fit}
 use Rattle.definition.specs.Load.{header_conditions, record_conditions, cell_conditions, entity_conditions, file_conditions, loaded, entities_given, load}
 use Rattle.definition.proofs.LoadLaws.{load_rows_law}

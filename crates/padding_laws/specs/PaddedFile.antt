@@ -6,10 +6,10 @@ use Rattle.std.proofs.Math.Bool.{true, false, cond}
 use Rattle.std.proofs.lemmas.List.{length-replicate}
 use Rattle.definition.specs.File.{check_number, least_cells, file_of, Contents, contents_at, contents_of}
 use Rattle.definition.specs.Checks.{Conditions, judge}
-use Rattle.definition.proofs.CheckLaws.{All}
+use Rattle.definition.specs.CheckLaws.{All}
 use Rattle.definition.proofs.RecordLaws.{length_globals}
 use Rattle.definition.specs.Cells.{vector, Typing, typing_of, addressed, cell_access, vector_access, access}
-use Rattle.definition.proofs.StatementLaws.{last_of}
+use Rattle.definition.specs.StatementLaws.{last_of}
 use Rattle.definition.specs.Machine.{present, Copy, copies_present}
 use Rattle.definition.specs.Operations.{below}
 use Rattle.definition.specs.Written.{padded, padded_file}

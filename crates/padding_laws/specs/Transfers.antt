@@ -12,12 +12,14 @@ use Rattle.std.proofs.Math.IntN.{pos}
 use Rattle.definition.specs.declared.FileRecord.{FileRecord}
 use Rattle.definition.specs.declared.FunctionDef.{FunctionDef}
 use Rattle.definition.specs.Checks.{Conditions, judge, decided, guard}
-use Rattle.definition.proofs.CheckLaws.{All, judge_passed, judge_all, and_left, and_right, and_both}
+use Rattle.definition.specs.CheckLaws.{All}
+use Rattle.definition.proofs.CheckLaws.{judge_passed, judge_all, and_left, and_right, and_both}
 use Rattle.definition.specs.File.{saved_store}
 use Rattle.definition.specs.Statements.{Does, next, puts, calls, returns, refuses, hands_over}
 use Rattle.definition.specs.Machine.{Program, function_of, State, Config, count_of, present, Copy, copied, successive, arguments_of, copies_present}
 use Rattle.definition.specs.Machine.{entry_conditions, entered, leave_conditions, left, return_conditions, returned, Stepped, completed, refused_step, handed_step, as_step, step_as}
-use Rattle.definition.proofs.Parts.{Present, present_true, length_copied}
+use Rattle.definition.specs.Parts.{Present}
+use Rattle.definition.proofs.Parts.{present_true, length_copied}
 use Rattle.padding_laws.specs.Cells.{Agree, same_present, agree_copied, agree_paste}
 use Rattle.padding_laws.specs.Effects.{Carries}
 

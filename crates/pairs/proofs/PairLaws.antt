@@ -10,7 +10,8 @@ use lib.ListN.{length, drop, get_or, set, length-drop}
 use lib.Seq.{drop-cons}
 use lib.Dec.{eqb, ltb, leb}
 use Rattle.definition.specs.Checks.{judge}
-use Rattle.definition.proofs.CheckLaws.{All, judge_passed}
+use Rattle.definition.specs.CheckLaws.{All}
+use Rattle.definition.proofs.CheckLaws.{judge_passed}
 use Rattle.definition.proofs.PlaceLaws.{below_place, below_natural, place_zero}
 use Rattle.definition.specs.Statements.{place_of}
 use Rattle.definition.specs.Operations.{natural, below, pair_conditions, pairs_conditions, pairs_written}

@@ -4,7 +4,7 @@
 
 ghost use Rattle.std.specs.Prelude.{◌≡◌, ◌≤◌, length};
 ghost use Rattle.definition.specs.Checks.{judge};
-ghost use Rattle.definition.proofs.CheckLaws.{All};
+ghost use Rattle.definition.specs.CheckLaws.{All};
 ghost use Rattle.definition.specs.Operations.{pair_conditions, pairs_conditions, pairs_written};
 ghost use Rattle.pairs.specs.Together.{unless_refused};
 

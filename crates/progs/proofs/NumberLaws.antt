@@ -17,7 +17,7 @@ use Rattle.definition.proofs.RecordLaws.{length_records}
 use Rattle.functions.specs.Parts.{functions_in}
 use Rattle.definition.specs.Machine.{Fetch, Program, function_of, copied, arguments_of, entry_conditions, entered, enter}
 use Rattle.definition.proofs.CheckLaws.{judge_passed, and_right}
-use Rattle.definition.proofs.LoadLaws.{InRange}
+use Rattle.definition.specs.LoadLaws.{InRange}
 use Rattle.progs.specs.declared.ExecutionContext.{ExecutionContext}
 use Rattle.progs.specs.declared.Answered.{Answered}
 use Rattle.progs.specs.declared.calls.Entry.{Entry}

@@ -9,7 +9,7 @@ use Rattle.definition.specs.Statements.{Entities, place_of}
 use Rattle.definition.specs.Machine.{Program, State, Config, return_conditions, returned}
 use Rattle.definition.specs.Operations.{is_handed_over}
 use Rattle.definition.specs.Answers.{Outcome, outcome}
-use Rattle.definition.proofs.LoadLaws.{InRange}
+use Rattle.definition.specs.LoadLaws.{InRange}
 use Rattle.functions.specs.Laws.{AllFit}
 use Rattle.progs.specs.declared.ExecutionContext.{ExecutionContext}
 use Rattle.progs.specs.declared.Answered.{Answered}

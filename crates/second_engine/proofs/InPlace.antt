@@ -17,7 +17,7 @@ use Rattle.definition.specs.Cells.{typing_of}
 use Rattle.definition.specs.Load.{program_with, program_of}
 use Rattle.definition.specs.Statements.{Entities, Does, place_of, does_at}
 use Rattle.definition.specs.Machine.{Program, with_unpacked, Config, entities_of, step_as, completed, refused_step, entry_conditions, entered, leave_conditions, return_conditions, returned, as_step, step, run_for}
-use Rattle.definition.proofs.LoadLaws.{InRange}
+use Rattle.definition.specs.LoadLaws.{InRange}
 use Rattle.execution.specs.declared.Executed.{Executed}
 use Rattle.execution.specs.declared.Executed.TheVariants as does
 use Rattle.execution.specs.Execution.{executed, execution, entities_at}

@@ -18,7 +18,8 @@ use Rattle.definition.specs.File.{byte_at, least_cells, longest_file, saved_stor
 use Rattle.definition.specs.Machine.{Config, entities_fit}
 use Rattle.definition.specs.Load.{header_conditions, record_conditions, cell_conditions, entity_conditions, loaded, entities_given, load, program_of}
 use Rattle.definition.specs.Operations.{sound}
-use Rattle.definition.proofs.CheckLaws.{All, and_both, and_left, and_right, all_both, guard_accepts, guard_refuses, accepted_all}
+use Rattle.definition.specs.CheckLaws.{All}
+use Rattle.definition.proofs.CheckLaws.{and_both, and_left, and_right, all_both, guard_accepts, guard_refuses, accepted_all}
 use Rattle.definition.proofs.LoadLaws.{load_rows_law}
 use Rattle.definition.proofs.RecordLaws.{length_records, length_globals}
 use Rattle.definition.specs.Written.{end_of, layout, layout_of, written, Image, placed, image, write_conditions, write_file, write_outcome}

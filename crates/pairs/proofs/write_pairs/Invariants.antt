@@ -5,7 +5,7 @@ use lib.ListN.{length, drop, length-set}
 use mir.Syntax.{w64}
 use mir.Val.{SFits}
 use mir.Facts.{to_z-of_z}
-use Rattle.definition.proofs.CheckLaws.{All}
+use Rattle.definition.specs.CheckLaws.{All}
 use Rattle.definition.specs.Statements.{place_of}
 use Rattle.definition.specs.Operations.{pair_conditions, pairs_written}
 use Rattle.pairs.proofs.PairLaws.{number, cell_there, value_fits, good_left, pair_written, at_end}

@@ -4,7 +4,8 @@ use lib.ListN.{length}
 use Rattle.definition.specs.File.{least_cells}
 use Rattle.definition.specs.Load.{recorded_in}
 use Rattle.progs.proofs.StateLaws.{unrecorded, short_store, out_of_range, too_deep, too_full, no_room, adding_up, loaded_of, size_of}
-use Rattle.definition.proofs.LoadLaws.{InRange, settings_fit_law}
+use Rattle.definition.specs.LoadLaws.{InRange}
+use Rattle.definition.proofs.LoadLaws.{settings_fit_law}
 use native.Mathlib.Omega.{arith}
 use Rattle.progs.proofs.ExecutionContext.check_state.Goals as goal
 
