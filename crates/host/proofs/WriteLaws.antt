@@ -13,7 +13,7 @@ use Rattle.call_list.specs.declared.Replied.{Replied}
 use Rattle.call_list.specs.Encoding.{answering}
 use Rattle.writer.specs.Outcomes.{outcome_of}
 use Rattle.writing_laws.specs.Loads.{accepted_writes}
-use Rattle.host.specs.Writing.{write_reply, AfterWriting, writing_of, written}
+use Rattle.host.specs.Writing.{write_reply, writing_of, written}
 
 -- a length that is answered has room in 32 bits
 pub short_length : (file output output' : List ℕ) (c : Config) (n : ℕ) → outcome_of (Length n) output' ≡ write_outcome output (write_file file output c) → n ≤ 1048576

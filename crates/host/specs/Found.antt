@@ -3,7 +3,6 @@
 use Rattle.std.specs.Prelude.{ℕ, List, cond}
 use Rattle.definition.specs.declared.Answer.{Answer}
 use Rattle.definition.specs.declared.Answer.TheVariants as answer
-use Rattle.definition.specs.declared.Definition.{Definition}
 use Rattle.definition.specs.declared.FileRecord.{FileRecord}
 use Rattle.definition.specs.declared.FunctionDef.{FunctionDef}
 use Rattle.definition.specs.declared.Lump.{Lump}

@@ -2,7 +2,6 @@ use Rattle.call_list.proofs.Replies.{call_carries}
 use mathlib.Core.List.{[]}
 use lib.IntN.{pos}
 use mathlib.Core.Path.{refl}
-use borrow.Author.Rules.{rules}
 use Rattle.host.proofs.host_carry_on.Goals as goal
 
 pub returns : goal.returns

@@ -1,5 +1,4 @@
 -- `host::host_unpack` meets its contract. Assumes nothing.
-use borrow.Author.Rules.{rules}
 use Rattle.host.proofs.UnpackLaws.{unpack_replied_law}
 use Rattle.host.proofs.host_unpack.Goals as goal
 

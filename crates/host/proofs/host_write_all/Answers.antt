@@ -1,5 +1,4 @@
 use Rattle.call_list.proofs.Replies.{after_write_all}
-use borrow.Author.Rules.{rules}
 use Rattle.host.proofs.host_write_all.Goals as goal
 
 pub returns : goal.returns

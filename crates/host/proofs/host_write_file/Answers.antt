@@ -1,6 +1,5 @@
 -- `host::host_write_file` meets its contract: by the answer's case. Assumes nothing.
 use native.Mathlib.Omega.{arith}
-use borrow.Author.Rules.{rules}
 use Rattle.definition.specs.declared.WriteAnswer.TheVariants.{Length, Refused}
 use Rattle.host.proofs.WriteLaws.{short_length, write_replied}
 use Rattle.host.proofs.host_write_file.Goals as goal

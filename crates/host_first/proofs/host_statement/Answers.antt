@@ -2,7 +2,6 @@ use Rattle.call_list.proofs.Replies.{call_steps}
 use mathlib.Core.List.{[]}
 use lib.IntN.{pos}
 use mathlib.Core.Path.{refl}
-use borrow.Author.Rules.{rules}
 use Rattle.host_first.proofs.host_statement.Goals as goal
 
 pub returns : goal.returns

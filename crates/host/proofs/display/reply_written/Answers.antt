@@ -1,6 +1,5 @@
 -- `host::display::reply_written` meets its contract: by the answer's case. Assumes nothing.
 use mathlib.Core.Path.{sym, ap}
-use borrow.Author.Rules.{rules}
 use Rattle.host.specs.Display.{write_reply}
 use Rattle.host.proofs.display.reply_written.Goals as goal
 

@@ -1,4 +1,3 @@
-use borrow.Author.Rules.{rules}
 use Rattle.host.proofs.layout.host_layout.Goals as goal
 
 pub returns : goal.returns

@@ -1,10 +1,7 @@
 use mir.Facts.{to_z_pos}
 use mir.Syntax.{w64}
 use native.Mathlib.Omega.{arith}
-use Prim.Native.Nat.{◌-◌, ◌≤◌}
-use mathlib.Core.Path.{◌≡◌}
 use borrow.Author.Rules.{rules}
-use Rattle.host.specs.Layout.{numbered_frames}
 use Rattle.host.proofs.LayoutLaws.{frames_start, frames_on, frames_all}
 use Rattle.host.proofs.layout.numbered_context.Goals as goal
 

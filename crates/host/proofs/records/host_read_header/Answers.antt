@@ -1,6 +1,5 @@
 use mathlib.Core.Path.{sym, ◌∙◌}
 use Rattle.host.proofs.RecordLaws.{header_short, header_there, header_long}
-use borrow.Author.Rules.{rules}
 use Rattle.host.proofs.records.host_read_header.Goals as goal
 
 pub returns-then-file-lt60 : goal.returns-then-file-lt60

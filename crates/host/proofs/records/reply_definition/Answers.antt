@@ -1,6 +1,5 @@
 use mathlib.Core.Path.{sym, ap, ◌∙◌}
 use Rattle.host.specs.Found.{definition_reply}
-use borrow.Author.Rules.{rules}
 use Rattle.host.proofs.records.reply_definition.Goals as goal
 
 pub returns-in-At : goal.returns-in-At

@@ -1,5 +1,4 @@
 use Rattle.host.proofs.RecordLaws.{function_known}
-use borrow.Author.Rules.{rules}
 use Rattle.host.proofs.records.reply_function.Goals as goal
 
 pub returns-in-Accepted : goal.returns-in-Accepted
