@@ -2,6 +2,8 @@
 use crate::print;
 use definition::{Answer, Handover, ReadAnswer, RunAnswer, StatementAnswer};
 use progs::ExecutionContext;
+use std::io;
+use std::io::Write;
 
 #[derive(Clone, Copy)]
 pub enum Said {
@@ -51,24 +53,25 @@ pub fn of_run(answer: RunAnswer) -> Said {
     }
 }
 
-pub fn print(said: Said) {
+pub fn print<W: Write>(out: &mut W, said: Said) -> io::Result<()> {
     match said {
-        Said::Accepted(n) => print::said(b"accepted", n as u64),
-        Said::Ended => print::said(b"ended", 0),
-        Said::Spent => print::said(b"spent", 0),
-        Said::Refused(n) => print::said(b"refused", n as u64),
-        Said::Builtin(n) => print::said(b"builtin", n as u64),
-        Said::Opcode(n) => print::said(b"opcode", n as u64),
+        Said::Accepted(n) => print::said(out, b"accepted", n as u64),
+        Said::Ended => print::said(out, b"ended", 0),
+        Said::Spent => print::said(out, b"spent", 0),
+        Said::Refused(n) => print::said(out, b"refused", n as u64),
+        Said::Builtin(n) => print::said(out, b"builtin", n as u64),
+        Said::Opcode(n) => print::said(out, b"opcode", n as u64),
     }
 }
 
-pub fn print_with_state(
+pub fn print_with_state<W: Write>(
+    out: &mut W,
     said: Said,
     context: ExecutionContext,
     cells: &[u32],
     store: &[u32],
     entities: &[u32],
-) {
-    print(said);
-    print::state(context, cells, store, entities);
+) -> io::Result<()> {
+    print(out, said)?;
+    print::state(out, context, cells, store, entities)
 }

@@ -1,6 +1,6 @@
 // The digest of a state's frames, the lent cells, the saved store and the lent entity cells: FNV-1a of 64 bits.
 ghost use Rattle.std.specs.Prelude.{◌≤◌, length};
-ghost use Rattle.io.specs.Counts.{IsPrefixLen};
+ghost use Rattle.std.specs.Counts.{IsPrefixLen};
 
 use definition::{GREATEST_DEPTH, StackFrame};
 use std::num;
@@ -52,6 +52,14 @@ pub fn write_signed(out: &mut [u8], n: i64) -> usize
     text::write_signed(out, 0, n)
 }
 
+// The same of a number that has no sign.
+fn write_unsigned(out: &mut [u8], n: u64) -> usize
+    requires { 20 ≤ length out.old }
+    ensures { IsPrefixLen result out.new }
+{
+    text::write_decimal(out, 0, n)
+}
+
 fn signed(h: u64, n: i64) -> u64 {
     let mut out = [0u8; 20];
     let end = write_signed(&mut out, n);
@@ -60,7 +68,7 @@ fn signed(h: u64, n: i64) -> u64 {
 
 fn unsigned(h: u64, n: u64) -> u64 {
     let mut out = [0u8; 20];
-    let end = io::decimal(n, &mut out);
+    let end = write_unsigned(&mut out, n);
     bytes(h, &out[..end])
 }
 

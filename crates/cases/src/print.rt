@@ -1,41 +1,43 @@
 // What programs print of the machine: words, and numbers in decimal with a blank before each.
 use crate::digest;
-use libc::STDOUT_FILENO;
 use progs::ExecutionContext;
+use std::io;
+use std::io::Write;
 
-pub fn text(word: &[u8]) {
-    io::write_all(STDOUT_FILENO, word);
+pub fn text<W: Write>(out: &mut W, word: &[u8]) -> io::Result<()> {
+    out.write_all(word)
 }
 
-pub fn end_line() {
-    text(b"\n");
+pub fn end_line<W: Write>(out: &mut W) -> io::Result<()> {
+    text(out, b"\n")
 }
 
-pub fn field(n: u64) {
-    text(b" ");
-    io::print_decimal(STDOUT_FILENO, n);
+pub fn field<W: Write>(out: &mut W, n: u64) -> io::Result<()> {
+    write!(out, " {n}")
 }
 
-fn position(n: i64) {
-    let mut out = [0u8; 20];
-    let end = digest::write_signed(&mut out, n);
-    text(b" ");
-    text(&out[..end]);
+fn position<W: Write>(out: &mut W, n: i64) -> io::Result<()> {
+    write!(out, " {n}")
 }
 
-pub fn said(word: &[u8], n: u64) {
-    text(word);
-    field(n);
+pub fn said<W: Write>(out: &mut W, word: &[u8], n: u64) -> io::Result<()> {
+    text(out, word)?;
+    field(out, n)
 }
 
 // Position, function, depth, saved count, and the digest of frames, cells, saved store and entity cells.
-pub fn state(context: ExecutionContext, cells: &[u32], store: &[u32], entities: &[u32]) {
+pub fn state<W: Write>(
+    out: &mut W,
+    context: ExecutionContext,
+    cells: &[u32],
+    store: &[u32],
+    entities: &[u32],
+) -> io::Result<()> {
     let frames = context.frames;
-    position(context.pc);
-    field(context.current_function as u64);
-    field(context.depth as u64);
-    field(context.saved as u64);
-    text(b" ");
+    position(out, context.pc)?;
+    field(out, context.current_function as u64)?;
+    field(out, context.depth as u64)?;
+    field(out, context.saved as u64)?;
     let digest = digest::digest(frames, cells, store, entities);
-    io::print_hex(STDOUT_FILENO, digest, 16);
+    write!(out, " {digest:016x}")
 }

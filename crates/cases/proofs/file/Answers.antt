@@ -1,4 +1,4 @@
-use Rattle.std.proofs.Common.{arith, length-take, rules}
+use Rattle.std.proofs.Common.{arith, length-take}
 use Rattle.cases.proofs.file.Goals as goal
 
 pub slice_bounds-bytes-end-2 : goal.slice_bounds-bytes-end-2

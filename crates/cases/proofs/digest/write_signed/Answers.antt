@@ -1,4 +1,4 @@
-use Rattle.std.proofs.Common.{◌≤◌, length, ap, arith, length-take, to_z-of_z, w64, to_z, of_z, rules}
+use Rattle.std.proofs.Common.{◌≤◌, length, ap, arith, length-take, to_z-of_z, w64, to_z, of_z}
 use Rattle.text.specs.Text.{signed_decimal}
 use Rattle.text.specs.Output.{Output, put}
 use Rattle.text.specs.Laws.{signed_20}
