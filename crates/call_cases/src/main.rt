@@ -7,8 +7,9 @@ ghost use Rattle.std.specs.Prelude.{◌<◌, length};
 use calls::Done;
 use cases::{answers, print};
 use definition::{LONGEST_FILE, MOST_CELLS};
-use libc::STDIN_FILENO;
 use progs::ExecutionContext;
+use std::io;
+use std::io::{BufWriter, Write};
 
 mod calls;
 mod fields;
@@ -23,13 +24,19 @@ struct List {
     entities: usize,
 }
 
-fn print_done(done: Done, cells: &[u32], store: &[u32], entities: &[u32]) {
+fn print_done<W: Write>(
+    out: &mut W,
+    done: Done,
+    cells: &[u32],
+    store: &[u32],
+    entities: &[u32],
+) -> io::Result<()> {
     let context = done.context;
     let said = done.said;
-    answers::print(said);
-    print::field(done.count as u64);
-    print::state(context, cells, store, entities);
-    print::end_line();
+    answers::print(out, said)?;
+    print::field(out, done.count as u64)?;
+    print::state(out, context, cells, store, entities)?;
+    print::end_line(out)
 }
 
 // As many numbered cells as the word at `at` says. The result is how many.
@@ -69,7 +76,8 @@ fn begin(
 }
 
 // The line at `at`: a list's first, or a call.
-fn perform_line(
+fn perform_line<W: Write>(
+    out: &mut W,
     text: &[u8],
     at: usize,
     list: List,
@@ -77,11 +85,11 @@ fn perform_line(
     cells: &mut [u32],
     store: &mut [u32],
     entities: &mut [u32],
-) -> List
+) -> io::Result<List>
     requires { at < length text.now }
 {
     if text[at] == b'n' {
-        return begin(text, at, file, cells, store, entities);
+        return Ok(begin(text, at, file, cells, store, entities));
     }
     let n = cases::least(list.file, file.len());
     let c = cases::least(list.cells, cells.len());
@@ -98,23 +106,24 @@ fn perform_line(
         &mut entities[..e],
     );
     let after = done.context;
-    print_done(done, &cells[..c], &store[..s], &entities[..e]);
-    List {
+    print_done(out, done, &cells[..c], &store[..s], &entities[..e])?;
+    Ok(List {
         context: after,
         file: n,
         cells: c,
         saved: s,
         entities: e,
-    }
+    })
 }
 
-fn perform_lists(
+fn perform_lists<W: Write>(
+    out: &mut W,
     text: &[u8],
     file: &mut [u8],
     cells: &mut [u32],
     store: &mut [u32],
     entities: &mut [u32],
-) {
+) -> io::Result<()> {
     let mut at = 0;
     let context = cases::zero_state();
     let mut list = List {
@@ -125,29 +134,40 @@ fn perform_lists(
         entities: 0,
     };
     while at < text.len() {
-        list = perform_line(text, at, list, file, cells, store, entities);
+        list = perform_line(out, text, at, list, file, cells, store, entities)?;
         at = cases::next_line(text, at);
     }
+    Ok(())
 }
 
 // The buffer as a slice: the prover would unfold a repeat of this length to find it.
-fn perform_all(
+fn perform_all<W: Write>(
+    out: &mut W,
     text: &[u8],
     file: &mut [u8; LONGEST_FILE + 1],
     cells: &mut [u32],
     store: &mut [u32],
     entities: &mut [u32],
-) {
-    perform_lists(text, file, cells, store, entities);
+) -> io::Result<()> {
+    perform_lists(out, text, file, cells, store, entities)
 }
 
 // A file has at most one byte more than a load accepts, and at most one cell more. No case of the model lends more entity cells, those of single statements included.
-fn main() {
+fn main(rt: HostRuntime) -> io::Result<()> {
+    let mut out = BufWriter::new(rt.alloc(), rt.stdout())?;
     let mut text = [0u8; 524288];
     let mut file = [0u8; LONGEST_FILE + 1];
     let mut cells = [0u32; MOST_CELLS + 1];
     let mut store = [0u32; 2100];
     let mut entities = [0u32; 65540];
-    let n = io::read_full(STDIN_FILENO, &mut text);
-    perform_all(&text[..n], &mut file, &mut cells, &mut store, &mut entities);
+    let n = streams::read_full(&mut rt.stdin(), &mut text)?;
+    perform_all(
+        &mut out,
+        &text[..n],
+        &mut file,
+        &mut cells,
+        &mut store,
+        &mut entities,
+    )?;
+    out.flush()
 }

@@ -5,11 +5,13 @@
 ghost use Rattle.std.specs.Prelude.{◌≤◌, ◌<◌, length};
 
 use definition::{MOST_CELLS, SAVED_STORE};
-use libc::{STDIN_FILENO, STDOUT_FILENO};
 use shown::LONGEST_INPUT;
+use std::io;
+use std::io::{BufWriter, Write};
 use text::LINE_ROOM;
 
-fn show_case(
+fn show_case<W: Write>(
+    out: &mut W,
     text: &[u8],
     at: usize,
     file: &mut [u8],
@@ -17,35 +19,38 @@ fn show_case(
     store: &mut [u32],
     entities: &mut [u32],
     line: &mut [u8],
-)
+) -> io::Result<()>
     requires at_in_bounds { at ≤ length text.now }
     requires in_bounds { 160 ≤ length line.old }
 {
     let size = cases::next_word(text, at);
     let n = cases::file(text, size, file);
     let end = shown::show(&file[..n], cells, store, entities, line);
-    io::write_all(STDOUT_FILENO, &text[at..size]);
-    io::write_all(STDOUT_FILENO, &line[..end]);
+    out.write_all(&text[at..size])?;
+    out.write_all(&line[..end])
 }
 
-fn show_cases(
+fn show_cases<W: Write>(
+    out: &mut W,
     text: &[u8],
     file: &mut [u8],
     cells: &mut [u32],
     store: &mut [u32],
     entities: &mut [u32],
     line: &mut [u8],
-)
+) -> io::Result<()>
     requires { 160 ≤ length line.old }
 {
     let mut at = 0;
     while at < text.len() {
-        show_case(text, at, file, cells, store, entities, line);
+        show_case(out, text, at, file, cells, store, entities, line)?;
         at = cases::next_line(text, at);
     }
+    Ok(())
 }
 
-fn main() {
+fn main(rt: HostRuntime) -> io::Result<()> {
+    let mut out = BufWriter::new(rt.alloc(), rt.stdout())?;
     let mut text = [0u8; 524288];
     let mut file = [0u8; LONGEST_INPUT + 1];
     let mut cells = [0u32; MOST_CELLS];
@@ -53,13 +58,15 @@ fn main() {
     // Show has no entities, so that none of these is looked at.
     let mut entities = [0u32; 1];
     let mut line = [0u8; LINE_ROOM];
-    let n = io::read_full(STDIN_FILENO, &mut text);
+    let n = streams::read_full(&mut rt.stdin(), &mut text)?;
     show_cases(
+        &mut out,
         &text[..n],
         &mut file,
         &mut cells,
         &mut store,
         &mut entities,
         &mut line,
-    );
+    )?;
+    out.flush()
 }

@@ -5,7 +5,8 @@
 #![tactic(auto)]
 
 use functions::ops;
-use libc::{STDIN_FILENO, STDOUT_FILENO};
+use std::io;
+use std::io::{BufReader, BufWriter, Read, Write};
 use vectors::{Counts, MOST_LINES};
 
 const ROUNDINGS: u16 = 128;
@@ -31,16 +32,15 @@ fn result(op: u16, a0: u32, a1: u32, a2: u32, b0: u32, b1: u32, b2: u32) -> u32 
     scalar | floats::not_op(op, a0) | floats::vectors_to_float_op(op, a0, a1, a2, b0, b1, b2)
 }
 
-fn report(got: u32, line: &[u8; 66]) {
-    io::print_hex(STDOUT_FILENO, got as u64, 8);
-    io::write_all(STDOUT_FILENO, b" is the result of ");
-    io::write_all(STDOUT_FILENO, line);
+fn report<W: Write>(out: &mut W, got: u32, line: &[u8; 66]) -> io::Result<()> {
+    write!(out, "{got:08x} is the result of ")?;
+    out.write_all(line)
 }
 
-fn run_case() -> Outcome {
+fn run_case<R: Read, W: Write>(input: &mut R, out: &mut W) -> io::Result<Outcome> {
     let mut line = [0u8; 66];
-    if io::read_full(STDIN_FILENO, &mut line) < 66 {
-        return Outcome::End;
+    if streams::read_full(input, &mut line)? < 66 {
+        return Ok(Outcome::End);
     }
     let op = (vectors::number(&line, 0, 2) % 65536) as u16;
     let got = result(
@@ -53,17 +53,17 @@ fn run_case() -> Outcome {
         vectors::number(&line, 48, 8),
     );
     if got == vectors::number(&line, 57, 8) {
-        return Outcome::Same;
+        return Ok(Outcome::Same);
     }
-    report(got, &line);
-    Outcome::Differs
+    report(out, got, &line)?;
+    Ok(Outcome::Differs)
 }
 
-fn run_cases() -> Counts {
+fn run_cases<R: Read, W: Write>(input: &mut R, out: &mut W) -> io::Result<Counts> {
     let mut cases: u64 = 0;
     let mut differ: u64 = 0;
     while cases < MOST_LINES {
-        match run_case() {
+        match run_case(input, out)? {
             Outcome::Same => cases += 1,
             Outcome::Differs => {
                 cases += 1;
@@ -72,9 +72,13 @@ fn run_cases() -> Counts {
             Outcome::End => break,
         }
     }
-    Counts { cases, differ }
+    Ok(Counts { cases, differ })
 }
 
-fn main() {
-    vectors::report(run_cases());
+fn main(rt: HostRuntime) -> io::Result<()> {
+    let mut input = BufReader::new(rt.alloc(), rt.stdin())?;
+    let mut out = BufWriter::new(rt.alloc(), rt.stdout())?;
+    let counts = run_cases(&mut input, &mut out)?;
+    vectors::report(&mut out, counts)?;
+    out.flush()
 }

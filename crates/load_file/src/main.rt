@@ -7,9 +7,10 @@ ghost use Rattle.text.specs.Output.{output, at_front};
 ghost use Rattle.load_file.specs.Printed.{printed};
 
 use definition::WriteAnswer;
-use libc::{STDIN_FILENO, STDOUT_FILENO};
 use load_files::LONGEST;
 use numbers::LONGEST_LINE;
+use std::io;
+use std::io::Write;
 
 mod numbers;
 
@@ -26,10 +27,10 @@ fn print_file(line: &[u8], out: &mut [u8]) -> usize
     }
 }
 
-fn main() {
+fn main(rt: HostRuntime) -> io::Result<()> {
     let mut line = [0u8; LONGEST_LINE + 1];
     let mut out = [0u8; LONGEST];
-    let n = io::read_full(STDIN_FILENO, &mut line);
+    let n = streams::read_full(&mut rt.stdin(), &mut line)?;
     let end = print_file(&line[..n], &mut out);
-    io::write_all(STDOUT_FILENO, &out[..end]);
+    rt.stdout().write_all(&out[..end])
 }

@@ -2,18 +2,19 @@
 #![tactic(auto)]
 
 use definition::{MOST_CELLS, SAVED_STORE};
-use libc::{STDIN_FILENO, STDOUT_FILENO};
 use shown::LONGEST_INPUT;
+use std::io;
+use std::io::Write;
 use text::LINE_ROOM;
 
-fn main() {
+fn main(rt: HostRuntime) -> io::Result<()> {
     let mut file = [0u8; LONGEST_INPUT + 1];
     let mut cells = [0u32; MOST_CELLS];
     let mut store = [0u32; SAVED_STORE];
     // Entities there are none, so that no cell of these is looked at.
     let mut entities = [0u32; 1];
     let mut line = [0u8; LINE_ROOM];
-    let n = io::read_full(STDIN_FILENO, &mut file);
+    let n = streams::read_full(&mut rt.stdin(), &mut file)?;
     let end = shown::show(&file[..n], &mut cells, &mut store, &mut entities, &mut line);
-    io::write_all(STDOUT_FILENO, &line[..end]);
+    rt.stdout().write_all(&line[..end])
 }

@@ -6,7 +6,8 @@
 use definition::{HEADER_LENGTH, Handover, LEAST_ENTITY_CELLS, MOST_CELLS};
 use execution::Executed;
 use functions::{fetch, header};
-use libc::{STDIN_FILENO, STDOUT_FILENO};
+use std::io;
+use std::io::{BufReader, BufWriter, Read, Write};
 use vectors::{Counts, MOST_LINES};
 
 // The longest file of the cases has 131,945 bytes.
@@ -215,24 +216,25 @@ fn run_line(
     Step::Given
 }
 
-fn next_line(
+fn next_line<R: Read>(
+    input: &mut R,
     file: &mut [u8],
     given: Given,
     cells: &mut [u32],
     want: &mut [u32],
     entities: &mut [u32],
     want_entities: &mut [u32],
-) -> Step {
+) -> io::Result<Step> {
     let mut bytes = [0u8; 20];
-    if io::read_full(STDIN_FILENO, &mut bytes) < 20 {
-        return Step::End;
+    if streams::read_full(input, &mut bytes)? < 20 {
+        return Ok(Step::End);
     }
     let line = Line {
         letter: bytes[0],
         x: vectors::number(&bytes, 2, 8),
         y: vectors::number(&bytes, 11, 8),
     };
-    run_line(file, given, cells, want, entities, want_entities, line)
+    Ok(run_line(file, given, cells, want, entities, want_entities, line))
 }
 
 // What is given after a line. After a case there are no entities.
@@ -253,19 +255,19 @@ fn given_after(given: Given, step: Step) -> Given {
     next
 }
 
-fn report_case(case: u64) {
-    io::write_all(STDOUT_FILENO, b"case ");
-    io::print_decimal(STDOUT_FILENO, case);
-    io::write_all(STDOUT_FILENO, b" differs\n");
+fn report_case<W: Write>(out: &mut W, case: u64) -> io::Result<()> {
+    writeln!(out, "case {case} differs")
 }
 
-fn run_lines(
+fn run_lines<R: Read, W: Write>(
+    input: &mut R,
+    out: &mut W,
     file: &mut [u8],
     cells: &mut [u32],
     want: &mut [u32],
     entities: &mut [u32],
     want_entities: &mut [u32],
-) -> Counts {
+) -> io::Result<Counts> {
     let mut given = Given {
         size: 0,
         number: 0,
@@ -276,33 +278,39 @@ fn run_lines(
     let mut differ: u64 = 0;
     while lines < MOST_LINES {
         lines += 1;
-        let step = next_line(file, given, cells, want, entities, want_entities);
+        let step = next_line(input, file, given, cells, want, entities, want_entities)?;
         given = given_after(given, step);
         match step {
             Step::Same => cases += 1,
             Step::Differs => {
                 cases += 1;
                 differ += 1;
-                report_case(cases);
+                report_case(out, cases)?;
             }
             Step::End => break,
             _ => {}
         }
     }
-    Counts { cases, differ }
+    Ok(Counts { cases, differ })
 }
 
-fn main() {
+fn main(rt: HostRuntime) -> io::Result<()> {
+    let mut input = BufReader::new(rt.alloc(), rt.stdin())?;
+    let mut out = BufWriter::new(rt.alloc(), rt.stdout())?;
     let mut file = [0u8; BYTES];
     let mut cells = [0u32; MOST_CELLS];
     let mut want = [0u32; MOST_CELLS];
     let mut entities = [0u32; ENTITY_CELLS];
     let mut want_entities = [0u32; ENTITY_CELLS];
-    vectors::report(run_lines(
+    let counts = run_lines(
+        &mut input,
+        &mut out,
         &mut file,
         &mut cells,
         &mut want,
         &mut entities,
         &mut want_entities,
-    ));
+    )?;
+    vectors::report(&mut out, counts)?;
+    out.flush()
 }

@@ -8,8 +8,9 @@ use cases::answers::Said;
 use cases::{answers, print};
 use definition::SAVED_STORE;
 use functions::header;
-use libc::STDIN_FILENO;
 use progs::{ExecutionContext, load};
+use std::io;
+use std::io::{BufWriter, Write};
 
 mod records;
 
@@ -21,36 +22,52 @@ struct Traced {
 }
 
 // One step, with the record of the statement before it.
-fn trace_step(
+fn trace_step<W: Write>(
+    out: &mut W,
     context: ExecutionContext,
     file: &[u8],
     cells: &mut [u32],
     store: &mut [u32],
     entities: &mut [u32],
-) -> ExecutionContext {
+) -> io::Result<ExecutionContext> {
     let recorded = context.file;
-    records::fetched(view::read_statement(file, recorded, context.pc));
-    print::text(b" ");
+    records::fetched(out, view::read_statement(file, recorded, context.pc))?;
+    print::text(out, b" ")?;
     let stepped = stepping::step_once(context, file, cells, store, entities);
     let after = stepped.context;
     let answer = stepped.answer;
-    answers::print_with_state(answers::of_statement(answer), after, cells, store, entities);
-    after
+    answers::print_with_state(
+        out,
+        answers::of_statement(answer),
+        after,
+        cells,
+        store,
+        entities,
+    )?;
+    Ok(after)
 }
 
-fn enter(
+fn enter<W: Write>(
+    out: &mut W,
     context: ExecutionContext,
     file: &[u8],
     function: i64,
     cells: &mut [u32],
     store: &mut [u32],
     entities: &[u32],
-) -> ExecutionContext {
+) -> io::Result<ExecutionContext> {
     let entered = context.enter(file, function, cells, store, entities);
     let after = entered.context;
     let answer = entered.answer;
-    answers::print_with_state(answers::of_answer(answer), after, cells, store, entities);
-    after
+    answers::print_with_state(
+        out,
+        answers::of_answer(answer),
+        after,
+        cells,
+        store,
+        entities,
+    )?;
+    Ok(after)
 }
 
 // As many entity cells as the word at `at` says: where another number was lent before, new ones. The result is how many.
@@ -65,7 +82,8 @@ fn lend(text: &[u8], at: usize, before: usize, entities: &mut [u32]) -> usize
 }
 
 // The line `new LENGTH HEX E L`: the file is loaded.
-fn load_file(
+fn load_file<W: Write>(
+    out: &mut W,
     text: &[u8],
     at: usize,
     before: usize,
@@ -73,7 +91,7 @@ fn load_file(
     cells: &mut [u32],
     store: &[u32],
     entities: &mut [u32],
-) -> Traced
+) -> io::Result<Traced>
     requires { at ≤ length text.now }
 {
     let size = cases::next_word(text, at);
@@ -91,15 +109,16 @@ fn load_file(
     );
     let context = loaded.context;
     let answer = loaded.answer;
-    answers::print(answers::of_answer(answer));
-    Traced {
+    answers::print(out, answers::of_answer(answer))?;
+    Ok(Traced {
         context,
         entities: lent,
-    }
+    })
 }
 
 // The line at `at` about a file: its first letter says which, then come a number and how many of the file's bytes are lent.
-fn perform(
+fn perform<W: Write>(
+    out: &mut W,
     text: &[u8],
     at: usize,
     context: ExecutionContext,
@@ -107,7 +126,7 @@ fn perform(
     cells: &mut [u32],
     store: &mut [u32],
     entities: &mut [u32],
-) -> ExecutionContext
+) -> io::Result<ExecutionContext>
     requires { at < length text.now }
 {
     let numbers = cases::numbers_at(text, at);
@@ -115,21 +134,22 @@ fn perform(
     let lent = cases::least(numbers.value as usize, file.len());
     let recorded = context.file;
     match text[at] {
-        b's' => records::fetched(view::read_statement(&file[..lent], recorded, n)),
-        b'f' => records::found_function(view::read_function(&file[..lent], recorded, n)),
-        b'd' => records::found_definition(view::read_definition(&file[..lent], recorded, n)),
+        b's' => records::fetched(out, view::read_statement(&file[..lent], recorded, n))?,
+        b'f' => records::found_function(out, view::read_function(&file[..lent], recorded, n))?,
+        b'd' => records::found_definition(out, view::read_definition(&file[..lent], recorded, n))?,
         b'b' => {
             cases::set_byte(file, numbers.place, (numbers.value % 256) as u8);
-            answers::print(Said::Accepted(0));
+            answers::print(out, Said::Accepted(0))?;
         }
-        b'e' => return enter(context, &file[..lent], n, cells, store, entities),
-        _ => return trace_step(context, &file[..lent], cells, store, entities),
+        b'e' => return enter(out, context, &file[..lent], n, cells, store, entities),
+        _ => return trace_step(out, context, &file[..lent], cells, store, entities),
     }
-    context
+    Ok(context)
 }
 
 // The line at `at`: a file is loaded, or something is done with it.
-fn perform_line(
+fn perform_line<W: Write>(
+    out: &mut W,
     text: &[u8],
     at: usize,
     traced: Traced,
@@ -137,29 +157,39 @@ fn perform_line(
     cells: &mut [u32],
     store: &mut [u32],
     entities: &mut [u32],
-) -> Traced
+) -> io::Result<Traced>
     requires { at < length text.now }
 {
     if text[at] == b'n' {
-        return load_file(text, at, traced.entities, file, cells, store, entities);
+        return load_file(out, text, at, traced.entities, file, cells, store, entities);
     }
     let e = cases::least(traced.entities, entities.len());
     let context = traced.context;
-    let after = perform(text, at, context, file, cells, store, &mut entities[..e]);
-    Traced {
+    let after = perform(
+        out,
+        text,
+        at,
+        context,
+        file,
+        cells,
+        store,
+        &mut entities[..e],
+    )?;
+    Ok(Traced {
         context: after,
         entities: e,
-    }
+    })
 }
 
 // Each file is loaded before the lines about it; the state before the first is all zeros.
-fn perform_lines(
+fn perform_lines<W: Write>(
+    out: &mut W,
     text: &[u8],
     file: &mut [u8],
     cells: &mut [u32],
     store: &mut [u32],
     entities: &mut [u32],
-) {
+) -> io::Result<()> {
     let context = cases::zero_state();
     let mut traced = Traced {
         context,
@@ -167,18 +197,28 @@ fn perform_lines(
     };
     let mut at = 0;
     while at < text.len() {
-        traced = perform_line(text, at, traced, file, cells, store, entities);
-        print::end_line();
+        traced = perform_line(out, text, at, traced, file, cells, store, entities)?;
+        print::end_line(out)?;
         at = cases::next_line(text, at);
     }
+    Ok(())
 }
 
-fn main() {
+fn main(rt: HostRuntime) -> io::Result<()> {
+    let mut out = BufWriter::new(rt.alloc(), rt.stdout())?;
     let mut text = [0u8; 65536];
     let mut file = [0u8; 4096];
     let mut cells = [0u32; 64];
     let mut store = [0u32; SAVED_STORE];
     let mut entities = [0u32; 512];
-    let n = io::read_full(STDIN_FILENO, &mut text);
-    perform_lines(&text[..n], &mut file, &mut cells, &mut store, &mut entities);
+    let n = streams::read_full(&mut rt.stdin(), &mut text)?;
+    perform_lines(
+        &mut out,
+        &text[..n],
+        &mut file,
+        &mut cells,
+        &mut store,
+        &mut entities,
+    )?;
+    out.flush()
 }

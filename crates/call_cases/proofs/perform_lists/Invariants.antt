@@ -2,7 +2,7 @@ use Rattle.std.proofs.Common.{◌≡◌, ◌-◌, ◌≤◌, length, rules}
 use Rattle.call_cases.proofs.perform_lists.Given as goal
 
 abbrev pub invariant-loop-at : goal.invariant-loop-at
-invariant-loop-at l =
+invariant-loop-at g l =
     (l.at ≤ length l.text)
     × (length l.file ≡ length l.initial.file)
     × (length l.cells ≡ length l.initial.cells)
@@ -10,4 +10,4 @@ invariant-loop-at l =
     × (length l.entities ≡ length l.initial.entities)
 
 abbrev pub decreases-loop-at : goal.decreases-loop-at
-decreases-loop-at l = length l.text - l.at
+decreases-loop-at g l = length l.text - l.at

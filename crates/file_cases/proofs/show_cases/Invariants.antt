@@ -5,7 +5,7 @@ use lib.ListN.{length}
 use Rattle.file_cases.proofs.show_cases.Given as goal
 
 abbrev pub invariant-loop-at : goal.invariant-loop-at
-invariant-loop-at l =
+invariant-loop-at g l =
     (l.at ≤ length l.text)
     × (length l.file ≡ length l.initial.file)
     × (length l.cells ≡ length l.initial.cells)
@@ -14,4 +14,4 @@ invariant-loop-at l =
     × (length l.line ≡ length l.initial.line)
 
 abbrev pub decreases-loop-at : goal.decreases-loop-at
-decreases-loop-at l = length l.text - l.at
+decreases-loop-at g l = length l.text - l.at

@@ -4,7 +4,7 @@ use lib.ListN.{length}
 use Rattle.statement_vectors.proofs.run_lines.Given as goal
 
 abbrev pub invariant-loop-lines : goal.invariant-loop-lines
-invariant-loop-lines l =
+invariant-loop-lines g l =
     (length l.file ≡ length l.initial.file)
     × (length l.cells ≡ length l.initial.cells)
     × (length l.want ≡ length l.initial.want)
@@ -15,4 +15,4 @@ invariant-loop-lines l =
     × (l.lines ≤ 1000000)
 
 abbrev pub decreases-loop-lines : goal.decreases-loop-lines
-decreases-loop-lines l = 1000000 - l.lines
+decreases-loop-lines g l = 1000000 - l.lines

@@ -4,4 +4,4 @@ use borrow.Author.Rules.{rules}
 use Rattle.trace.proofs.perform_line.Goals as goal
 
 pub slice_bounds-perform-end-2 : goal.slice_bounds-perform-end-2
-slice_bounds-perform-end-2 c = simp length-take (omega arith)
+slice_bounds-perform-end-2 g c = simp length-take (omega arith)
