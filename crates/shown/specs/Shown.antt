@@ -9,7 +9,7 @@ use Rattle.definition.specs.Machine.{Program, State, Config, Ran}
 use Rattle.definition.specs.Load.{load, program_of}
 use Rattle.definition.specs.Operations.{host_enter, run}
 use Rattle.text.specs.Text.{show_line, refused_line}
-use Rattle.text.specs.Output.{Output, output, at_front}
+use Rattle.text.specs.Output.{Output, at_front}
 
 -- "A refused entry prints the whole line, statements 0"
 abbrev pub after_entry : Program → Config → Checked Config → Ran

@@ -1,5 +1,4 @@
 use Rattle.shown.proofs.Laws.{entry_refused, entry_accepted}
-use borrow.Author.Rules.{rules}
 use Rattle.shown.proofs.enter_and_run.Goals as goal
 
 pub returns-in-Refused : goal.returns-in-Refused

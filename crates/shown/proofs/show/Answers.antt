@@ -1,5 +1,4 @@
 use Rattle.shown.proofs.Laws.{too_long, load_refused, load_accepted, prints}
-use borrow.Author.Rules.{rules}
 use Rattle.shown.proofs.show.Goals as goal
 
 pub returns-then-file-gt-LONGEST_INPUT : goal.returns-then-file-gt-LONGEST_INPUT
