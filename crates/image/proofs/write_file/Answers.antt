@@ -12,8 +12,6 @@ use Rattle.writing_laws.specs.Lumps.{padded_none}
 use Rattle.image.proofs.Thirteen.{refused_13, past_13}
 use Rattle.image.proofs.write_file.Goals as goal
 
--- check 13 passed
-
 pub returns-then-not-check_state : goal.returns-then-not-check_state
 returns-then-not-check_state c = refused_13 _ _ _ (sym c.check_state.ensures ∙ c.if-not-check_state.true)
 

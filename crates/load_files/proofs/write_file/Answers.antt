@@ -14,8 +14,6 @@ short : (n : ℕ) → n ≤ 1000 → (layout_for n).length ≤ 1048576
 unfolding layout
 short n h = omega arith
 
--- the header's place, and the room behind it
-
 pub returns-then-out-laid : goal.returns-then-out-laid
 returns-then-out-laid c =
     let same_size' : c.lumps-laid.result.length ≡ (layout_for c.args.n).length = ap (λ (x : FileRecord). x.length) c.lumps-laid.ensures in

@@ -5,8 +5,6 @@ use Rattle.definition.specs.Written.{layout}
 use Rattle.writer.proofs.Program.{Within, within_behind}
 use Rattle.writer.proofs.laid_out.Goals as goal
 
--- where each lump starts at most
-
 pub behind-globaldefs-requires : goal.behind-globaldefs-requires
 behind-globaldefs-requires c =
     let within_1' : Within c.behind-statements.result 2147483648 = within_behind 1 (record { offset = 0; count = 60 }) _ _ 0 c.behind-statements.ensures (record { offset = omega arith; count = omega arith }) c.requires.statements in

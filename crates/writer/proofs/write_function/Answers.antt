@@ -9,8 +9,6 @@ use Rattle.text.specs.Output.{Output, output, Rest, rest_all, rest_room, rest_ne
 use Rattle.writer.proofs.Functions.{function_cut}
 use Rattle.writer.proofs.write_function.Goals as goal
 
--- the bytes after the profile number; and what is left of the record where the output is o
-
 pub write_part-front-requires : goal.write_part-front-requires
 unfolding byte_at
 write_part-front-requires c =

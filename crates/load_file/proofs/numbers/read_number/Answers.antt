@@ -10,8 +10,6 @@ use Rattle.load_file.specs.Numbers.{is_digit, number_from}
 use Rattle.load_file.proofs.Reading.{digit_inside, one_digit, no_digit}
 use Rattle.load_file.proofs.numbers.read_number.Goals as goal
 
--- the byte at i is a digit, and stands before the end
-
 pub loop-v-init : goal.loop-v-init
 loop-v-init c = (omega arith, refl)
 

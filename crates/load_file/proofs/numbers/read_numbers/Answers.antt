@@ -10,8 +10,6 @@ use Rattle.load_file.proofs.Reading.{inside}
 use Rattle.load_file.proofs.Lines.{too_long, no_blank, no_end, goes_on, both_read}
 use Rattle.load_file.proofs.numbers.read_numbers.Goals as goal
 
--- what the blank and the line end tell: both stand before the end
-
 pub returns-then-line-gt-LONGEST_LINE : goal.returns-then-line-gt-LONGEST_LINE
 returns-then-line-gt-LONGEST_LINE c = too_long _ c.if-line-gt-LONGEST_LINE.true
 
