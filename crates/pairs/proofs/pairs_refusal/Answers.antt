@@ -38,11 +38,10 @@ loop-at-preserved c =
     let place' : c.place_of.result ≡ place_of c.args.count (number c.args.numbers.now c.loop-at.at) = let g : SFits w64 (number c.args.numbers.now c.loop-at.at) = search rules in
     (rw (to_z-of_z g) at c.place_of.ensures) in
     let value' : c.place_of-in-loop-at.result ≡ place_of 4294967296 (number c.args.numbers.now (c.loop-at.at + 1)) = let g : SFits w64 (number c.args.numbers.now (c.loop-at.at + 1)) = search rules in
-    (rw (to_z-of_z g) at c.place_of-in-loop-at.ensures) in
-    (
-  omega (arith, more'),
-  good_pair _ _ _ more' _ place' (omega (arith, c.if-count-place_of.false)) _ value' c.if-place_of-ge-CELL_VALUES.false ∙ c.loop-at.invariant.1,
-)
+    (rw (to_z-of_z g) at c.place_of-in-loop-at.ensures) in (
+      omega (arith, more'),
+      good_pair _ _ _ more' _ place' (omega (arith, c.if-count-place_of.false)) _ value' c.if-place_of-ge-CELL_VALUES.false ∙ c.loop-at.invariant.1,
+    )
 
 pub returns : goal.returns
 returns c =

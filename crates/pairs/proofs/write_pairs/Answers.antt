@@ -38,14 +38,13 @@ loop-at-preserved c =
     let place' : c.place_of-cell.result ≡ place_of 0 (number c.args.numbers.now c.loop-at.at) = let g : SFits w64 (number c.args.numbers.now c.loop-at.at) = search rules in
     (rw (to_z-of_z g) at c.place_of-cell.ensures) in
     let value' : c.place_of.result ≡ place_of 0 (number c.args.numbers.now (c.loop-at.at + 1)) = let g : SFits w64 (number c.args.numbers.now (c.loop-at.at + 1)) = search rules in
-    (rw (to_z-of_z g) at c.place_of.ensures) in
-    (
-  (simp length-set c.loop-at.invariant.0.0, omega (arith, c.loop-at-test.true)),
-  (
-    good_left _ _ _ c.loop-at-test.true c.loop-at.invariant.1.0,
-    rw (place', value') (pair_written _ _ _ c.loop-at-test.true c.loop-at.invariant.1.0 _) ∙ c.loop-at.invariant.1.1,
-  ),
-)
+    (rw (to_z-of_z g) at c.place_of.ensures) in (
+      (simp length-set c.loop-at.invariant.0.0, omega (arith, c.loop-at-test.true)),
+      (
+        good_left _ _ _ c.loop-at-test.true c.loop-at.invariant.1.0,
+        rw (place', value') (pair_written _ _ _ c.loop-at-test.true c.loop-at.invariant.1.0 _) ∙ c.loop-at.invariant.1.1,
+      ),
+    )
 
 pub shape_of-cells : goal.shape_of-cells
 shape_of-cells c = c.loop-at.invariant.0.0
