@@ -1,5 +1,5 @@
 -- What is printed, by what was answered. Assumes nothing.
-use Prim.Native.Nat.{ℕ, ◌+◌, ◌≤◌}
+use Prim.Native.Nat.{ℕ, ◌≤◌}
 use mathlib.Core.Path.{◌≡◌, refl, ap, ◌∙◌}
 use mathlib.Core.List.{List, ◌++◌}
 use mathlib.Core.Bool.{Bool, true, false, not, ◌&&◌}
@@ -8,7 +8,6 @@ use borrow.Author.Tests.{le-leb, leb-true}
 use lib.Dec.{leb, eqb}
 use lib.IntN.{pos}
 use lib.ListN.{length, drop}
-use Rattle.definition.specs.declared.WriteAnswer.{WriteAnswer}
 use Rattle.definition.specs.declared.WriteAnswer.TheVariants.{Length, Refused}
 use Rattle.definition.specs.Checks.{judge, guard}
 use Rattle.definition.proofs.CheckLaws.{and_right}
@@ -18,7 +17,7 @@ use Rattle.text.specs.Output.{output, at_front}
 use Rattle.text.specs.Text.{refused_line}
 use Rattle.writer.specs.Outcomes.{outcome_of}
 use Rattle.load_files.specs.LoadFile.{bytes_for, make_conditions, make_file}
-use Rattle.load_files.specs.Laws.{layout_for, length_file}
+use Rattle.load_files.specs.Laws.{length_file}
 use Rattle.load_file.specs.declared.numbers.Numbers.{Numbers}
 use Rattle.load_file.specs.Printed.{printed_for}
 

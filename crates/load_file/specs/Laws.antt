@@ -1,7 +1,7 @@
 -- THE LINE OF ANY TWO NUMBERS is read as these: so every seed and every n can be asked for.
-use Rattle.std.specs.Prelude.{ℕ, zero, suc, ◌+◌, ◌*◌, ◌-◌, ◌/◌, ◌%◌, ◌≤◌, ◌<◌, ◌≡◌, Bool, true, false, length, get_or, drop}
+use Rattle.std.specs.Prelude.{ℕ, suc, ◌+◌, ◌/◌, ◌%◌, ◌≤◌, ◌<◌, ◌≡◌, true, false, length, get_or, drop}
 use Rattle.std.proofs.Math.Path.{refl}
-use Rattle.std.proofs.Common.{sym, ap, ◌∙◌, add-zero, zero-add, arith, length-append, get_or-append-add}
+use Rattle.std.proofs.Common.{◌∙◌, add-zero, arith, length-append, get_or-append-add}
 use mathlib.Core.List.{List, [], ◌∷◌, ◌++◌}
 use borrow.Author.Tests.{le-leb, lt-ltb, eq-eqb}
 use Rattle.std.proofs.Math.Seq.{drop-append-add}

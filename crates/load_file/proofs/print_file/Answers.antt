@@ -1,21 +1,18 @@
 -- `load_file::print_file` meets its contract, by the answer's case. Assumes nothing.
-use Prim.Native.Nat.{ℕ, ◌≤◌, ◌<◌, ◌^◌}
-use mathlib.Core.Path.{◌≡◌, refl, sym, ap, ◌∙◌}
-use mathlib.Core.List.{List}
+use Prim.Native.Nat.{◌<◌, ◌^◌}
+use mathlib.Core.Path.{◌≡◌, refl, ◌∙◌}
 use native.Mathlib.Omega.{arith}
 use mir.Facts.{to_z_pos}
 use mir.Syntax.{w64}
 use borrow.Author.Rules.{rules}
 use lib.IntN.{pos}
-use Rattle.definition.specs.declared.WriteAnswer.{WriteAnswer}
-use Rattle.definition.specs.declared.WriteAnswer.TheVariants.{Length, Refused}
 use Rattle.definition.specs.Written.{write_outcome}
-use Rattle.text.specs.Output.{output, at_front}
+use Rattle.text.specs.Output.{at_front}
 use Rattle.text.specs.Text.{refused_line}
 use Rattle.writer.specs.Outcomes.{outcome_of}
 use Rattle.load_files.specs.LoadFile.{make_file}
 use Rattle.load_file.specs.Printed.{printed_for}
-use Rattle.load_file.proofs.Printing.{Prints, length_printed, Refuses, refused_printed}
+use Rattle.load_file.proofs.Printing.{length_printed, Refuses, refused_printed}
 use Rattle.load_file.proofs.print_file.Goals as goal
 
 pub returns-in-Length : goal.returns-in-Length

@@ -1,6 +1,5 @@
 -- `load_file::numbers::in_32_bits` meets its contract, by its test. Assumes nothing.
 use mathlib.Core.Path.{refl}
-use borrow.Author.Rules.{rules}
 use borrow.Author.Tests.{lt-ltb, le-ltb}
 use Rattle.load_file.specs.Numbers.{in32_bits}
 use Rattle.load_file.proofs.numbers.in_32_bits.Goals as goal

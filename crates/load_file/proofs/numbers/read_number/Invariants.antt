@@ -1,13 +1,9 @@
 -- `load_file::numbers::read_number` meets its contract. The loop's invariant: what is left to be read gives what all gives from the start. The measure is how
 -- many bytes are left. Assumes nothing.
-use Prim.Native.Nat.{ℕ, ◌+◌, ◌-◌, ◌≤◌, ◌<◌}
-use mathlib.Core.Path.{◌≡◌, refl, sym, ◌∙◌}
-use mathlib.Core.Bool.{true, false}
-use native.Mathlib.Omega.{arith}
-use borrow.Author.Rules.{rules}
-use lib.ListN.{length, get_or, drop}
-use Rattle.load_file.specs.Numbers.{is_digit, number_from}
-use Rattle.load_file.proofs.Reading.{digit_inside, one_digit, no_digit}
+use Prim.Native.Nat.{◌-◌, ◌≤◌}
+use mathlib.Core.Path.{◌≡◌}
+use lib.ListN.{length, drop}
+use Rattle.load_file.specs.Numbers.{number_from}
 use Rattle.load_file.proofs.numbers.read_number.Given as goal
 
 abbrev pub invariant-loop-v : goal.invariant-loop-v

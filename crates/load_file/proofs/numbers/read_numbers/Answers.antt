@@ -1,11 +1,9 @@
 -- `load_file::numbers::read_numbers` meets its contract, by its tests. Assumes nothing.
-use Prim.Native.Nat.{ℕ, ◌+◌, ◌<◌}
-use mathlib.Core.Path.{◌≡◌, refl, sym, ap, ◌∙◌}
+use Prim.Native.Nat.{ℕ, ◌<◌}
+use mathlib.Core.Path.{◌≡◌, sym, ◌∙◌}
 use mathlib.Core.List.{List}
 use native.Mathlib.Omega.{arith}
-use borrow.Author.Rules.{rules}
-use lib.ListN.{length, get_or, drop}
-use Rattle.load_file.specs.Numbers.{number_from}
+use lib.ListN.{length, get_or}
 use Rattle.load_file.proofs.Reading.{inside}
 use Rattle.load_file.proofs.Lines.{too_long, no_blank, no_end, goes_on, both_read}
 use Rattle.load_file.proofs.numbers.read_numbers.Goals as goal
