@@ -229,7 +229,7 @@ LOAD_FILE_ASKED = b"2463534242 1000\n"
 
 def load_file():
     """02's heavy file (R-10), as the program load_file makes it: 1,000 drawn statements, a Return, and a Done that nothing does."""
-    made = subprocess.run([os.path.join(ROOT, "target", "bin", "load_file")], input=LOAD_FILE_ASKED, check=True, capture_output=True)
+    made = subprocess.run([os.path.join(ROOT, "crates", "load_file", "out", "load_file")], input=LOAD_FILE_ASKED, check=True, capture_output=True)
     return made.stdout
 
 

@@ -21,7 +21,7 @@ import model  # noqa: E402
 import players_match  # noqa: E402
 
 RULES = os.path.join(ROOT, "tests", "rules")
-SHOW = os.path.join(ROOT, "target", "bin", "show")
+SHOW = os.path.join(ROOT, "crates", "show", "out", "show")
 
 # What the show program prints: it runs function 1, the first of each source. Results and counts are worked out at the rows below.
 LINES = {

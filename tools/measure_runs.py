@@ -23,7 +23,7 @@ def prepared(engine, folder, make, turns):
 
 
 def main():
-    show = sys.argv[1] if len(sys.argv) > 1 else os.path.join(ROOT, "target", "bin", "show")
+    show = sys.argv[1] if len(sys.argv) > 1 else os.path.join(ROOT, "crates", "show", "out", "show")
     engine = measure.Engine("show", lambda path: [show], True)
     for name, make, short, long in programs.PROGRAMS:
         with tempfile.TemporaryDirectory() as folder:
