@@ -9,7 +9,7 @@ use cases::{answers, print};
 use definition::{LONGEST_FILE, MOST_CELLS};
 use progs::ExecutionContext;
 use std::io;
-use std::io::{BufWriter, Write};
+use std::io::{BufWriter, Read, Write};
 
 mod calls;
 mod fields;
@@ -155,15 +155,15 @@ fn perform_all<W: Write>(
 // A file has at most one byte more than a load accepts, and at most one cell more. No case of the model lends more entity cells, those of single statements included.
 fn main(rt: HostRuntime) -> io::Result<()> {
     let mut out = BufWriter::new(rt.alloc(), rt.stdout())?;
-    let mut text = [0u8; 524288];
+    let mut text = Vec::new(rt.alloc());
     let mut file = [0u8; LONGEST_FILE + 1];
     let mut cells = [0u32; MOST_CELLS + 1];
     let mut store = [0u32; 2100];
     let mut entities = [0u32; 65540];
-    let n = streams::read_full(&mut rt.stdin(), &mut text)?;
+    rt.stdin().take(524288).read_to_end(&mut text)?;
     perform_all(
         &mut out,
-        &text[..n],
+        &text,
         &mut file,
         &mut cells,
         &mut store,

@@ -7,7 +7,7 @@ ghost use Rattle.std.specs.Prelude.{◌≤◌, ◌<◌, length};
 use definition::{MOST_CELLS, SAVED_STORE};
 use shown::LONGEST_INPUT;
 use std::io;
-use std::io::{BufWriter, Write};
+use std::io::{BufWriter, Read, Write};
 use text::LINE_ROOM;
 
 fn show_case<W: Write>(
@@ -51,17 +51,17 @@ fn show_cases<W: Write>(
 
 fn main(rt: HostRuntime) -> io::Result<()> {
     let mut out = BufWriter::new(rt.alloc(), rt.stdout())?;
-    let mut text = [0u8; 524288];
+    let mut text = Vec::new(rt.alloc());
     let mut file = [0u8; LONGEST_INPUT + 1];
     let mut cells = [0u32; MOST_CELLS];
     let mut store = [0u32; SAVED_STORE];
     // Show has no entities, so that none of these is looked at.
     let mut entities = [0u32; 1];
     let mut line = [0u8; LINE_ROOM];
-    let n = streams::read_full(&mut rt.stdin(), &mut text)?;
+    rt.stdin().take(524288).read_to_end(&mut text)?;
     show_cases(
         &mut out,
-        &text[..n],
+        &text,
         &mut file,
         &mut cells,
         &mut store,

@@ -1,4 +1,4 @@
-use Rattle.std.proofs.Common.{arith, length-take, rules}
+use Rattle.std.proofs.Common.{arith, length-take}
 use Rattle.call_cases.proofs.perform_line.Goals as goal
 
 pub slice_bounds-perform-end-2 : goal.slice_bounds-perform-end-2

@@ -1,6 +1,5 @@
 use native.Mathlib.Omega.{arith}
 use lib.ListN.{length-take}
-use borrow.Author.Rules.{rules}
 use Rattle.file_cases.proofs.show_case.Goals as goal
 
 pub slice_bounds-show-end-2 : goal.slice_bounds-show-end-2

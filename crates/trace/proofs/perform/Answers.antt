@@ -1,6 +1,5 @@
 use native.Mathlib.Omega.{arith}
 use lib.ListN.{length-take}
-use borrow.Author.Rules.{rules}
 use Rattle.trace.proofs.perform.Goals as goal
 
 pub slice_bounds-read_statement-end-in-115 : goal.slice_bounds-read_statement-end-in-115

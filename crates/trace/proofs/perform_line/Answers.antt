@@ -1,6 +1,5 @@
 use native.Mathlib.Omega.{arith}
 use lib.ListN.{length-take}
-use borrow.Author.Rules.{rules}
 use Rattle.trace.proofs.perform_line.Goals as goal
 
 pub slice_bounds-perform-end-2 : goal.slice_bounds-perform-end-2

@@ -1,5 +1,4 @@
 use mathlib.Core.Path.{◌≡◌}
-use borrow.Author.Rules.{rules}
 use Prim.Native.Nat.{◌≤◌, ◌-◌}
 use lib.ListN.{length}
 use Rattle.trace.proofs.perform_lines.Given as goal

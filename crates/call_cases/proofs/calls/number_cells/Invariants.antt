@@ -1,4 +1,4 @@
-use Rattle.std.proofs.Common.{◌≡◌, ◌-◌, length, rules}
+use Rattle.std.proofs.Common.{◌≡◌, ◌-◌, length}
 use Rattle.call_cases.proofs.calls.number_cells.Given as goal
 
 abbrev pub invariant-loop-i : goal.invariant-loop-i
