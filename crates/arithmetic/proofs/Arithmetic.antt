@@ -13,7 +13,7 @@ use Rattle.definition.specs.Cells.{Typing, cell_of, lookup, passes, cell_access,
 use Rattle.definition.specs.Statements.{floats_effect, vectors_effect, vectors_to_float_effect, vector_result, rounding_effect}
 use Rattle.typed.specs.Typing.{typing}
 use Rattle.typed.specs.Checking.{first, three_refusal, Reaches}
-use Rattle.typed.specs.Laws.{neither, judge_both, judge_three, reach}
+use Rattle.typed.proofs.Laws.{neither, judge_both, judge_three, reach}
 use Rattle.globals.proofs.Statements.{Is}
 
 module _ (g : Typing) (a b c : ℕ) (cells : List ℕ) where

@@ -9,7 +9,7 @@ use Rattle.definition.specs.Floats.{not_v}
 use Rattle.definition.specs.Cells.{Typing, access, must_be_natural, read_access}
 use Rattle.definition.specs.Statements.{values_effect, negates_effect, negates_v_effect, unused}
 use Rattle.typed.specs.Checking.{first, move_refusal, Reaches}
-use Rattle.typed.specs.Laws.{neither, judge_three, read_reach, read_plain}
+use Rattle.typed.proofs.Laws.{neither, judge_three, read_reach, read_plain}
 use Rattle.globals.proofs.Statements.{Is, reach_move}
 
 module _ (g : Typing) (a b c : ℕ) (cells : List ℕ) where

@@ -15,7 +15,7 @@ use Rattle.definition.specs.Cells.{Typing, access, read_access, must_be_natural,
 use Rattle.definition.specs.Statements.{Entities, unused, stored_natural, points_at_field, value_moved, loads_effect, addresses_effect, stores_p_effect}
 use Rattle.definition.proofs.StatementLaws.{entity_cell, pointer_cell}
 use Rattle.typed.specs.Checking.{first, move_refusal, Reaches}
-use Rattle.typed.specs.Laws.{neither, first_first, judge_both, judge_three, stop, go_on, nothing, holds, fails, reaches, read_reach, field_reach}
+use Rattle.typed.proofs.Laws.{neither, first_first, judge_both, judge_three, stop, go_on, nothing, holds, fails, reaches, read_reach, field_reach}
 use Rattle.globals.proofs.Statements.{Is, reach_move}
 use Rattle.entities.specs.Refusals.{operands_refusal, loaded_refusal, loads_refusal, made_conditions, address_refusal, pointed_refusal, stores_p_refusal}
 

@@ -10,7 +10,7 @@ use Rattle.definition.specs.Checks.{judge}
 use Rattle.definition.specs.Cells.{Typing}
 use Rattle.definition.specs.Statements.{Effect, unused}
 use Rattle.typed.specs.Checking.{move_refusal, Reaches}
-use Rattle.typed.specs.Laws.{neither, reach, read_reach}
+use Rattle.typed.proofs.Laws.{neither, reach, read_reach}
 use Rattle.globals.specs.Effects.{after, answered, effect_on}
 
 -- ---- outcomes

@@ -22,7 +22,7 @@ use Rattle.functions.specs.Answers.{fetched}
 use Rattle.functions.specs.Laws.{FetchedAt, fetch_accepts, does_fetched}
 use Rattle.floats.specs.Opcodes.{float_op}
 use Rattle.typed.specs.Checking.{first}
-use Rattle.typed.specs.Laws.{judge_three}
+use Rattle.typed.proofs.Laws.{judge_three}
 use Rattle.arithmetic.proofs.Arithmetic.{own_cell}
 use Rattle.execution.specs.Shapes.{is_floats}
 use Rattle.execution.proofs.Opcodes.{floats_are}

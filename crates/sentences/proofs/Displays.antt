@@ -6,7 +6,7 @@ use lib.ListN.{length}
 use Rattle.definition.specs.declared.WriteAnswer.TheVariants.{Length, Refused}
 use Rattle.text.specs.Output.{Output, output, at_front}
 use Rattle.sentences.specs.Sentence.{Five, sentence, displayed, outcome_of}
-use Rattle.sentences.specs.Laws.{answers_12, answers_length}
+use Rattle.sentences.proofs.Laws.{answers_12, answers_length}
 
 module _ (x : Five) (display : List ℕ) where
   pub short_refused : length display < 120 → outcome_of (Refused 12) display ≡ displayed x display

@@ -1,2 +1,3 @@
 -- What the proofs of `sentences` cite.
 mod Displays
+pub mod Laws

@@ -10,7 +10,7 @@ use Rattle.definition.specs.Checks.{judge}
 use Rattle.definition.specs.Cells.{Typing, addressed, cell_access, access, read_access}
 use Rattle.definition.specs.Statements.{stores_effect, stores_v_effect, unused, moved, stored_natural, reserved_cell, move_access}
 use Rattle.typed.specs.Checking.{first, move_refusal}
-use Rattle.typed.specs.Laws.{neither, judge_both, judge_three, judge_four, cell_reach}
+use Rattle.typed.proofs.Laws.{neither, judge_both, judge_three, judge_four, cell_reach}
 use Rattle.globals.proofs.Statements.{Is}
 use Rattle.stores.specs.Refusals.{raw_refusal, copy_refusal, store_v_refusal}
 

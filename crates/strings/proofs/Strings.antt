@@ -15,7 +15,7 @@ use Rattle.definition.specs.Cells.{Typing, access}
 use Rattle.definition.specs.Strings.{up_to_zero, text_of, same_text, text_access}
 use Rattle.definition.specs.Statements.{strings_effect, negates_s_effect, operand_given, string_access, same_strings, unused}
 use Rattle.typed.specs.Checking.{first, Reaches}
-use Rattle.typed.specs.Laws.{neither, nothing, stop, go_on, holds, fails, judge_both, judge_four, reach}
+use Rattle.typed.proofs.Laws.{neither, nothing, stop, go_on, holds, fails, judge_both, judge_four, reach}
 use Rattle.globals.proofs.Statements.{Is}
 use Rattle.strings.specs.Refusals.{pair_refusal, strings_refusal, not_refusal}
 

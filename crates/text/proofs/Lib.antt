@@ -1,2 +1,3 @@
 -- What the proofs of `text` share.
 pub mod Signed
+pub mod ReadBack

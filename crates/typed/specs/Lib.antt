@@ -1,3 +1,2 @@
 pub mod Typing
 pub mod Checking
-pub mod Laws

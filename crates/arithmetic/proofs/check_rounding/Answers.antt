@@ -1,5 +1,5 @@
 use Rattle.definition.specs.Cells.{access}
-use Rattle.typed.specs.Laws.{stop, passed}
+use Rattle.typed.proofs.Laws.{stop, passed}
 use Rattle.arithmetic.proofs.check_rounding.Goals as goal
 
 pub returns-then-r-ne0 : goal.returns-then-r-ne0

@@ -1,5 +1,5 @@
 use borrow.Author.Rules.{rules}
-use Rattle.typed.specs.Laws.{component_vector, component_float}
+use Rattle.typed.proofs.Laws.{component_vector, component_float}
 use Rattle.arithmetic.proofs.component.Goals as goal
 
 pub overflow_add-result : goal.overflow_add-result

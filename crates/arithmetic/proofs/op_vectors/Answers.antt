@@ -1,4 +1,4 @@
-use Rattle.typed.specs.Laws.{widen}
+use Rattle.typed.proofs.Laws.{widen}
 use native.Mathlib.Omega.{arith}
 use mathlib.Core.Path.{sym, ◌∙◌}
 use Rattle.globals.proofs.Statements.{refused, accepted}

@@ -1,4 +1,4 @@
-use Rattle.typed.specs.Laws.{stop, passed}
+use Rattle.typed.proofs.Laws.{stop, passed}
 use Rattle.comparisons.proofs.check_values.Goals as goal
 
 pub returns-then-r-ne0 : goal.returns-then-r-ne0

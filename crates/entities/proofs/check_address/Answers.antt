@@ -1,5 +1,5 @@
 use mathlib.Core.Path.{sym, ◌∙◌}
-use Rattle.typed.specs.Laws.{stop, passed}
+use Rattle.typed.proofs.Laws.{stop, passed}
 use Rattle.entities.proofs.Entities.{OperandsReach, operands_reach, made_without_entity, made_without_field, made_whole, made_too_high}
 use borrow.Author.Rules.{rules}
 use Rattle.entities.proofs.check_address.Goals as goal

@@ -1,6 +1,6 @@
 use mathlib.Core.Path.{sym, ◌∙◌}
 use native.Mathlib.Omega.{arith}
-use Rattle.typed.specs.Laws.{field_reach}
+use Rattle.typed.proofs.Laws.{field_reach}
 use Rattle.definition.proofs.StatementLaws.{entity_cell}
 use Rattle.typed.specs.Typing.{typing}
 use Rattle.typed.specs.Checking.{Reaches}

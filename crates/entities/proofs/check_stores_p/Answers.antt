@@ -1,7 +1,7 @@
 use mathlib.Core.Path.{sym, ap, ◌∙◌}
 use mathlib.Core.List.{[]}
 use mathlib.Core.Bool.{not}
-use Rattle.typed.specs.Laws.{neither, stop, passed, nothing, holds, fails}
+use Rattle.typed.proofs.Laws.{neither, stop, passed, nothing, holds, fails}
 use Rattle.globals.proofs.Statements.{reach_move}
 use borrow.Author.Rules.{rules}
 use Rattle.entities.proofs.check_stores_p.Goals as goal

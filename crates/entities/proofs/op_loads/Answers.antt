@@ -1,6 +1,6 @@
 use mathlib.Core.Path.{sym, ◌∙◌}
 use native.Mathlib.Omega.{arith}
-use Rattle.typed.specs.Laws.{widen}
+use Rattle.typed.proofs.Laws.{widen}
 use Rattle.globals.proofs.Statements.{refused, accepted}
 use Rattle.typed.specs.Typing.{typing}
 use Rattle.entities.specs.Lent.{entities_in}

@@ -1,7 +1,7 @@
 use mir.Syntax.{w64}
 use mir.Facts.{to_z-of_z}
 use mathlib.Core.Path.{sym, ◌∙◌}
-use Rattle.typed.specs.Laws.{cell_reach}
+use Rattle.typed.proofs.Laws.{cell_reach}
 use Rattle.execution.proofs.Transfers.{branch_refused, branch_jumps, branch_passes}
 use borrow.Author.Rules.{rules}
 use Rattle.execution.proofs.branch.Goals as goal

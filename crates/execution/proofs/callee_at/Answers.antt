@@ -1,5 +1,5 @@
 use mathlib.Core.Path.{sym, ◌∙◌}
-use Rattle.typed.specs.Laws.{cell_reach}
+use Rattle.typed.proofs.Laws.{cell_reach}
 use Rattle.execution.proofs.Transfers.{call_refused, call_goes}
 use borrow.Author.Rules.{rules}
 use Rattle.execution.proofs.callee_at.Goals as goal

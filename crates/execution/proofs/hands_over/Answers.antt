@@ -1,7 +1,7 @@
 use mathlib.Core.Path.{refl, sym, ◌∙◌, ap}
 use borrow.Author.Rules.{rules}
 use Rattle.definition.specs.Operations.{is_handed_over}
-use Rattle.typed.specs.Laws.{cell_reach}
+use Rattle.typed.proofs.Laws.{cell_reach}
 use Rattle.execution.proofs.Transfers.{call_refused, call_goes}
 use Rattle.execution.proofs.Fetching.{other_handed, call_handed, handed_here}
 use Rattle.execution.proofs.hands_over.Goals as goal

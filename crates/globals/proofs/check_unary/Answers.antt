@@ -1,4 +1,4 @@
-use Rattle.typed.specs.Laws.{stop, passed}
+use Rattle.typed.proofs.Laws.{stop, passed}
 use Rattle.globals.proofs.check_unary.Goals as goal
 
 pub returns-then-r-ne0 : goal.returns-then-r-ne0

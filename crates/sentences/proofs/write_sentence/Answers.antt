@@ -13,7 +13,7 @@ use Rattle.definition.specs.Answers.{letters, outcome_word}
 use Rattle.text.specs.Text.{ascii, decimal, signed_decimal}
 use Rattle.text.specs.Output.{output, put_front, Rest, rest_all, rest_room, rest_next, rest_end}
 use Rattle.sentences.specs.Sentence.{five, joined, sentence}
-use Rattle.sentences.specs.Laws.{at_most_120}
+use Rattle.sentences.proofs.Laws.{at_most_120}
 use Rattle.sentences.proofs.write_sentence.Goals as goal
 
 -- the sentence's parts as the calls write them

@@ -1,5 +1,5 @@
 use mathlib.Core.Path.{sym, ◌∙◌}
-use Rattle.typed.specs.Laws.{stop, passed}
+use Rattle.typed.proofs.Laws.{stop, passed}
 use Rattle.stores.proofs.Stores.{reach_copy}
 use borrow.Author.Rules.{rules}
 use Rattle.stores.proofs.check_store_v.Goals as goal

@@ -1,4 +1,4 @@
-use Rattle.typed.specs.Laws.{neither}
+use Rattle.typed.proofs.Laws.{neither}
 use native.Mathlib.Omega.{arith}
 use mathlib.Core.Path.{sym, ◌∙◌}
 use Rattle.globals.proofs.Statements.{refused, accepted, reach_move}

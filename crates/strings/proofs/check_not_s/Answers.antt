@@ -1,5 +1,5 @@
 use Rattle.definition.specs.Cells.{access}
-use Rattle.typed.specs.Laws.{stop, passed}
+use Rattle.typed.proofs.Laws.{stop, passed}
 use Rattle.strings.proofs.check_not_s.Goals as goal
 
 pub returns-then-x-ne0 : goal.returns-then-x-ne0

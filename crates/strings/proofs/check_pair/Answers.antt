@@ -1,4 +1,4 @@
-use Rattle.typed.specs.Laws.{stop, passed}
+use Rattle.typed.proofs.Laws.{stop, passed}
 use Rattle.strings.proofs.Strings.{pair_same, pair_other}
 use Rattle.strings.proofs.check_pair.Goals as goal
 

@@ -4,7 +4,7 @@ use native.Mathlib.Omega.{arith}
 use lib.ListN.{length}
 use Rattle.definition.specs.Cells.{access}
 use Rattle.typed.specs.Typing.{typing}
-use Rattle.typed.specs.Laws.{reach}
+use Rattle.typed.proofs.Laws.{reach}
 use Rattle.functions.specs.Laws.{string_found, string_missing}
 use Rattle.strings.proofs.Strings.{not_accessed, in_range, out_of_range}
 use borrow.Author.Rules.{rules}

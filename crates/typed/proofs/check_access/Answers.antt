@@ -1,4 +1,4 @@
-use Rattle.typed.specs.Laws.{access_vector, access_cell}
+use Rattle.typed.proofs.Laws.{access_vector, access_cell}
 use Rattle.typed.proofs.check_access.Goals as goal
 
 pub returns-then-want-eq-VECTOR : goal.returns-then-want-eq-VECTOR

@@ -1,5 +1,5 @@
 use mathlib.Core.Path.{sym, ◌∙◌}
-use Rattle.typed.specs.Laws.{cell_untyped, cell_below, cell_above}
+use Rattle.typed.proofs.Laws.{cell_untyped, cell_below, cell_above}
 use Rattle.typed.proofs.check_cell.Goals as goal
 
 pub returns-in-Failed : goal.returns-in-Failed

@@ -1,5 +1,5 @@
 use mathlib.Core.Path.{sym, ◌∙◌}
-use Rattle.typed.specs.Laws.{stop, passed, field_cell_reach, field_vector, field_single}
+use Rattle.typed.proofs.Laws.{stop, passed, field_cell_reach, field_vector, field_single}
 use borrow.Author.Rules.{rules}
 use Rattle.typed.proofs.check_field.Goals as goal
 

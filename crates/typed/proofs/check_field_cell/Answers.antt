@@ -1,5 +1,5 @@
 use mathlib.Core.Path.{sym, ◌∙◌}
-use Rattle.typed.specs.Laws.{field_untyped, field_below, field_above}
+use Rattle.typed.proofs.Laws.{field_untyped, field_below, field_above}
 use Rattle.typed.proofs.check_field_cell.Goals as goal
 
 pub returns-in-Failed : goal.returns-in-Failed

@@ -1,5 +1,5 @@
 use mathlib.Core.Path.{sym, ◌∙◌}
-use Rattle.typed.specs.Laws.{access_first, read_stops, read_refused, read_accepted}
+use Rattle.typed.proofs.Laws.{access_first, read_stops, read_refused, read_accepted}
 use borrow.Author.Rules.{rules}
 use Rattle.typed.proofs.check_read.Goals as goal
 

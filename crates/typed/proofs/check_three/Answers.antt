@@ -1,4 +1,4 @@
-use Rattle.typed.specs.Laws.{stop, passed}
+use Rattle.typed.proofs.Laws.{stop, passed}
 use Rattle.typed.proofs.check_three.Goals as goal
 
 pub returns-then-x-ne0 : goal.returns-then-x-ne0

@@ -1,5 +1,5 @@
 use mathlib.Core.Path.{sym, ◌∙◌}
-use Rattle.typed.specs.Laws.{stop, passed, cell_reach, vector_as_floats}
+use Rattle.typed.proofs.Laws.{stop, passed, cell_reach, vector_as_floats}
 use borrow.Author.Rules.{rules}
 use Rattle.typed.proofs.check_vector.Goals as goal
 

@@ -1,0 +1,3 @@
+-- The laws, proved.
+pub mod Loads
+pub mod Ends
