@@ -1,5 +1,7 @@
 #!/usr/bin/env python3
-"""Writes the paths of a proof. A fact that was learnt earlier in a function is named by a path, `c .before .before .check-cell .ensures`, and the paths
+"""Of an older Rattle, for the proof files that had landed with it (docs/PORT.md): today's proofs name each step, and have no paths to fill in.
+
+Writes the paths of a proof. A fact that was learnt earlier in a function is named by a path, `c .before .before .check-cell .ensures`, and the paths
 of a whole proof move when a line of the code does. So a proof may be written without them:
 
     c@check-cell .ensures    the fact of that name that is nearest before `c`
