@@ -7,7 +7,7 @@ use Rattle.functions.specs.PartLaws.{record_ends}
 use Rattle.typed.specs.Typing.{first_in}
 use Rattle.typed.proofs.Lookup.{from_the_first, first_none_left, first_at, first_passed_over, odd_start, even_start}
 use Rattle.typed.proofs.first_type.Goals as goal
-use Rattle.typed.proofs.first_type.Goals.{then-i-eq1+else-u16_at-wanted, else-i-eq1}
+use Rattle.std.proofs.lemmas.Grind.{common_steps}
 
 pub u16_at-requires : goal.u16_at-requires
 u16_at-requires c = omega (arith, record_ends 8 (length c.args.defs.now) 0 (omega arith) (omega arith))
@@ -22,11 +22,7 @@ returns-then-u16_at-wanted c =
     ∙ ap (λ ds. first_in ds s.wanted) (from_the_first s.defs.now)
 
 pub loop-i-init : goal.loop-i-init
-loop-i-init c = (
-  omega arith,
-  omega arith,
-  elim c.if-i-eq1.branch [ then-i-eq1+else-u16_at-wanted w ↦ odd_start _ _ w.if-i-eq1.true _ w.u16_at.ensures w.if-u16_at-wanted.false | else-i-eq1 w ↦ even_start _ _ w.if-i-eq1.false ],
-)
+loop-i-init c = (omega arith, omega arith, grind (arith, common_steps, odd_start, even_start))
 
 pub overflow_mul-at : goal.overflow_mul-at
 overflow_mul-at c =
