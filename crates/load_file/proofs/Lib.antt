@@ -1,4 +1,2 @@
 -- What the proofs of `load_file` share.
 mod Reading
-mod Lines
-mod Printing

@@ -1,26 +1,15 @@
-use native.Mathlib.Omega.{arith}
-use lib.ListN.{length-set}
-use borrow.Author.Tests.{eq-eqb, ne_eqb}
+use Rattle.std.specs.Prelude.{◌+◌, ◌-◌, ◌≡◌}
+use Rattle.std.proofs.Common.{arith, eq-eqb}
 use Rattle.definition.specs.Statements.{value_moved}
-use Rattle.entities.proofs.Entities.{vector_reach}
+use Rattle.entities.proofs.Entities.{three_taken, three_put, vector_reach}
 use Rattle.entities.proofs.move_value.Goals as goal
-
-pub bounds-from-i-then-t-eq-VECTOR : goal.bounds-from-i-then-t-eq-VECTOR
-bounds-from-i-then-t-eq-VECTOR c = let h = vector_reach _ _ _ c.if-t-eq-VECTOR.true c.requires.0 in omega arith
-
-pub bounds-to-j-then-t-eq-VECTOR : goal.bounds-to-j-then-t-eq-VECTOR
-bounds-to-j-then-t-eq-VECTOR c = let h = vector_reach _ _ _ c.if-t-eq-VECTOR.true c.requires.1 in simp length-set (omega arith)
-
-pub bounds-from-i-then-t-eq-VECTOR-2 : goal.bounds-from-i-then-t-eq-VECTOR-2
-bounds-from-i-then-t-eq-VECTOR-2 c = let h = vector_reach _ _ _ c.if-t-eq-VECTOR.true c.requires.0 in omega arith
-
-pub bounds-to-j-then-t-eq-VECTOR-2 : goal.bounds-to-j-then-t-eq-VECTOR-2
-bounds-to-j-then-t-eq-VECTOR-2 c = let h = vector_reach _ _ _ c.if-t-eq-VECTOR.true c.requires.1 in simp length-set (omega arith)
 
 pub returns-then-t-eq-VECTOR : goal.returns-then-t-eq-VECTOR
 unfolding value_moved
-returns-then-t-eq-VECTOR c = rw (eq-eqb _ _ c.if-t-eq-VECTOR.true)
-
-pub returns-else-t-eq-VECTOR : goal.returns-else-t-eq-VECTOR
-unfolding value_moved
-returns-else-t-eq-VECTOR c = rw (ne_eqb _ _ c.if-t-eq-VECTOR.false)
+returns-then-t-eq-VECTOR c =
+    let s = c.args in
+    let three = c.if-t-eq-VECTOR.true in
+    let taken : s.i + 3 - s.i ≡ 3 = omega arith in
+    let put : s.j + 3 - s.j ≡ 3 = omega arith in
+    let from = three_taken s.from.now s.i (vector_reach _ _ _ three c.requires.0) in
+    rw (eq-eqb _ _ three, put, c.copy_from_slice.ensures.after, taken, from) (three_put s.to.now s.j _ _ _ (vector_reach _ _ _ three c.requires.1))
