@@ -1,16 +1,15 @@
-// A state is the host's to make up: a number of it is changed, by the numbering of tests/model/README.md.
-use definition::{FileRecord, GREATEST_DEPTH, Settings};
-use functions::fetch;
+// A state is the host's to make up: a number of it is changed, by the numbering of tests/model/README.md. So each number has an arm.
+use definition::{FileRecord, Settings};
 use progs::ExecutionContext;
+use vectors::LineError;
 
 // For a number below 0, which a state can't hold, another than the file's.
 fn natural(v: i64) -> usize {
-    fetch::place_of(usize::MAX, v)
+    usize::try_from(v).unwrap_or(usize::MAX)
 }
 
 // The file's length, the header's lump numbers in its order, the cells per entity.
-fn with_number(file: FileRecord, i: usize, v: usize) -> FileRecord {
-    let mut file = file;
+fn set_number(file: &mut FileRecord, i: usize, v: usize) {
     match i {
         0 => file.length = v,
         1 => file.statements.offset = v,
@@ -27,54 +26,37 @@ fn with_number(file: FileRecord, i: usize, v: usize) -> FileRecord {
         12 => file.globals.count = v,
         _ => file.entityfields = v,
     }
-    file
 }
 
-// The settings, from the check number on.
-fn with_setting(settings: Settings, i: usize, v: usize) -> Settings {
-    let mut settings = settings;
+// From the check number on.
+fn set_setting(settings: &mut Settings, i: usize, v: usize) {
     match i {
         81 => settings.check_number = v,
         82 => settings.depth = v,
         83 => settings.saved = v,
         _ => settings.limit = v,
     }
-    settings
 }
 
-// Position and function of a frame, the lowest first.
-fn with_frame(context: ExecutionContext, i: usize, v: i64) -> ExecutionContext {
-    let mut next = context;
-    let k = i / 2 % GREATEST_DEPTH;
-    let mut frame = next.frames[k];
-    if i % 2 == 0 {
-        frame.instr_id = v;
-    } else {
-        frame.func_id = natural(v);
-    }
-    next.frames[k] = frame;
-    next
-}
-
-pub fn with_field(context: ExecutionContext, i: usize, v: i64) -> ExecutionContext {
-    let mut next = context;
-    if i < 14 {
-        let file = context.file;
-        next.file = with_number(file, i, natural(v));
-        return next;
-    }
-    if 80 < i && i < 85 {
-        let settings = context.settings;
-        next.settings = with_setting(settings, i, natural(v));
-        return next;
-    }
+pub fn set(context: &mut ExecutionContext, i: usize, v: i64) -> Result<(), LineError> {
     match i {
-        14 => next.pc = v,
-        15 => next.current_function = natural(v),
-        16 => next.depth = natural(v),
-        17 => next.saved = natural(v),
-        80 => next.entity_count = natural(v),
-        _ => return with_frame(context, i - 18, v),
+        0..=13 => set_number(&mut context.file, i, natural(v)),
+        14 => context.pc = v,
+        15 => context.current_function = natural(v),
+        16 => context.depth = natural(v),
+        17 => context.saved = natural(v),
+        // Position and function of a frame, the lowest first.
+        18..=79 => {
+            let frame = &mut context.frames[(i - 18) / 2];
+            if i % 2 == 0 {
+                frame.instr_id = v;
+            } else {
+                frame.func_id = natural(v);
+            }
+        }
+        80 => context.entity_count = natural(v),
+        81..=84 => set_setting(&mut context.settings, i, natural(v)),
+        _ => return Err(LineError::Unknown),
     }
-    next
+    Ok(())
 }

@@ -1,71 +1,20 @@
 -- The numbers of a list, one call after the other.
-use Prim.Native.Nat.{ℕ, suc, ◌+◌, ◌*◌, ◌-◌, ◌<◌, ◌≤◌}
-use mathlib.Core.Path.{◌≡◌, sym, ◌∙◌, ap, subst}
-use mathlib.Core.List.{List, [], ◌∷◌}
-use mathlib.Core.Bool.{Bool, true, false, ◌||◌}
-use native.Mathlib.Omega.{arith}
-use borrow.Author.Tests.{ne_eqb, lt-ltb, le-ltb}
-use lib.IntN.{ℤ, pos}
-use lib.ListN.{length, get_or, set}
-use lib.Seq.{sets}
-use lib.Dec.{ltb}
+use Rattle.std.proofs.Common.{ℕ, suc, ◌+◌, ◌*◌, ◌-◌, ◌<◌, ◌≤◌, ◌≡◌, sym, ◌∙◌, ap, subst, List, [], ◌∷◌, Bool, true, false, arith, le-ltb, ℤ, set}
+use Rattle.std.proofs.lemmas.List.Edits.{sets}
 use Rattle.definition.specs.File.{records}
-use Rattle.definition.specs.Statements.{place_of}
 use Rattle.definition.specs.Machine.{Program, Config}
 use Rattle.definition.proofs.CheckLaws.{and_left, and_right}
-use Rattle.definition.proofs.PlaceLaws.{below_place, place_natural}
 use Rattle.definition.specs.Calls.{Call, after}
 use Rattle.progs.specs.Contexts.{config}
 use Rattle.call_list.specs.declared.Replied.{Replied}
-use Rattle.call_list.specs.Encoding.{kind_in, call_numbered, call_in, write_formed, formed_at, all_true, Reply, reply, after_all, numbers, replies, AfterCall, replied_of, after_call}
+use Rattle.call_list.specs.declared.Call as code
+use Rattle.call_list.specs.Encoding.{call_in, call_of, formed_numbered, formed_at, all_true, Reply, reply, after_all, numbers, replies, AfterCall, replied_of, after_call}
 
 -- ---- one call
 
-module _ (numbers : List ℤ) (kind : ℕ) (a b : ℤ) where
-  pub formed_value : kind ≡ 6 → (place : ℕ) → place ≡ place_of 4294967296 b → ltb place 4294967296 ≡ write_formed numbers kind a b
-  formed_value k place p = rw (k, below_place 4294967296 b, ← p)
-
-  module _ (k : kind ≡ 6 → ⊥) (first : ℕ) (f : first ≡ place_of (length numbers + 1) a) where
-    pub formed_none : length numbers < first → false ≡ write_formed numbers kind a b
-    formed_none h = rw (ne_eqb kind 6 k, below_place (length numbers + 1) a, ← f, le-ltb first (length numbers + 1) (omega arith))
-
-    pub formed_numbers : first ≤ length numbers → (room place : ℕ) → room ≡ length numbers + 1 - first → place ≡ place_of room b → ltb place room ≡ write_formed numbers kind a b
-    formed_numbers h room place r p =
-        let there : first < length numbers + 1 = omega arith in
-        rw (
-          ne_eqb kind 6 k,
-          below_place (length numbers + 1) a,
-          ← f,
-          lt-ltb first (length numbers + 1) there,
-          place_natural (length numbers + 1) a (rw f at there),
-          ← f,
-          ← r,
-          below_place room b,
-          ← p,
-        )
-
-module _ (list numbers : List ℤ) (at kind : ℕ) (k : kind ≡ place_of 8 (get_or list at (pos 0))) where
-  abbrev formed : Bool
-  formed = write_formed numbers kind (get_or list (at + 1) (pos 0)) (get_or list (at + 2) (pos 0))
-
-  pub formed_plain : kind < 6 → true ≡ formed_at list numbers at
-  unfolding formed_at
-  formed_plain h = rw (← k, lt-ltb kind 8 (omega arith), lt-ltb kind 6 h)
-
-  pub formed_unknown : 7 < kind → false ≡ formed_at list numbers at
-  unfolding formed_at
-  formed_unknown h = rw (← k, le-ltb kind 8 h)
-
-  pub formed_write : 6 ≤ kind → kind ≤ 7 → formed ≡ formed_at list numbers at
-  unfolding formed_at
-  formed_write h l = rw (← k, lt-ltb kind 8 (omega arith), le-ltb kind 6 h)
-
-  -- what a well formed call's numbers are good for
-  pub formed_good : formed_at list numbers at ≡ true → (ltb kind 6 || formed) ≡ true
-  unfolding formed_at
-  formed_good h =
-      let w = write_formed numbers (kind_in list at) (get_or list (at + 1) (pos 0)) (get_or list (at + 2) (pos 0)) in
-      rw k (and_right (ltb (kind_in list at) 8) (ltb (kind_in list at) 6 || w) h)
+pub no_call : (numbers : List ℤ) (kind : ℕ) (a b : ℤ) → 8 ≤ kind → false ≡ formed_numbered numbers kind a b
+unfolding formed_numbered
+no_call numbers kind a b h = rw (le-ltb kind 8 h)
 
 -- ---- the calls that are left
 
@@ -128,13 +77,11 @@ formed_start formed n = let a : n - 0 ≡ n = omega arith in rw a
 
 -- the call that is performed is the one whose numbers are there
 pub left_replied : (P : Program) (list numbers : List ℤ) (n : ℕ) (c₀ c : Config) (answers₀ answers : List ℕ) (i : ℕ) → Left P (call_in list numbers) n c₀ c answers₀ answers i → i < n
-    → (kind : ℕ) → kind ≡ place_of 8 (get_or list (3 * i) (pos 0))
-    → (r : Replied) (cells saved entities : List ℕ)
-    → replied_of r cells saved entities ≡ after_call P (call_numbered numbers kind (get_or list (3 * i + 1) (pos 0)) (get_or list (3 * i + 2) (pos 0))) c
+    → (k : code.Call) → call_of numbers k ≡ call_in list numbers (3 * i)
+    → (r : Replied) (cells saved entities : List ℕ) → replied_of r cells saved entities ≡ after_call P (call_of numbers k) c
     → Left P (call_in list numbers) n c₀ (config r.context cells saved entities) answers₀ (set (set (set answers (3 * i) r.word) (3 * i + 1) r.detail) (3 * i + 2) r.count) (i + 1)
-unfolding call_in
-left_replied P list numbers n c₀ c answers₀ answers i l h kind k r cells saved entities e =
-    let o : replied_of r cells saved entities ≡ after_call P (call_in list numbers (3 * i)) c = e ∙ ap (λ (z : ℕ). after_call P (call_numbered numbers z (get_or list (3 * i + 1) (pos 0)) (get_or list (3 * i + 2) (pos 0))) c) k in
+left_replied P list numbers n c₀ c answers₀ answers i l h k f r cells saved entities e =
+    let o : replied_of r cells saved entities ≡ after_call P (call_in list numbers (3 * i)) c = e ∙ ap (λ (z : Call). after_call P z c) f in
     left_on P (call_in list numbers) n c₀ c answers₀ answers i l h (config r.context cells saved entities) (replied_of r cells saved entities).reply
     (ap (λ (z : AfterCall). z.config) o)
     (ap (λ (z : AfterCall). z.reply) o)

@@ -1,11 +1,8 @@
 -- A LIST OF CALLS IN NUMBERS: three to a call (what it is, and up to two arguments), and three to its answer (word, detail, count). Beside the list stand the
 -- numbers of its pairs that are written together. What performing a list leaves is the definition's calls, one after the other.
-use Rattle.std.specs.Prelude.{ℕ, ◌+◌, ◌-◌, ◌/◌, ◌%◌, List, [], ◌∷◌, ◌++◌, Bool, true, ◌&&◌, ◌||◌, cond, ℤ, pos, length, get_or, take, drop, eqb, leb, ltb}
+use Rattle.std.specs.Prelude.{ℕ, ◌+◌, ◌-◌, ◌/◌, ◌%◌, List, [], ◌∷◌, ◌++◌, Bool, true, ◌&&◌, ◌||◌, cond, ℤ, pos, length, ◌≤◌, ⊤, Result, Ok, Err, get_or, take, drop, eqb, leb, ltb}
 use Rattle.std.proofs.lemmas.List.Edits.{sets}
-use Rattle.definition.specs.declared.Answer.{Answer}
-use Rattle.definition.specs.declared.Answer.TheVariants as answer
-use Rattle.definition.specs.declared.ReadAnswer.{ReadAnswer}
-use Rattle.definition.specs.declared.ReadAnswer.TheVariants as read
+use Rattle.definition.specs.declared.refusal.Refusal.{Refusal}
 use Rattle.definition.specs.declared.StatementAnswer.{StatementAnswer}
 use Rattle.definition.specs.declared.RunAnswer.{RunAnswer}
 use Rattle.definition.specs.declared.Handover.{Handover}
@@ -13,15 +10,17 @@ use Rattle.definition.specs.File.{records}
 use Rattle.definition.specs.Statements.{place_of}
 use Rattle.definition.specs.Machine.{Program, with_unpacked, Config}
 use Rattle.definition.specs.Operations.{natural, below, host_enter, statement, run, carry_on, abandon, raw_read, raw_write, write_all}
-use Rattle.definition.specs.Answers.{answer_of, read_answer, statement_outcome}
+use Rattle.definition.specs.Checks.{Checked, refused, accepted}
+use Rattle.definition.specs.Refusals.{checked}
+use Rattle.definition.specs.Answers.{statement_outcome}
 use Rattle.definition.specs.Answers.{Word, ended, spent, completed_word, refused_word, builtin, opcode, handover_word, handover_number, outcome_word, outcome_detail, statement_word, statement_detail}
 use Rattle.definition.specs.Calls.{Call, enters, steps, runs, runs_unpacked, carries, abandons, reads, writes, writes_all, lends, after}
 use Rattle.progs.specs.declared.ExecutionContext.{ExecutionContext}
 use Rattle.progs.specs.Contexts.{config}
-use Rattle.call_list.specs.declared.ListAnswer.{ListAnswer}
-use Rattle.call_list.specs.declared.ListAnswer.TheVariants.{Performed, Malformed}
+use Rattle.call_list.specs.declared.Malformed.{Malformed}
+use Rattle.call_list.specs.declared.Call as code
+use Rattle.call_list.specs.declared.Call.TheVariants.{Enter, Step, Run, CarryOn, Abandon, Read, Write, WriteAll}
 use Rattle.call_list.specs.declared.Replied.{Replied}
-use Rattle.call_list.specs.declared.Listed.{Listed}
 
 -- ---- a call
 
@@ -52,9 +51,11 @@ abbrev pub write_formed : List ℤ → ℕ → ℤ → ℤ → Bool
 write_formed numbers k a b = cond (eqb k 6) (below b 4294967296) (below a (length numbers + 1) && below b (length numbers + 1 - natural a))
 
 -- it is one of the eight, and what it is to write is well formed
+unfoldable pub formed_numbered : List ℤ → ℕ → ℤ → ℤ → Bool
+formed_numbered numbers k a b = ltb k 8 && (ltb k 6 || write_formed numbers k a b)
+
 unfoldable pub formed_at : List ℤ → List ℤ → ℕ → Bool
-formed_at list numbers at =
-    ltb (kind_in list at) 8 && (ltb (kind_in list at) 6 || write_formed numbers (kind_in list at) (get_or list (at + 1) (pos 0)) (get_or list (at + 2) (pos 0)))
+formed_at list numbers at = formed_numbered numbers (kind_in list at) (get_or list (at + 1) (pos 0)) (get_or list (at + 2) (pos 0))
 
 unfoldable pub all_true : List Bool → Bool
 all_true [] = true
@@ -86,13 +87,19 @@ word_number opcode = 5
 abbrev pub reply_of : Word → ℕ → ℕ → Reply
 reply_of w detail count = record { word = word_number w; detail = detail; count = count }
 
-abbrev pub answer_reply : Answer → Reply
-answer_reply answer.Accepted = reply_of completed_word 0 0
-answer_reply (answer.Refused n) = reply_of refused_word n 0
+abbrev pub refused_reply : ℕ → Reply
+refused_reply n = reply_of refused_word n 0
 
-abbrev pub read_reply : ReadAnswer → Reply
-read_reply (read.Value v) = reply_of completed_word v 0
-read_reply (read.Refused n) = reply_of refused_word n 0
+-- the detail is the number of the refusal, or what the operation gives
+abbrev pub given_reply : {A : Type 0} → (A → ℕ) → Checked A → Reply
+given_reply detail (refused n) = refused_reply n
+given_reply detail (accepted a) = reply_of completed_word (detail a) 0
+
+abbrev pub answer_reply : {A : Type 0} → Checked A → Reply
+answer_reply x = given_reply (λ a. 0) x
+
+abbrev pub value_reply : Checked ℕ → Reply
+value_reply x = given_reply (λ v. v) x
 
 abbrev pub handover_reply : Handover → ℕ → Reply
 handover_reply h count = reply_of (handover_word h) (handover_number h) count
@@ -104,15 +111,15 @@ abbrev pub run_reply : RunAnswer → ℕ → Reply
 run_reply a count = reply_of (outcome_word a) (outcome_detail a) count
 
 unfoldable pub reply : Program → Call → Config → Reply
-reply P (enters f) c = answer_reply (answer_of (host_enter P f c))
+reply P (enters f) c = answer_reply (host_enter P f c)
 reply P steps c = statement_reply (statement_outcome c (statement P c)).answer
 reply P (runs target limit) c = run_reply (run P target limit c).answer (run P target limit c).count
 reply P (runs_unpacked buffer target limit) c = let ran = run (with_unpacked P buffer) target limit c in run_reply ran.answer ran.count
-reply P carries c = answer_reply (answer_of (carry_on P c))
-reply P (abandons target) c = answer_reply (answer_of (abandon P target c))
-reply P (reads a) c = read_reply (read_answer (raw_read P a c))
-reply P (writes a v) c = answer_reply (answer_of (raw_write P a v c))
-reply P (writes_all numbers) c = answer_reply (answer_of (write_all P numbers c))
+reply P carries c = answer_reply (carry_on P c)
+reply P (abandons target) c = answer_reply (abandon P target c)
+reply P (reads a) c = value_reply (raw_read P a c)
+reply P (writes a v) c = answer_reply (raw_write P a v c)
+reply P (writes_all numbers) c = answer_reply (write_all P numbers c)
 reply P (lends entities) c = reply_of completed_word 0 0
 
 -- ---- a list, "each later one what the call before it left"
@@ -129,7 +136,7 @@ replies P [] c = []
 replies P (k ∷ ks) c = numbers (reply P k c) ++ replies P ks (after P k c)
 
 pub record Outcome : Type 0 where
-  pub answer : ListAnswer
+  pub answer : Result (Unit {0}) Malformed
   pub config : Config
   pub answers : List ℕ
 
@@ -138,8 +145,8 @@ unfoldable pub performed : Program → List ℤ → List ℤ → Config → List
 performed P list numbers c answers =
     let calls = decoded list numbers in
     cond (well_formed list numbers (length answers))
-    (record { answer = Performed; config = after_all P calls c; answers = sets answers 0 (replies P calls c) })
-    (record { answer = Malformed; config = c; answers = answers })
+    (record { answer = Ok tt; config = after_all P calls c; answers = sets answers 0 (replies P calls c) })
+    (record { answer = Err (record {}); config = c; answers = answers })
 
 -- ---- what the code answers
 
@@ -156,5 +163,32 @@ replied_of r cells saved entities = record { reply = record { word = r.word; det
 abbrev pub after_call : Program → Call → Config → AfterCall
 after_call P k c = record { reply = reply P k c; config = after P k c }
 
-abbrev pub outcome_of : Listed → List ℕ → List ℕ → List ℕ → List ℕ → Outcome
-outcome_of r answers cells saved entities = record { answer = r.answer; config = config r.context cells saved entities; answers = answers }
+abbrev pub outcome_of : Result (Unit {0}) Malformed → ExecutionContext → List ℕ → List ℕ → List ℕ → List ℕ → Outcome
+outcome_of r x answers cells saved entities = record { answer = r; config = config x cells saved entities; answers = answers }
+
+abbrev pub checked_reply : Result (Unit {0}) Refusal → Reply
+checked_reply r = answer_reply (checked r)
+
+abbrev pub read_reply : Result ℕ Refusal → Reply
+read_reply r = value_reply (checked r)
+
+-- a call as the code has it, whose pairs are some of the numbers
+abbrev pub call_of : List ℤ → code.Call → Call
+call_of numbers (Enter f) = enters f
+call_of numbers Step = steps
+call_of numbers (Run target limit) = runs target limit
+call_of numbers CarryOn = carries
+call_of numbers (Abandon target) = abandons target
+call_of numbers (Read a) = reads a
+call_of numbers (Write a v) = writes a v
+call_of numbers (WriteAll first count) = writes_all (take count (drop first numbers))
+
+abbrev pub IsWithin : List ℤ → code.Call → Type 0
+IsWithin numbers (Enter f) = ⊤
+IsWithin numbers Step = ⊤
+IsWithin numbers (Run target limit) = ⊤
+IsWithin numbers CarryOn = ⊤
+IsWithin numbers (Abandon target) = ⊤
+IsWithin numbers (Read a) = ⊤
+IsWithin numbers (Write a v) = ⊤
+IsWithin numbers (WriteAll first count) = first + count ≤ length numbers

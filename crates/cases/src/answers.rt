@@ -1,11 +1,9 @@
-// An answer of any operation, as a word and a number.
-use crate::print;
-use definition::{Answer, Handover, ReadAnswer, RunAnswer, StatementAnswer};
-use progs::ExecutionContext;
-use std::io;
-use std::io::Write;
+// An answer of any operation, as a word and a number. No Result: that a run ended or was spent is neither a value nor a failure.
+use definition::refusal::Refusal;
+use definition::{Handover, RunAnswer, StatementAnswer};
+use std::fmt;
 
-#[derive(Clone, Copy)]
+#[derive(Clone, Copy, Debug, PartialEq, Eq)]
 pub enum Said {
     Accepted(u32),
     Ended,
@@ -15,63 +13,64 @@ pub enum Said {
     Opcode(u32),
 }
 
-pub fn of_handover(h: Handover) -> Said {
-    match h {
-        Handover::Builtin(n) => Said::Builtin(n),
-        Handover::Opcode(n) => Said::Opcode(n),
+impl From<Handover> for Said {
+    fn from(handover: Handover) -> Said {
+        match handover {
+            Handover::Builtin(n) => Said::Builtin(n),
+            Handover::Opcode(n) => Said::Opcode(n),
+        }
     }
 }
 
-pub fn of_answer(answer: Answer) -> Said {
-    match answer {
-        Answer::Accepted => Said::Accepted(0),
-        Answer::Refused(n) => Said::Refused(n),
+impl From<Result<(), Refusal>> for Said {
+    fn from(answer: Result<(), Refusal>) -> Said {
+        match answer {
+            Ok(()) => Said::Accepted(0),
+            Err(refusal) => Said::Refused(refusal.number()),
+        }
     }
 }
 
-pub fn of_read(answer: ReadAnswer) -> Said {
-    match answer {
-        ReadAnswer::Value(v) => Said::Accepted(v),
-        ReadAnswer::Refused(n) => Said::Refused(n),
+// What a raw read answers.
+impl From<Result<u32, Refusal>> for Said {
+    fn from(answer: Result<u32, Refusal>) -> Said {
+        match answer {
+            Ok(value) => Said::Accepted(value),
+            Err(refusal) => Said::Refused(refusal.number()),
+        }
     }
 }
 
-pub fn of_statement(answer: StatementAnswer) -> Said {
-    match answer {
-        StatementAnswer::Completed => Said::Accepted(0),
-        StatementAnswer::Refused(n) => Said::Refused(n),
-        StatementAnswer::HandedOver(h) => of_handover(h),
+impl From<StatementAnswer> for Said {
+    fn from(answer: StatementAnswer) -> Said {
+        match answer {
+            StatementAnswer::Completed => Said::Accepted(0),
+            StatementAnswer::Refused(n) => Said::Refused(n),
+            StatementAnswer::HandedOver(handover) => handover.into(),
+        }
     }
 }
 
-pub fn of_run(answer: RunAnswer) -> Said {
-    match answer {
-        RunAnswer::Ended => Said::Ended,
-        RunAnswer::Spent => Said::Spent,
-        RunAnswer::Refused(n) => Said::Refused(n),
-        RunAnswer::HandedOver(h) => of_handover(h),
+impl From<RunAnswer> for Said {
+    fn from(answer: RunAnswer) -> Said {
+        match answer {
+            RunAnswer::Ended => Said::Ended,
+            RunAnswer::Spent => Said::Spent,
+            RunAnswer::Refused(n) => Said::Refused(n),
+            RunAnswer::HandedOver(handover) => handover.into(),
+        }
     }
 }
 
-pub fn print<W: Write>(out: &mut W, said: Said) -> io::Result<()> {
-    match said {
-        Said::Accepted(n) => print::said(out, b"accepted", n as u64),
-        Said::Ended => print::said(out, b"ended", 0),
-        Said::Spent => print::said(out, b"spent", 0),
-        Said::Refused(n) => print::said(out, b"refused", n as u64),
-        Said::Builtin(n) => print::said(out, b"builtin", n as u64),
-        Said::Opcode(n) => print::said(out, b"opcode", n as u64),
+impl fmt::Display for Said {
+    fn fmt<W: fmt::Write>(&self, f: &mut fmt::Formatter<W>) -> fmt::Result {
+        match self {
+            Said::Accepted(n) => write!(f, "accepted {n}"),
+            Said::Ended => write!(f, "ended 0"),
+            Said::Spent => write!(f, "spent 0"),
+            Said::Refused(n) => write!(f, "refused {n}"),
+            Said::Builtin(n) => write!(f, "builtin {n}"),
+            Said::Opcode(n) => write!(f, "opcode {n}"),
+        }
     }
-}
-
-pub fn print_with_state<W: Write>(
-    out: &mut W,
-    said: Said,
-    context: ExecutionContext,
-    cells: &[u32],
-    store: &[u32],
-    entities: &[u32],
-) -> io::Result<()> {
-    print(out, said)?;
-    print::state(out, context, cells, store, entities)
 }

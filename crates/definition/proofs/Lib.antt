@@ -1,3 +1,4 @@
+pub mod RefusalLaws
 -- Laws of the definition, and demand 3 proved. Read in this order.
 pub mod CheckLaws
 pub mod RecordLaws

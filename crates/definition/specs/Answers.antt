@@ -10,22 +10,22 @@ use Rattle.definition.specs.declared.RunAnswer.{RunAnswer}
 use Rattle.definition.specs.declared.RunAnswer.TheVariants as run
 use Rattle.definition.specs.declared.StatementAnswer.{StatementAnswer}
 use Rattle.definition.specs.declared.StatementAnswer.TheVariants as statement
-use Rattle.definition.specs.declared.Answer.{Answer}
-use Rattle.definition.specs.declared.Answer.TheVariants as answer
-use Rattle.definition.specs.declared.ReadAnswer.{ReadAnswer}
-use Rattle.definition.specs.declared.ReadAnswer.TheVariants as read
 use Rattle.definition.specs.Checks.{Checked, refused, accepted}
 use Rattle.definition.specs.Machine.{State, Config, start_state, Stepped, completed, refused_step, handed_step}
 
 -- ---- load, entry, carry on, abandon, raw write
+
+pub data Answer : Type 0 where
+  Accepted : Answer
+  Refused : ℕ → Answer
 
 pub record Outcome : Type 0 where
   pub answer : Answer
   pub config : Config
 
 abbrev pub answer_of : {A : Type 0} → Checked A → Answer
-answer_of (refused n) = answer.Refused n
-answer_of (accepted a) = answer.Accepted
+answer_of (refused n) = Answer.Refused n
+answer_of (accepted a) = Answer.Accepted
 
 abbrev pub kept : Config → Checked Config → Config
 kept c (refused n) = c
@@ -63,14 +63,18 @@ load_outcome cells saved entities x = outcome (record { state = no_state; cells 
 
 -- the number of the refusal, 0 where there is none
 abbrev pub refusal_number : Answer → ℕ
-refusal_number answer.Accepted = 0
-refusal_number (answer.Refused n) = n
+refusal_number Answer.Accepted = 0
+refusal_number (Answer.Refused n) = n
 
 -- ---- raw read, one statement
 
+pub data ReadAnswer : Type 0 where
+  Value : ℕ → ReadAnswer
+  Refused : ℕ → ReadAnswer
+
 abbrev pub read_answer : Checked ℕ → ReadAnswer
-read_answer (refused n) = read.Refused n
-read_answer (accepted v) = read.Value v
+read_answer (refused n) = ReadAnswer.Refused n
+read_answer (accepted v) = ReadAnswer.Value v
 
 pub record StatementOutcome : Type 0 where
   pub answer : StatementAnswer
@@ -83,12 +87,12 @@ statement_outcome c (handed_step h) = record { answer = statement.HandedOver h; 
 
 -- what was read, 0 where it was refused; and the number of the refusal, 0 where there is none
 abbrev pub read_value : ReadAnswer → ℕ
-read_value (read.Value v) = v
-read_value (read.Refused n) = 0
+read_value (ReadAnswer.Value v) = v
+read_value (ReadAnswer.Refused n) = 0
 
 abbrev pub read_refusal : ReadAnswer → ℕ
-read_refusal (read.Value v) = 0
-read_refusal (read.Refused n) = n
+read_refusal (ReadAnswer.Value v) = 0
+read_refusal (ReadAnswer.Refused n) = n
 
 -- ---- a run: "outcome (ended, spent, refused, builtin or opcode), detail (a number, else 0)"
 

@@ -1,5 +1,6 @@
 -- The definition of document 01 with the changes of 02, then demand 3 on it. Read in this order.
 pub mod Checks
+pub mod Refusals
 pub mod File
 pub mod Floats
 pub mod Cells

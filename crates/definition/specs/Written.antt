@@ -1,15 +1,15 @@
 -- WRITING PROGRAM FILES. Document 02, R-6: "The machine writes a loaded program: header, then the six lumps in header order without gaps, profile
 -- numbers 0." What is written is made of what a file says, `File: Contents`, and of the check number: so "placement" and "profile numbers", which no
 -- contents have, can't change it, and neither can a running cell.
-use Rattle.std.specs.Prelude.{ℕ, ◌+◌, ◌-◌, ◌*◌, ◌/◌, ◌%◌, List, [], ◌∷◌, ◌++◌, ◌&&◌, length, drop, replicate, leb}
+use Rattle.std.specs.Prelude.{ℕ, ◌+◌, ◌-◌, ◌*◌, ◌/◌, ◌%◌, List, [], ◌∷◌, ◌++◌, ◌&&◌, length, drop, replicate, leb, Result}
 use Rattle.definition.specs.declared.Lump.{Lump}
 use Rattle.definition.specs.declared.FileRecord.{FileRecord}
 use Rattle.definition.specs.declared.Statement.{Statement}
 use Rattle.definition.specs.declared.Definition.{Definition}
 use Rattle.definition.specs.declared.FunctionDef.{FunctionDef}
-use Rattle.definition.specs.declared.WriteAnswer.{WriteAnswer}
-use Rattle.definition.specs.declared.WriteAnswer.TheVariants as write
+use Rattle.definition.specs.declared.refusal.Refusal.{Refusal}
 use Rattle.definition.specs.Checks.{Conditions, ◌otherwise◌, Checked, refused, accepted, guard}
+use Rattle.definition.specs.Refusals.{checked}
 use Rattle.definition.specs.File.{version, check_number, statement_size, definition_size, function_size, cell_size, header_length, longest_file, least_cells, Contents, contents_of}
 use Rattle.definition.specs.Machine.{Config}
 use Rattle.definition.specs.Load.{program_of}
@@ -172,11 +172,15 @@ write_conditions file room c = (sound (program_of file) c otherwise 13) ∷ room
 unfoldable pub write_file : List ℕ → List ℕ → Config → Checked Image
 write_file file output c = guard (write_conditions file (length output) c) (placed (image (check_held c) file) output)
 
--- what is answered, and the output buffer after it: "refused 34 and nothing is written"
+-- what is answered, the length of what was written, and the output buffer after it: "refused 34 and nothing is written"
 pub record WriteOutcome : Type 0 where
-  pub answer : WriteAnswer
+  pub answer : Checked ℕ
   pub output : List ℕ
 
 abbrev pub write_outcome : List ℕ → Checked Image → WriteOutcome
-write_outcome output (refused n) = record { answer = write.Refused n; output = output }
-write_outcome output (accepted i) = record { answer = write.Length i.length; output = i.output }
+write_outcome output (refused n) = record { answer = refused n; output = output }
+write_outcome output (accepted i) = record { answer = accepted i.length; output = i.output }
+
+-- what the code answers and leaves
+abbrev pub outcome_of : Result ℕ Refusal → List ℕ → WriteOutcome
+outcome_of r output = record { answer = checked r; output = output }

@@ -3,6 +3,8 @@
 
 #![tactic(auto)]
 
+pub mod refusal;
+
 // ---- the numbers of document 01, of which the definition has the same, in specs/File.antt (`longest_file` and so on)
 
 // "Version 6; check number 5927"
@@ -75,7 +77,7 @@ pub const MOST_PAIRS: usize = 64;
 
 // A lump of the header: where its records start, and how many there are.
 #[repr(C)]
-#[derive(Clone, Copy)]
+#[derive(Clone, Copy, Default, Debug, PartialEq, Eq)]
 pub struct Lump {
     pub offset: usize,
     pub count: usize,
@@ -83,7 +85,7 @@ pub struct Lump {
 
 // What a state records of the file that it was loaded from: the length, the header's six lumps, the cells per entity.
 #[repr(C)]
-#[derive(Clone, Copy)]
+#[derive(Clone, Copy, Default, Debug, PartialEq, Eq)]
 pub struct FileRecord {
     pub length: usize,
     pub statements: Lump,
@@ -98,7 +100,7 @@ pub struct FileRecord {
 // Document 02, R-11, what a venue sets at load: "Check number (0 to 65,535), greatest depth (1 to 31), greatest saved count (0 to 2,048) and greatest run
 // limit (1 to 99,999)". A host's numbers are signed; the bits of a negative one are above every bound.
 #[repr(C)]
-#[derive(Clone, Copy)]
+#[derive(Clone, Copy, Default, Debug, PartialEq, Eq)]
 pub struct Settings {
     pub check_number: usize,
     pub depth: usize,
@@ -108,7 +110,7 @@ pub struct Settings {
 
 // A statement record. Signed 16 bits each.
 #[repr(C)]
-#[derive(Clone, Copy)]
+#[derive(Clone, Copy, Debug, PartialEq, Eq)]
 pub struct Statement {
     pub opcode: u16,
     pub arg1: u16,
@@ -118,7 +120,7 @@ pub struct Statement {
 
 // A global or field definition record: the type with its save flag, the cell, the name's offset.
 #[repr(C)]
-#[derive(Clone, Copy)]
+#[derive(Clone, Copy, Debug, PartialEq, Eq)]
 pub struct Definition {
     pub kind: u16,
     pub offset: u16,
@@ -127,7 +129,7 @@ pub struct Definition {
 
 // A function record without its profile number: first statement, first local cell, local count, name, source file, argument count, argument sizes.
 #[repr(C)]
-#[derive(Clone, Copy)]
+#[derive(Clone, Copy, Default, Debug, PartialEq, Eq)]
 pub struct FunctionDef {
     pub first: u32,
     pub start: u32,
@@ -140,7 +142,7 @@ pub struct FunctionDef {
 
 // A call that waits: the position to go back to, and the function to go back into.
 #[repr(C)]
-#[derive(Clone, Copy)]
+#[derive(Clone, Copy, Default, Debug, PartialEq, Eq)]
 pub struct StackFrame {
     pub instr_id: i64,
     pub func_id: usize,
@@ -149,13 +151,13 @@ pub struct StackFrame {
 // ---- answers
 
 // What is handed to the host: a builtin or an opcode, with its number.
-#[derive(Clone, Copy)]
+#[derive(Clone, Copy, Debug, PartialEq, Eq)]
 pub enum Handover {
     Builtin(u32),
     Opcode(u32),
 }
 
-// How a run ends.
+// How a run ends. No Result: three of the four are no failures. A refusal is its number here, since the definition answers by this enum too, and gives numbers.
 #[derive(Clone, Copy)]
 pub enum RunAnswer {
     Ended,
@@ -164,31 +166,10 @@ pub enum RunAnswer {
     HandedOver(Handover),
 }
 
-// What one statement answers.
+// What one statement answers: an enum and a number for the same reasons.
 #[derive(Clone, Copy)]
 pub enum StatementAnswer {
     Completed,
     Refused(u8),
     HandedOver(Handover),
-}
-
-// What a load, an entry, a carry on, an abandonment or a raw write answers.
-#[derive(Clone, Copy)]
-pub enum Answer {
-    Accepted,
-    Refused(u8),
-}
-
-// What a raw read answers.
-#[derive(Clone, Copy)]
-pub enum ReadAnswer {
-    Value(u32),
-    Refused(u8),
-}
-
-// What writing a program file answers: its length in bytes (document 02, R-6).
-#[derive(Clone, Copy)]
-pub enum WriteAnswer {
-    Length(usize),
-    Refused(u8),
 }

@@ -1,3 +1,4 @@
+pub mod ByShape
 pub mod Fetching
 pub mod Opcodes
 pub mod Transfers

@@ -51,62 +51,15 @@ unfolding float_op
 floats_are op e = go (shape_of op) e
   where
     go : (s : Shape) → is_floats s ≡ true → floats (get_or (floats_of s) (λ a b. 0)) ≡ s
-    go (floats f) e = refl
-    go (values t f) e = absurd (true≢false (sym e))
-    go (vectors ta tb f) e = absurd (true≢false (sym e))
-    go (vectors_to_float f) e = absurd (true≢false (sym e))
-    go (strings when) e = absurd (true≢false (sym e))
-    go (negates t f) e = absurd (true≢false (sym e))
-    go negates_v e = absurd (true≢false (sym e))
-    go negates_s e = absurd (true≢false (sym e))
-    go (stores t) e = absurd (true≢false (sym e))
-    go stores_v e = absurd (true≢false (sym e))
-    go (loads t) e = absurd (true≢false (sym e))
-    go addresses e = absurd (true≢false (sym e))
-    go (stores_p t) e = absurd (true≢false (sym e))
-    go (branches when) e = absurd (true≢false (sym e))
-    go jumps e = absurd (true≢false (sym e))
-    go call e = absurd (true≢false (sym e))
-    go return e = absurd (true≢false (sym e))
-    go host e = absurd (true≢false (sym e))
-
--- an arm: the opcode is k
-pub at : (s : code.Shape) (k op : ℕ) → op ≡ k → shape_as s k ≡ shape_of k → shape_as s op ≡ shape_of op
-at s k op e h = rw e h
+    go s e = grind arith
 
 -- ---- Call0 to Call8, by their range
 
 abbrev pub is_call_number : ℕ → Bool
 is_call_number op = leb 51 op && leb op 59
 
--- a shape is a Call's, or what goes to the host, or another
-transfers : (s : Shape) → (call ≡ s) ⊎ ((host ≡ s) ⊎ ((is_call s ≡ false) × (is_host s ≡ false)))
-transfers (floats f) = inr (inr (refl, refl))
-transfers (values t f) = inr (inr (refl, refl))
-transfers (vectors ta tb f) = inr (inr (refl, refl))
-transfers (vectors_to_float f) = inr (inr (refl, refl))
-transfers (strings when) = inr (inr (refl, refl))
-transfers (negates t f) = inr (inr (refl, refl))
-transfers negates_v = inr (inr (refl, refl))
-transfers negates_s = inr (inr (refl, refl))
-transfers (stores t) = inr (inr (refl, refl))
-transfers stores_v = inr (inr (refl, refl))
-transfers (loads t) = inr (inr (refl, refl))
-transfers addresses = inr (inr (refl, refl))
-transfers (stores_p t) = inr (inr (refl, refl))
-transfers (branches when) = inr (inr (refl, refl))
-transfers jumps = inr (inr (refl, refl))
-transfers call = inl refl
-transfers return = inr (inr (refl, refl))
-transfers host = inr (inl refl)
-
 pub call_shape : (s : Shape) → is_call s ≡ true → call ≡ s
-call_shape s e = go (transfers s)
-  where
-    go : (call ≡ s) ⊎ ((host ≡ s) ⊎ ((is_call s ≡ false) × (is_host s ≡ false))) → call ≡ s
-    go (inl c) = c
-    go (inr (inl h)) = absurd (true≢false (sym e ∙ ap is_call (sym h)))
-    go (inr (inr (c, h))) = absurd (true≢false (sym e ∙ c))
+call_shape s e = grind arith
 
 module _ (op : ℕ) (known : op < 66) where
   pub call_number_is : is_call_number op ≡ is_call (shape_of op)
@@ -124,12 +77,7 @@ is_call_law op h e = call_shape (shape_of op) (rw e at (row (λ n s. not (is_cal
 -- ---- the last arm
 
 host_is : (s : Shape) → is_host s ≡ true → host ≡ s
-host_is s e = go (transfers s)
-  where
-    go : (call ≡ s) ⊎ ((host ≡ s) ⊎ ((is_call s ≡ false) × (is_host s ≡ false))) → host ≡ s
-    go (inl c) = absurd (true≢false (sym e ∙ ap is_host (sym c)))
-    go (inr (inl h)) = h
-    go (inr (inr (c, h))) = absurd (true≢false (sym e ∙ h))
+host_is s e = grind arith
 
 -- the test, over the rows from `low` up to below `high`: an opcode that isn't listed, is no Call and doesn't make a float of two, goes to the host
 abbrev pub listed_or_host : ℕ → ℕ → List ℕ → ℕ → Shape → Bool

@@ -1,2 +1,3 @@
 pub mod Shapes
 pub mod Execution
+pub use Rattle.entities.specs.Lent

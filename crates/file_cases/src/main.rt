@@ -2,71 +2,35 @@
 // The lines, and what must be printed, come from tests/model by tools/cases.py.
 #![tactic(auto)]
 
-ghost use Rattle.std.specs.Prelude.{◌≤◌, ◌<◌, length};
-
+use anyhow::Result;
 use definition::{MOST_CELLS, SAVED_STORE};
-use shown::LONGEST_INPUT;
-use std::io;
-use std::io::{BufWriter, Read, Write};
+use std::alloc::Global;
+use std::io::{BufRead, BufReader, BufWriter, Write};
 use text::LINE_ROOM;
 
-fn show_case<W: Write>(
-    out: &mut W,
-    text: &[u8],
-    at: usize,
-    file: &mut [u8],
-    cells: &mut [u32],
-    store: &mut [u32],
-    entities: &mut [u32],
-    line: &mut [u8],
-) -> io::Result<()>
-    requires at_in_bounds { at ≤ length text.now }
-    requires in_bounds { 160 ≤ length line.old }
-{
-    let size = cases::next_word(text, at);
-    let n = cases::file(text, size, file);
-    let end = shown::show(&file[..n], cells, store, entities, line);
-    out.write_all(&text[at..size])?;
-    out.write_all(&line[..end])
-}
-
-fn show_cases<W: Write>(
-    out: &mut W,
-    text: &[u8],
-    file: &mut [u8],
-    cells: &mut [u32],
-    store: &mut [u32],
-    entities: &mut [u32],
-    line: &mut [u8],
-) -> io::Result<()>
-    requires { 160 ≤ length line.old }
-{
-    let mut at = 0;
-    while at < text.len() {
-        show_case(out, text, at, file, cells, store, entities, line)?;
-        at = cases::next_line(text, at);
+// A line's texts are written into a lent buffer of a fixed length, by which the contracts say that there is room.
+fn show_cases<R: BufRead + Drop, W: Write>(alloc: Global, input: R, out: &mut W) -> Result<()> {
+    let mut cells = vec![in alloc; 0u32; MOST_CELLS]?;
+    let mut store = vec![in alloc; 0u32; SAVED_STORE]?;
+    let mut shown = [0u8; LINE_ROOM];
+    for line in input.lines(alloc) {
+        let line = line?;
+        let mut words = line.as_str().split_ascii_whitespace();
+        let name = vectors::next_word(&mut words)?;
+        let file = vectors::next_file(alloc, &mut words)?;
+        // Show has no entities, so that none is lent.
+        let end = shown::show(&file, &mut cells, &mut store, &mut [], &mut shown);
+        write!(out, "{name} ")?;
+        out.write_all(&shown[..end])?;
     }
     Ok(())
 }
 
-fn main(rt: HostRuntime) -> io::Result<()> {
+// One function with the work as a parameter would take what these lines take.
+fn main(rt: HostRuntime) -> Result<()> {
+    let input = BufReader::new(rt.alloc(), rt.stdin())?;
     let mut out = BufWriter::new(rt.alloc(), rt.stdout())?;
-    let mut text = Vec::new(rt.alloc());
-    let mut file = [0u8; LONGEST_INPUT + 1];
-    let mut cells = [0u32; MOST_CELLS];
-    let mut store = [0u32; SAVED_STORE];
-    // Show has no entities, so that none of these is looked at.
-    let mut entities = [0u32; 1];
-    let mut line = [0u8; LINE_ROOM];
-    rt.stdin().take(524288).read_to_end(&mut text)?;
-    show_cases(
-        &mut out,
-        &text,
-        &mut file,
-        &mut cells,
-        &mut store,
-        &mut entities,
-        &mut line,
-    )?;
-    out.flush()
+    show_cases(rt.alloc(), input, &mut out)?;
+    out.flush()?;
+    Ok(())
 }

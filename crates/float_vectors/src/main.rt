@@ -4,81 +4,93 @@
 // tools/float_vectors.py writes them, from a model of its own.
 #![tactic(auto)]
 
+use anyhow::Result;
 use functions::ops;
-use std::io;
-use std::io::{BufReader, BufWriter, Read, Write};
-use vectors::{Counts, MOST_LINES};
+use std::alloc::Global;
+use std::io::{BufRead, BufReader, BufWriter, Write};
+use std::str::FromStr;
+use vectors::{Counts, LineError, next_hex};
 
 const ROUNDINGS: u16 = 128;
 
 #[derive(Clone, Copy)]
-enum Outcome {
-    Same,
-    Differs,
-    End,
+struct Case {
+    op: u16,
+    a: [u32; 3],
+    b: [u32; 3],
+    wanted: u32,
 }
 
-// Each function by opcode gives 0 for the opcodes of the others. NotV is in none of them.
-fn result(op: u16, a0: u32, a1: u32, a2: u32, b0: u32, b1: u32, b2: u32) -> u32 {
-    if op == ops::NOT_V {
-        return floats::not_v(a0, a1, a2);
+impl FromStr for Case {
+    type Err = LineError;
+
+    fn from_str(line: &str) -> Result<Case, LineError> {
+        let mut words = line.split_ascii_whitespace();
+        let op = next_hex(&mut words)?;
+        let a = [
+            next_hex(&mut words)?,
+            next_hex(&mut words)?,
+            next_hex(&mut words)?,
+        ];
+        let b = [
+            next_hex(&mut words)?,
+            next_hex(&mut words)?,
+            next_hex(&mut words)?,
+        ];
+        let wanted = next_hex(&mut words)?;
+        Ok(Case {
+            op: u16::try_from(op)?,
+            a,
+            b,
+            wanted,
+        })
     }
-    if op >= ROUNDINGS {
-        return floats::rounding::rounding((op - ROUNDINGS) as u32, a0);
-    }
-    let scalar = floats::float_op(op, a0, b0)
-        | floats::component_op(op, a0, b0)
-        | floats::value_op(op, a0, b0);
-    scalar | floats::not_op(op, a0) | floats::vectors_to_float_op(op, a0, a1, a2, b0, b1, b2)
 }
 
-fn report<W: Write>(out: &mut W, got: u32, line: &[u8; 66]) -> io::Result<()> {
-    write!(out, "{got:08x} is the result of ")?;
-    out.write_all(line)
-}
-
-fn run_case<R: Read, W: Write>(input: &mut R, out: &mut W) -> io::Result<Outcome> {
-    let mut line = [0u8; 66];
-    if streams::read_full(input, &mut line)? < 66 {
-        return Ok(Outcome::End);
-    }
-    let op = (vectors::number(&line, 0, 2) % 65536) as u16;
-    let got = result(
-        op,
-        vectors::number(&line, 3, 8),
-        vectors::number(&line, 12, 8),
-        vectors::number(&line, 21, 8),
-        vectors::number(&line, 30, 8),
-        vectors::number(&line, 39, 8),
-        vectors::number(&line, 48, 8),
-    );
-    if got == vectors::number(&line, 57, 8) {
-        return Ok(Outcome::Same);
-    }
-    report(out, got, &line)?;
-    Ok(Outcome::Differs)
-}
-
-fn run_cases<R: Read, W: Write>(input: &mut R, out: &mut W) -> io::Result<Counts> {
-    let mut cases: u64 = 0;
-    let mut differ: u64 = 0;
-    while cases < MOST_LINES {
-        match run_case(input, out)? {
-            Outcome::Same => cases += 1,
-            Outcome::Differs => {
-                cases += 1;
-                differ += 1;
-            }
-            Outcome::End => break,
+impl Case {
+    // Each function by opcode gives 0 for the opcodes of the others. NotV is in none of them.
+    fn result(&self) -> u32 {
+        let op = self.op;
+        let [a, _, _] = self.a;
+        let [b, _, _] = self.b;
+        if op == ops::NOT_V {
+            return floats::not_v(self.a);
         }
+        if op >= ROUNDINGS {
+            return floats::rounding::rounding((op - ROUNDINGS) as u32, a);
+        }
+        let scalar = floats::float_op(op, a, b)
+            | floats::component_op(op, a, b)
+            | floats::value_op(op, a, b);
+        scalar | floats::not_op(op, a) | floats::vectors_to_float_op(op, self.a, self.b)
     }
-    Ok(Counts { cases, differ })
 }
 
-fn main(rt: HostRuntime) -> io::Result<()> {
-    let mut input = BufReader::new(rt.alloc(), rt.stdin())?;
+fn run_case<W: Write>(out: &mut W, line: &str) -> Result<bool> {
+    let case: Case = line.parse()?;
+    let got = case.result();
+    let same = got == case.wanted;
+    if !same {
+        writeln!(out, "{got:08x} is the result of {line}")?;
+    }
+    Ok(same)
+}
+
+fn run_cases<R: BufRead + Drop, W: Write>(alloc: Global, input: R, out: &mut W) -> Result<Counts> {
+    let mut counts = Counts::default();
+    for line in input.lines(alloc) {
+        let same = run_case(out, line?.as_str())?;
+        counts.count(same);
+    }
+    Ok(counts)
+}
+
+// One function with the work as a parameter would take what these lines take.
+fn main(rt: HostRuntime) -> Result<()> {
+    let input = BufReader::new(rt.alloc(), rt.stdin())?;
     let mut out = BufWriter::new(rt.alloc(), rt.stdout())?;
-    let counts = run_cases(&mut input, &mut out)?;
-    vectors::report(&mut out, counts)?;
-    out.flush()
+    let counts = run_cases(rt.alloc(), input, &mut out)?;
+    writeln!(out, "{counts}")?;
+    out.flush()?;
+    Ok(())
 }

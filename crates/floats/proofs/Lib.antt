@@ -1,6 +1,3 @@
 -- What the proofs of `floats` share.
-pub mod Cells
-pub mod Whole
 pub mod Opcodes
-pub mod Magnitudes
-pub mod ByNumber
+pub mod Wholes

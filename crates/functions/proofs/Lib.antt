@@ -1,3 +1,3 @@
-mod Tests
 mod Signs
+mod Filling
 pub mod Fetching

@@ -1,30 +1,23 @@
 -- LAWS of the definition's records, header and fetch, for this crate and those above. Assumes nothing.
-use Rattle.std.specs.Prelude.{ℕ, zero, suc, ◌+◌, ◌*◌, ◌≤◌, ◌<◌, ◌≡◌, List, ◌∷◌, Bool, true, false, not, ◌&&◌, ◌||◌, cond, length, get_or, leb, ltb, ℤ, pos, negsuc}
+use Rattle.std.specs.Prelude.{ℕ, zero, suc, ◌+◌, ◌*◌, ◌≤◌, ◌<◌, ◌≡◌, List, ◌∷◌, Some, None, Bool, true, false, not, ◌&&◌, ◌||◌, cond, length, get_or, leb, ltb, ℤ, pos, negsuc}
 use Rattle.std.proofs.Math.Path.{refl}
 use Rattle.std.proofs.Common.{sym, ap, true≢false, mul-le-mul_left, arith, ltb-true, ltb-false, leb-true, leb-false, eqb-true, ne_eqb}
-use Rattle.std.proofs.lemmas.Bool.{lt-leb, not-true}
+use Rattle.std.proofs.lemmas.Bool.{lt-leb, not-true, and_parts}
 use Rattle.definition.specs.declared.Lump.{Lump}
 use Rattle.definition.specs.declared.FileRecord.{FileRecord}
 use Rattle.definition.specs.declared.Statement.{Statement}
-use Rattle.definition.specs.Checks.{Conditions, ◌otherwise◌, judge}
+use Rattle.definition.specs.Checks.{Conditions, ◌otherwise◌, judge, decided, refused, guard}
 use Rattle.definition.specs.File.{records_in, read_function, no_function, negative, Contents, contents_at}
 use Rattle.definition.specs.File.{file_of, length_fits, lump_fits, lumps_fit, least_cells, cells_fit, entity_fits}
 use Rattle.definition.proofs.RecordLaws.{length_records}
 use Rattle.definition.specs.Load.{same_lump, same_file, recorded_in, program_with, program_of}
 use Rattle.definition.specs.Machine.{function_of, entities_fit}
 use Rattle.definition.specs.Statements.{Does, Entities, refuses, or_refused, place_of, statement_at, fetch_conditions, execute, does_at}
-use Rattle.functions.specs.declared.FunctionId.TheVariants as function
-use Rattle.functions.specs.declared.string_table.StringId.TheVariants as string
-use Rattle.functions.specs.declared.fetch.Fetched.TheVariants.{At, Refused}
-use Rattle.functions.specs.Answers.{function_id, string_id, fetched_or, fetched}
+use Rattle.functions.specs.Answers.{function_id, found, fetched}
 
 -- ---- tests
 
-pub both : (a b : Bool) → (a && b) ≡ true → (a ≡ true) × (b ≡ true)
-both true b e = (refl, e)
-both false b e = absurd (true≢false (sym e))
-
-pub either : (a b : Bool) → (a || b) ≡ true → a ≡ false → b ≡ true
+either : (a b : Bool) → (a || b) ≡ true → a ≡ false → b ≡ true
 either true b e f = absurd (true≢false f)
 either false b e f = e
 
@@ -33,7 +26,7 @@ either false b e f = e
 -- the records of a lump that isn't empty end in the file
 pub lump_end : (size end : ℕ) (l : Lump) → lump_fits size end l ≡ true → (l.count ≡ 0 → ⊥) → l.offset + size * l.count ≤ end
 lump_end size end l e some =
-    let signs = both (not (negative l.offset) && not (negative l.count)) _ e in
+    let signs = and_parts (not (negative l.offset) && not (negative l.count)) _ e in
     leb-true _ _ (either _ _ signs.1 (ne_eqb _ _ some))
 
 -- what it is for a lump to fit
@@ -45,8 +38,8 @@ pub record Fitting (size end : ℕ) (l : Lump) : Type 0 where
 
 pub lump_fitting : (size end : ℕ) (l : Lump) → lump_fits size end l ≡ true → Fitting size end l
 lump_fitting size end l e =
-    let signs = both _ _ e in
-    let s = both _ _ signs.0 in
+    let signs = and_parts _ _ e in
+    let s = and_parts _ _ signs.0 in
     record {
       offset = leb-false _ _ (not-true _ s.0);
       count = leb-false _ _ (not-true _ s.1);
@@ -71,11 +64,11 @@ pub record AllFit (end : ℕ) (r : FileRecord) : Type 0 where
 pub all_fit : (r : FileRecord) → lumps_fit r ≡ true → AllFit r.length r
 unfolding lumps_fit
 all_fit r e =
-    let e5 = both _ _ e in
-    let e4 = both _ _ e5.0 in
-    let e3 = both _ _ e4.0 in
-    let e2 = both _ _ e3.0 in
-    let e1 = both _ _ e2.0 in
+    let e5 = and_parts _ _ e in
+    let e4 = and_parts _ _ e5.0 in
+    let e3 = and_parts _ _ e4.0 in
+    let e2 = and_parts _ _ e3.0 in
+    let e1 = and_parts _ _ e2.0 in
     record { statements = e1.0; globaldefs = e1.1; fielddefs = e2.1; functions = e3.1; strings = e4.1; globals = e5.1 }
 
 -- ---- the record of a file
@@ -85,7 +78,7 @@ fields_of_lump l = record { offset = l.offset; count = l.count }
 
 same_lump_law : (a b : Lump) → same_lump a b ≡ true → a ≡ b
 same_lump_law a b e =
-    let t = both _ _ e in
+    let t = and_parts _ _ e in
     let offsets : a.offset ≡ b.offset = eqb-true _ _ t.0 in
     let counts : a.count ≡ b.count = eqb-true _ _ t.1 in
     let fields : fields_of_lump a ≡ fields_of_lump b = cc in
@@ -107,13 +100,13 @@ fields_of_file r =
 pub same_file_law : (a b : FileRecord) → same_file a b ≡ true → a ≡ b
 unfolding same_file
 same_file_law a b e =
-    let e7 = both _ _ e in
-    let e6 = both _ _ e7.0 in
-    let e5 = both _ _ e6.0 in
-    let e4 = both _ _ e5.0 in
-    let e3 = both _ _ e4.0 in
-    let e2 = both _ _ e3.0 in
-    let e1 = both _ _ e2.0 in
+    let e7 = and_parts _ _ e in
+    let e6 = and_parts _ _ e7.0 in
+    let e5 = and_parts _ _ e6.0 in
+    let e4 = and_parts _ _ e5.0 in
+    let e3 = and_parts _ _ e4.0 in
+    let e2 = and_parts _ _ e3.0 in
+    let e1 = and_parts _ _ e2.0 in
     let lengths : a.length ≡ b.length = eqb-true _ _ e1.0 in
     let statements : a.statements ≡ b.statements = same_lump_law _ _ e1.1 in
     let globaldefs : a.globaldefs ≡ b.globaldefs = same_lump_law _ _ e2.1 in
@@ -132,7 +125,7 @@ pub record EntitySize (r : FileRecord) : Type 0 where
 
 pub entity_size : (r : FileRecord) → entity_fits r ≡ true → EntitySize r
 entity_size r e =
-    let t = both (leb 105 r.entityfields) _ e in
+    let t = and_parts (leb 105 r.entityfields) _ e in
     record { least = leb-true _ _ t.0; most = leb-false _ _ (not-true _ t.1) }
 
 -- what it is for so many entities to have room in the lent cells (document 02, R-3)
@@ -143,7 +136,7 @@ pub record Room (number size lent : ℕ) : Type 0 where
 pub entities_room : (number size lent : ℕ) → entities_fit number size lent ≡ true → Room number size lent
 unfolding entities_fit
 entities_room number size lent e =
-    let t = both (leb number 600) _ e in
+    let t = and_parts (leb number 600) _ e in
     record { number_most = leb-true _ _ t.0; cells = leb-true _ _ t.1 }
 
 -- what it is for a file to be as a state records, the first of 13's conditions
@@ -159,15 +152,15 @@ pub record Recorded (file : List ℕ) (r : FileRecord) (lent : ℕ) : Type 0 whe
 pub recorded : (file : List ℕ) (r : FileRecord) (lent : ℕ) → recorded_in least_cells file r lent ≡ true → Recorded file r lent
 unfolding recorded_in file_of
 recorded file r lent e =
-    let e5 = both _ _ e in
-    let e4 = both _ _ e5.0 in
-    let e3 = both _ _ e4.0 in
-    let e2 = both _ _ e3.0 in
-    let e1 = both _ _ e2.0 in
+    let e5 = and_parts _ _ e in
+    let e4 = and_parts _ _ e5.0 in
+    let e3 = and_parts _ _ e4.0 in
+    let e2 = and_parts _ _ e3.0 in
+    let e1 = and_parts _ _ e2.0 in
     let same = same_file_law _ _ e1.0 in
     let bytes : r.length ≡ length file = ap (λ (x : FileRecord). x.length) same in
-    let lengths = both (leb 60 r.length) (leb r.length 1048576) e1.1 in
-    let counts = both (leb least_cells r.globals.count) (leb r.globals.count 32768) e3.1 in
+    let lengths = and_parts (leb 60 r.length) (leb r.length 1048576) e1.1 in
+    let counts = and_parts (leb least_cells r.globals.count) (leb r.globals.count 32768) e3.1 in
     record {
       same = same;
       longest = rw (← bytes) (leb-true _ _ lengths.1);
@@ -206,35 +199,23 @@ module _ (file : List ℕ) where
   unfolding program_with contents_at
   count_functions = length_records _ _ _ _
 
--- ---- numbers of functions and strings
+-- ---- what a number names
 
-module _ {A : Type 0} (id : ℕ → A) (none : A) (same : (i j : ℕ) → id i ≡ id j → i ≡ j) (apart : (i : ℕ) → id i ≡ none → ⊥) (value count : ℕ) where
-  found : (i : ℕ) (t : Bool) → ltb value count ≡ t → id i ≡ cond t (id value) none → (i ≡ value) × (i < count)
-  found i true q e = let h : i ≡ value = same i value e in (h, rw h (ltb-true _ _ q))
-  found i false q e = absurd (apart i e)
-
-  missing : (t : Bool) → ltb value count ≡ t → none ≡ cond t (id value) none → count ≤ value
-  missing true q e = absurd (apart value (sym e))
-  missing false q e = ltb-false _ _ q
-
-no_equation : ◌≡◌ {A = ℕ} 0 1 → ⊥
-no_equation e = omega arith
-
-pub function_found : (value count f : ℕ) → function.Id f ≡ function_id value count → (f ≡ value) × (f < count)
+pub function_found : (value count f : ℕ) → Some f ≡ function_id value count → (f ≡ value) × (f < count)
 unfolding function_id
-function_found value count f e = found function.Id function.NoFunction (λ i j h. cc) (λ i h. no_equation (cc)) value count f (ltb value count) refl e
+function_found value count f e = by (ltb value count) refl e
+  where
+    by : (t : Bool) → ltb value count ≡ t → Some f ≡ cond t (Some value) None → (f ≡ value) × (f < count)
+    by true q e = let h : f ≡ value = cc in (h, rw h (ltb-true _ _ q))
+    by false q e = let z : ◌≡◌ {A = ℕ} 0 1 = cc in absurd (omega arith)
 
-pub function_missing : (value count : ℕ) → function.NoFunction ≡ function_id value count → count ≤ value
+pub function_missing : (value count : ℕ) → None ≡ function_id value count → count ≤ value
 unfolding function_id
-function_missing value count e = missing function.Id function.NoFunction (λ i j h. cc) (λ i h. no_equation (cc)) value count (ltb value count) refl e
-
-pub string_found : (value length s : ℕ) → string.Id s ≡ string_id value length → (s ≡ value) × (s < length)
-unfolding string_id
-string_found value length s e = found string.Id string.NoString (λ i j h. cc) (λ i h. no_equation (cc)) value length s (ltb value length) refl e
-
-pub string_missing : (value length : ℕ) → string.NoString ≡ string_id value length → length ≤ value
-unfolding string_id
-string_missing value length e = missing string.Id string.NoString (λ i j h. cc) (λ i h. no_equation (cc)) value length (ltb value length) refl e
+function_missing value count e = by (ltb value count) refl e
+  where
+    by : (t : Bool) → ltb value count ≡ t → None ≡ cond t (Some value) None → count ≤ value
+    by true q e = let z : ◌≡◌ {A = ℕ} 0 1 = cc in absurd (omega arith)
+    by false q e = ltb-false _ _ q
 
 -- ---- the fetch
 
@@ -256,17 +237,21 @@ at_place : (n k : ℕ) (p : ℤ) → k ≡ place_of n p → k < n → p ≡ pos 
 at_place n k (pos i) e h = ap pos (sym e)
 at_place n k (negsuc i) e h = absurd (omega arith)
 
-pub fetch_accepts : (statements : List Statement) (p : ℤ) (k : ℕ) (st : Statement) → At k st ≡ fetched statements p → FetchedAt statements p k st
-unfolding fetched fetch_conditions
+abbrev there : List Statement → ℤ → ℕ × Statement
+there statements p = (place_of (length statements) p, statement_at statements p)
+
+pub fetch_accepts : (statements : List Statement) (p : ℤ) (k : ℕ) (st : Statement) → found k st ≡ fetched statements p → FetchedAt statements p k st
+unfolding fetched guard fetch_conditions
 fetch_accepts statements p k st e = by (judge (fetch_conditions statements p)) refl e
   where
     by : (j : ℕ)
         → judge (fetch_conditions statements p) ≡ j
-        → At k st ≡ fetched_or j (At (place_of (length statements) p) (statement_at statements p))
+        → found k st ≡ decided j (there statements p)
         → FetchedAt statements p k st
     by zero c f =
-        let same : k ≡ place_of (length statements) p = cc in
-        let read : st ≡ statement_at statements p = cc in
+        let pair : ◌≡◌ {A = ℕ × Statement} (k, st) (there statements p) = cc in
+        let same : k ≡ place_of (length statements) p = ap (λ (x : ℕ × Statement). x.0) pair in
+        let read : st ≡ statement_at statements p = ap (λ (x : ℕ × Statement). x.1) pair in
         let t = holding _ 13 _ c in
         let u = holding _ 6 _ t.1 in
         let h : k < length statements = rw same (ltb-true _ _ t.0) in
@@ -279,16 +264,16 @@ fetch_accepts statements p k st e = by (judge (fetch_conditions statements p)) r
         }
     by (suc j) c f = let z : ◌≡◌ {A = ℕ} 0 1 = cc in absurd (omega arith)
 
-pub fetch_refuses : (statements : List Statement) (p : ℤ) (n : ℕ) → Refused n ≡ fetched statements p → (n ≡ judge (fetch_conditions statements p)) × (0 < n)
-unfolding fetched
+pub fetch_refuses : (statements : List Statement) (p : ℤ) (n : ℕ) → refused n ≡ fetched statements p → (n ≡ judge (fetch_conditions statements p)) × (0 < n)
+unfolding fetched guard
 fetch_refuses statements p n e = by (judge (fetch_conditions statements p)) e
   where
-    by : (j : ℕ) → Refused n ≡ fetched_or j (At (place_of (length statements) p) (statement_at statements p)) → (n ≡ j) × (0 < n)
+    by : (j : ℕ) → refused n ≡ decided j (there statements p) → (n ≡ j) × (0 < n)
     by zero f = let z : ◌≡◌ {A = ℕ} 0 1 = cc in absurd (omega arith)
     by (suc j) f = let h : n ≡ suc j = cc in (h, omega arith)
 
 -- what the statement at a position does is what the fetched one does
-pub does_fetched : (k : Contents) (p : ℤ) (i : ℕ) (st : Statement) (x : Entities) (cells : List ℕ) → At i st ≡ fetched k.statements p → execute k p st x cells ≡ does_at k p x cells
+pub does_fetched : (k : Contents) (p : ℤ) (i : ℕ) (st : Statement) (x : Entities) (cells : List ℕ) → found i st ≡ fetched k.statements p → execute k p st x cells ≡ does_at k p x cells
 unfolding does_at
 does_fetched k p i st x cells e =
     let f = fetch_accepts _ _ _ _ e in
@@ -298,7 +283,7 @@ refuses_it : (n : ℕ) (d : Does) → 0 < n → refuses n ≡ or_refused n d
 refuses_it zero d h = absurd (omega arith)
 refuses_it (suc n) d h = refl
 
-pub does_refused : (k : Contents) (p : ℤ) (n : ℕ) (x : Entities) (cells : List ℕ) → Refused n ≡ fetched k.statements p → refuses n ≡ does_at k p x cells
+pub does_refused : (k : Contents) (p : ℤ) (n : ℕ) (x : Entities) (cells : List ℕ) → refused n ≡ fetched k.statements p → refuses n ≡ does_at k p x cells
 unfolding does_at
 does_refused k p n x cells e =
     let f = fetch_refuses _ _ _ e in

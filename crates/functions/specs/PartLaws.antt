@@ -1,13 +1,11 @@
 -- The records of a part are those of its lump. Assumes nothing.
-use Prim.Native.Nat.{ℕ, zero, suc, ◌+◌, ◌*◌, ◌/◌, ◌≤◌, ◌<◌}
-use Rattle.std.specs.Prelude.{◌≡◌, true, get_or, take, drop}
+use Rattle.std.specs.Prelude.{ℕ, zero, suc, ◌+◌, ◌*◌, ◌/◌, ◌≤◌, ◌<◌, ◌≡◌, true, List, [], ◌∷◌, get_or, take, drop}
 use Rattle.std.proofs.Math.Path.{refl, sym}
-use Rattle.std.proofs.Common.{ap, ◌∙◌, add_assoc, add-zero, mul-zero, mul-le-mul_left, arith, length-take, get_or-drop, length-take-le}
-use mathlib.Core.List.{List, [], ◌∷◌}
+use Rattle.std.proofs.Common.{ap, ◌∙◌, add_assoc, add-zero, mul-zero, mul-le-mul_left, arith, get_or-drop, length-take-le}
 use Rattle.std.proofs.Math.Nat.{mul-div_cancel_left, zero-add, mul-suc, mul-div-le, div-eq-sub-div}
 use Rattle.std.proofs.Math.Numerals.{add-one}
 use Rattle.std.proofs.Math.ListN.{length, length-drop}
-use Rattle.std.proofs.Math.Seq.{get_or-take}
+use Rattle.std.proofs.Math.Seq.{drop-cons, get_or-take}
 use Rattle.definition.specs.declared.Lump.{Lump}
 use Rattle.definition.specs.declared.FileRecord.{FileRecord}
 use Rattle.definition.specs.File.{byte_at, u16_at, u32_at, lump_fits, records, records_in, read_statement, read_definition, read_function, contents_at}
@@ -33,7 +31,7 @@ module _ {f g : List ℕ} {n i j : ℕ} (s : Same f i g j n) where
 pub byte_local : Local byte_at 1
 byte_local f g i j s = rw (add-zero i, add-zero j) at (s.byte 0 (omega arith))
 
-u16_local : Local u16_at 2
+pub u16_local : Local u16_at 2
 unfolding u16_at
 u16_local f g i j s = let low = byte_local f g i j (first s 1 (omega arith)) in let high = s.byte 1 (omega arith) in cc
 
@@ -106,6 +104,12 @@ pub byte_records : (part : List ℕ) → records_of byte_at 1 part ≡ part
 unfolding records byte_at
 byte_records [] = refl
 byte_records (x ∷ xs) = records_more byte_at 1 byte_local (omega arith) (x ∷ xs) (omega arith) ∙ ap (λ (rest : List ℕ). x ∷ rest) (byte_records xs)
+
+-- and those from a place on are a piece of the bytes
+pub taken_bytes : (file : List ℕ) (n at : ℕ) → at + n ≤ length file → take n (drop at file) ≡ records (byte_at file) 1 n at
+unfolding records byte_at
+taken_bytes file zero at h = refl
+taken_bytes file (suc n) at h = rw (drop-cons file at 0 (omega arith), ← add-one at) (ap (λ (rest : List ℕ). get_or file at 0 ∷ rest) (taken_bytes file n (at + 1) (omega arith)))
 
 -- ---- one record of a part
 

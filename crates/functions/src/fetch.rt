@@ -1,63 +1,70 @@
 // Fetching a statement, and what its operands mean. A position is signed; once fetched, a statement is known by its index.
-ghost use Rattle.std.specs.Prelude.{◌≡◌, ◌<◌, pos, ◌+ℤ◌};
+ghost use Rattle.std.specs.Prelude.{◌≡◌, ℕ, ◌<◌, List, pos, ◌+ℤ◌};
+ghost use Rattle.definition.specs.declared.Statement.{Statement};
 ghost use Rattle.definition.specs.Cells.{signed, cell_of};
+ghost use Rattle.definition.specs.Refusals.{checked};
 ghost use Rattle.definition.specs.Statements.{place_of};
-ghost use Rattle.functions.specs.Answers.{fetched};
+ghost use Rattle.functions.specs.Answers.{Reads, fetched};
 ghost use Rattle.functions.specs.Parts.{statements_in};
 
 use crate::{ops, reads};
+use definition::refusal::Refusal;
 use definition::{STATEMENT_SIZE, Statement};
 
-// The index of a statement, and its four numbers.
-#[derive(Clone, Copy)]
-pub enum Fetched {
-    At(usize, Statement),
-    Refused(u8),
-}
-
-// A signed number as one of n places, n where it is negative.
+// A signed number as one of n places, n where it is negative. `usize::try_from` would take two instructions more at each fetch.
 pub fn place_of(n: usize, p: i64) -> usize
     ensures { result ≡ place_of n p }
 {
     if p < 0 { n } else { p as usize }
 }
 
-pub fn fetch(statements: &[u8], pc: i64) -> Fetched
-    ensures { result ≡ fetched (statements_in statements.now) pc }
+// The statement at a position among so many, and its index; `read` reads the statement at an index.
+pub fn fetch_by<F: Fn(usize) -> Statement>(
+    count: usize,
+    pc: i64,
+    read: F,
+) -> Result<(usize, Statement), Refusal>
+    requires { (k : ℕ) → k < count → F.pre read k }
+    ensures { (statements : List Statement) → Reads (F.post read) count statements → checked result ≡ fetched statements pc }
 {
-    let count = statements.len() / STATEMENT_SIZE;
     let k = place_of(count, pc);
     if count <= k {
-        return Fetched::Refused(14);
+        return Err(Refusal::Position);
     }
-    let statement = reads::read_statement(statements, STATEMENT_SIZE * k);
+    let statement = read(k);
     if ops::is_opcode(statement.opcode) {
-        Fetched::At(k, statement)
+        Ok((k, statement))
     } else {
-        Fetched::Refused(7)
+        Err(Refusal::Opcode)
     }
 }
 
+pub fn fetch(statements: &[u8], pc: i64) -> Result<(usize, Statement), Refusal>
+    ensures { checked result ≡ fetched (statements_in statements.now) pc }
+{
+    fetch_by(statements.len() / STATEMENT_SIZE, pc, |k| {
+        reads::read_statement(statements, STATEMENT_SIZE * k)
+    })
+}
+
 // The cell that an operand names.
+#[tactic(auto, unfolding(definition::specs::Cells::cell_of))]
 pub fn cell_of(x: u16) -> usize
     ensures { result ≡ cell_of x }
 {
     if x < 32768 {
-        x as usize
+        usize::from(x)
     } else {
-        x as usize + 65536
+        usize::from(x) + 65536
     }
 }
 
 // The signed value of an operand.
+#[tactic(auto, unfolding(definition::specs::Cells::signed))]
 pub fn signed(bits: u16) -> i64
     ensures { result ≡ signed bits }
 {
-    if bits < 32768 {
-        bits as i64
-    } else {
-        bits as i64 - 65536
-    }
+    i64::from(bits.cast_signed())
 }
 
 // The position after statement k: no lump has more records than the bound.

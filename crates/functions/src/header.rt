@@ -1,7 +1,7 @@
 // The header, and what it may say: the conditions of refusals 1, 4, 10, 11 and 13.
 ghost use Rattle.std.specs.Prelude.{◌≡◌, ◌+◌, ◌≤◌, ◌<◌, length};
 ghost use Rattle.definition.specs.File.{least_cells, lump_at, file_of, length_fits, lump_fits, lumps_fit, cells_fit, entity_fits, settings_fit, standard};
-ghost use Rattle.definition.specs.Load.{same_lump, same_file, recorded_in};
+ghost use Rattle.definition.specs.Load.{recorded_in};
 ghost use Rattle.definition.specs.Machine.{entities_fit};
 
 use crate::reads;
@@ -16,38 +16,33 @@ fn lump_at(file: &[u8], at: usize) -> Lump
     ensures { result ≡ lump_at file.now at }
 {
     Lump {
-        offset: reads::wide(reads::u32_at(file, at)),
-        count: reads::wide(reads::u32_at(file, at + 4)),
+        offset: reads::u32_at(file, at) as usize,
+        count: reads::u32_at(file, at + 4) as usize,
     }
 }
 
 // The header of a file that isn't too short to have one: refusals 1 and 13 come first.
+#[tactic(auto, unfolding(definition::specs::File::file_of))]
 pub fn file_of(file: &[u8]) -> FileRecord
     requires { 60 ≤ length file.now }
     ensures { result ≡ file_of file.now }
 {
-    let statements = lump_at(file, 8);
-    let globaldefs = lump_at(file, 16);
-    let fielddefs = lump_at(file, 24);
-    let functions = lump_at(file, 32);
-    let strings = lump_at(file, 40);
-    let globals = lump_at(file, 48);
     FileRecord {
         length: file.len(),
-        statements,
-        globaldefs,
-        fielddefs,
-        functions,
-        strings,
-        globals,
-        entityfields: reads::wide(reads::u32_at(file, 56)),
+        statements: lump_at(file, 8),
+        globaldefs: lump_at(file, 16),
+        fielddefs: lump_at(file, 24),
+        functions: lump_at(file, 32),
+        strings: lump_at(file, 40),
+        globals: lump_at(file, 48),
+        entityfields: reads::u32_at(file, 56) as usize,
     }
 }
 
 pub fn length_fits(r: FileRecord) -> bool
     ensures { result ≡ length_fits r }
 {
-    (HEADER_LENGTH <= r.length) & (r.length <= LONGEST_FILE)
+    (HEADER_LENGTH..=LONGEST_FILE).contains(&r.length)
 }
 
 // The sum can't wrap: both numbers are below 2^31 where it is made.
@@ -64,6 +59,7 @@ pub fn lump_fits(size: usize, end: usize, lump: Lump) -> bool
     (lump.count == 0) | (lump.offset + size * lump.count <= end)
 }
 
+#[tactic(auto, unfolding(definition::specs::File::lumps_fit))]
 pub fn lumps_fit(r: FileRecord) -> bool
     ensures { result ≡ lumps_fit r }
 {
@@ -79,8 +75,7 @@ pub fn lumps_fit(r: FileRecord) -> bool
 pub fn cells_fit(least: usize, r: FileRecord) -> bool
     ensures { result ≡ cells_fit least r }
 {
-    let globals = r.globals;
-    (least <= globals.count) & (globals.count <= MOST_CELLS)
+    (least..=MOST_CELLS).contains(&r.globals.count)
 }
 
 pub fn entity_fits(r: FileRecord) -> bool
@@ -90,13 +85,14 @@ pub fn entity_fits(r: FileRecord) -> bool
 }
 
 // Settings in range (document 02, R-11).
+#[tactic(auto, unfolding(definition::specs::File::settings_fit))]
 pub fn settings_fit(s: Settings) -> bool
     ensures { result ≡ settings_fit s }
 {
     (s.check_number <= GREATEST_CHECK_NUMBER)
-        & ((1 <= s.depth) & (s.depth <= GREATEST_DEPTH))
+        & (1..=GREATEST_DEPTH).contains(&s.depth)
         & (s.saved <= SAVED_STORE)
-        & ((1 <= s.limit) & (s.limit <= GREATEST_LIMIT))
+        & (1..=GREATEST_LIMIT).contains(&s.limit)
 }
 
 // Those of document 01.
@@ -113,6 +109,7 @@ pub fn standard() -> Settings
 
 // So many entities of so many cells each have room in the lent entity cells (document 02, R-3). The product can't wrap: where it is made the number is
 // at most 600, and refusal 11 keeps the size below 2^31.
+#[tactic(auto, unfolding(definition::specs::Machine::entities_fit))]
 pub fn entities_fit(number: usize, size: usize, lent: usize) -> bool
     requires { size < 2147483648 }
     ensures { result ≡ entities_fit number size lent }
@@ -123,25 +120,6 @@ pub fn entities_fit(number: usize, size: usize, lent: usize) -> bool
     number * size <= lent
 }
 
-fn same_lump(a: Lump, b: Lump) -> bool
-    ensures { result ≡ same_lump a b }
-{
-    (a.offset == b.offset) & (a.count == b.count)
-}
-
-pub fn same_file(a: FileRecord, b: FileRecord) -> bool
-    ensures { result ≡ same_file a b }
-{
-    (a.length == b.length)
-        & same_lump(a.statements, b.statements)
-        & same_lump(a.globaldefs, b.globaldefs)
-        & same_lump(a.fielddefs, b.fielddefs)
-        & same_lump(a.functions, b.functions)
-        & same_lump(a.strings, b.strings)
-        & same_lump(a.globals, b.globals)
-        & (a.entityfields == b.entityfields)
-}
-
 // The first of 13's conditions. A state can record no file that is too short for a header.
 pub fn recorded_in(file: &[u8], r: FileRecord, lent: usize) -> bool
     ensures { result ≡ recorded_in least_cells file.now r lent }
@@ -149,11 +127,10 @@ pub fn recorded_in(file: &[u8], r: FileRecord, lent: usize) -> bool
     if file.len() < HEADER_LENGTH {
         return false;
     }
-    let globals = r.globals;
-    same_file(r, file_of(file))
+    (r == file_of(file))
         & length_fits(r)
         & lumps_fit(r)
         & cells_fit(LEAST_CELLS, r)
         & entity_fits(r)
-        & (globals.count <= lent)
+        & (r.globals.count <= lent)
 }

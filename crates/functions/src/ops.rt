@@ -1,4 +1,4 @@
-// The opcodes (ops.rs).
+// The opcodes (ops.rs). They are numbers and no enum, since what takes an opcode promises something of every number.
 ghost use Rattle.std.specs.Prelude.{◌≡◌, ltb};
 
 use definition::OPCODE_COUNT;

@@ -1,36 +1,124 @@
 // Little-endian numbers, and the records of the file.
-ghost use Rattle.std.specs.Prelude.{◌≡◌, ◌+◌, ◌≤◌, ◌<◌, length};
+ghost use Rattle.std.specs.Prelude.{◌≡◌, ℕ, ◌+◌, ◌≤◌, ◌<◌, List, length};
+ghost use Rattle.std.proofs.Common.{lit≤};
 ghost use Rattle.definition.specs.File.{byte_at, u16_at, u32_at, read_statement, read_definition, read_function, records};
+ghost use Rattle.functions.specs.PartLaws.{Local, u16_local, u32_local, statement_local, definition_local, function_local};
 
-use definition::{Definition, FunctionDef, Statement};
+use definition::{
+    DEFINITION_SIZE, Definition, FUNCTION_SIZE, FunctionDef, STATEMENT_SIZE, Statement,
+};
 
-fn wide16(x: u8) -> u16
-    ensures { (result ≡ x) × (result < 256) }
-{
-    x as u16
+// A number or a record of the file: how many bytes it takes, and what they say, which no other byte changes.
+pub trait FromBytes: Copy {
+    const SIZE: usize;
+
+    ghost SIZE: { ℕ };
+
+    ghost read_at: { List ℕ → ℕ → Self };
+
+    fn read(file: &[u8], at: usize) -> Self
+        requires { at + SIZE ≤ length file.now }
+        ensures { result ≡ read_at file.now at };
+
+    ghost sized: { (0 < SIZE) × (SIZE ≤ 36) };
+
+    ghost local: { Local read_at SIZE };
 }
 
-pub fn wide(x: u32) -> usize
-    ensures { (result ≡ x) × (result < 4294967296) }
-{
-    x as usize
+impl FromBytes for u16 {
+    const SIZE: usize = 2;
+
+    ghost SIZE = { 2 };
+
+    ghost read_at = { u16_at };
+
+    ghost sized = { (lit≤ tt, lit≤ tt) };
+
+    ghost local = { u16_local };
+
+    fn read(file: &[u8], at: usize) -> u16 {
+        u16_at(file, at)
+    }
 }
 
-// One load of 16 bits, once compiled.
+impl FromBytes for u32 {
+    const SIZE: usize = 4;
+
+    ghost SIZE = { 4 };
+
+    ghost read_at = { u32_at };
+
+    ghost sized = { (lit≤ tt, lit≤ tt) };
+
+    ghost local = { u32_local };
+
+    fn read(file: &[u8], at: usize) -> u32 {
+        u32_at(file, at)
+    }
+}
+
+impl FromBytes for Statement {
+    const SIZE: usize = STATEMENT_SIZE;
+
+    ghost SIZE = { 8 };
+
+    ghost read_at = { read_statement };
+
+    ghost sized = { (lit≤ tt, lit≤ tt) };
+
+    ghost local = { statement_local };
+
+    fn read(file: &[u8], at: usize) -> Statement {
+        read_statement(file, at)
+    }
+}
+
+impl FromBytes for Definition {
+    const SIZE: usize = DEFINITION_SIZE;
+
+    ghost SIZE = { 8 };
+
+    ghost read_at = { read_definition };
+
+    ghost sized = { (lit≤ tt, lit≤ tt) };
+
+    ghost local = { definition_local };
+
+    fn read(file: &[u8], at: usize) -> Definition {
+        read_definition(file, at)
+    }
+}
+
+impl FromBytes for FunctionDef {
+    const SIZE: usize = FUNCTION_SIZE;
+
+    ghost SIZE = { 36 };
+
+    ghost read_at = { read_function };
+
+    ghost sized = { (lit≤ tt, lit≤ tt) };
+
+    ghost local = { function_local };
+
+    fn read(file: &[u8], at: usize) -> FunctionDef {
+        read_function(file, at)
+    }
+}
+
+#[tactic(auto, unfolding(definition::specs::File::byte_at, definition::specs::File::u16_at))]
 pub fn u16_at(file: &[u8], at: usize) -> u16
     requires { at + 2 ≤ length file.now }
     ensures { result ≡ u16_at file.now at }
 {
-    wide16(file[at]) + 256 * wide16(file[at + 1])
+    u16::from_le_bytes([file[at], file[at + 1]])
 }
 
+#[tactic(auto, unfolding(definition::specs::File::byte_at, definition::specs::File::u16_at, definition::specs::File::u32_at))]
 pub fn u32_at(file: &[u8], at: usize) -> u32
     requires { at + 4 ≤ length file.now }
     ensures { result ≡ u32_at file.now at }
 {
-    let low = u16_at(file, at);
-    let high = u16_at(file, at + 2);
-    (low as u32) + 65536 * (high as u32)
+    u32::from_le_bytes([file[at], file[at + 1], file[at + 2], file[at + 3]])
 }
 
 pub fn read_statement(file: &[u8], at: usize) -> Statement
@@ -60,16 +148,9 @@ fn read_argsz(file: &[u8], at: usize) -> [u8; 8]
     requires { at + 8 ≤ length file.now }
     ensures { result ≡ records (byte_at file.now) 1 8 at }
 {
-    [
-        file[at],
-        file[at + 1],
-        file[at + 2],
-        file[at + 3],
-        file[at + 4],
-        file[at + 5],
-        file[at + 6],
-        file[at + 7],
-    ]
+    let mut argsz = [0; 8];
+    argsz.copy_from_slice(&file[at..at + 8]);
+    argsz
 }
 
 // Bytes 12 to 15 are the profile number.

@@ -1,5 +1,1 @@
-pub mod LoadLaws
-pub mod RecordLaws
-pub mod LayoutLaws
 pub mod WriteLaws
-pub mod UnpackLaws

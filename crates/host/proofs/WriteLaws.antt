@@ -1,34 +1,20 @@
--- The answer of a writing in numbers. Assumes nothing.
-use Prim.Native.Nat.{ℕ, ◌≤◌}
-use mathlib.Core.Path.{◌≡◌, refl, ap, ◌∙◌}
-use mathlib.Core.List.{List}
-use native.Mathlib.Omega.{arith}
-use Rattle.definition.specs.declared.WriteAnswer.{WriteAnswer}
-use Rattle.definition.specs.declared.WriteAnswer.TheVariants.{Length, Refused}
+-- The length of a written program has room in 32 bits.
+use Rattle.std.specs.Prelude.{ℕ, ◌≡◌, List, Result, Ok}
+use Rattle.std.proofs.Common.{refl, ap, arith, Fits, w32}
+use Rattle.definition.specs.declared.refusal.Refusal.{Refusal}
 use Rattle.definition.specs.Checks.{Checked, refused, accepted}
 use Rattle.definition.specs.Machine.{Config}
-use Rattle.definition.specs.Written.{Image, WriteOutcome, write_file, write_outcome}
-use Rattle.progs.specs.declared.ExecutionContext.{ExecutionContext}
-use Rattle.call_list.specs.declared.Replied.{Replied}
-use Rattle.call_list.specs.Encoding.{answering}
-use Rattle.writer.specs.Outcomes.{outcome_of}
+use Rattle.definition.specs.Written.{Image, WriteOutcome, write_file, write_outcome, outcome_of}
 use Rattle.writing_laws.specs.Loads.{accepted_writes}
-use Rattle.host.specs.Writing.{write_reply, writing_of, written}
 
--- a length that is answered has room in 32 bits
-pub short_length : (file output output' : List ℕ) (c : Config) (n : ℕ) → outcome_of (Length n) output' ≡ write_outcome output (write_file file output c) → n ≤ 1048576
-short_length file output output' c n e = by (write_file file output c) refl e
+pub short_length : (file output output' : List ℕ) (c : Config) (r : Result ℕ Refusal) (n : ℕ) → outcome_of r output' ≡ write_outcome output (write_file file output c) → r ≡ Ok n → Fits w32 n
+short_length file output output' c r n e o = by (write_file file output c) refl (rw o at e)
   where
-    by : (x : Checked Image) → write_file file output c ≡ x → outcome_of (Length n) output' ≡ write_outcome output x → n ≤ 1048576
+    by : (x : Checked Image) → write_file file output c ≡ x → outcome_of (Ok n) output' ≡ write_outcome output x → Fits w32 n
     by (refused k) h g =
-        let a : Length n ≡ Refused k = ap (λ (o : WriteOutcome). o.answer) g in
-        let z : ◌≡◌ {A = ℕ} 0 1 = cc in
-        absurd (omega arith)
+        let a : accepted n ≡ refused k = ap (λ (z : WriteOutcome). z.answer) g in
+        cc
     by (accepted i) h g =
-        let a : Length n ≡ Length i.length = ap (λ (o : WriteOutcome). o.answer) g in
+        let a : accepted n ≡ accepted i.length = ap (λ (z : WriteOutcome). z.answer) g in
         let same : n ≡ i.length = cc in
-        omega (arith, (accepted_writes file output c i h).short)
-
-pub write_replied : (x : ExecutionContext) (a : WriteAnswer) (r : Replied) (output : List ℕ) (o : WriteOutcome)
-    → r ≡ answering x (write_reply a) → outcome_of a output ≡ o → writing_of r output ≡ written x o
-write_replied x a r output o e h = ap (λ (s : Replied). writing_of s output) e ∙ ap (written x) h
+        record { fits = omega (arith, (accepted_writes file output c i h).short) }

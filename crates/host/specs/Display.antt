@@ -4,16 +4,15 @@ use Rattle.std.specs.Prelude.{ℕ, ◌≡◌, refl, List, ℤ}
 use Rattle.definition.specs.declared.RunAnswer.{RunAnswer}
 use Rattle.definition.specs.declared.RunAnswer.TheVariants as run
 use Rattle.definition.specs.declared.Handover.TheVariants.{Builtin, Opcode}
-use Rattle.definition.specs.declared.WriteAnswer.{WriteAnswer}
-use Rattle.definition.specs.declared.WriteAnswer.TheVariants as write
+use Rattle.definition.specs.Checks.{Checked, refused, accepted}
 use Rattle.definition.specs.Written.{WriteOutcome}
 use Rattle.call_list.specs.Encoding.{run_reply}
 use Rattle.sentences.specs.Sentence.{word_numbered, five_of, five_numbered, displayed}
 use Rattle.host.specs.declared.display.WriteReply.{WriteReply}
 
-abbrev pub write_reply : WriteAnswer → WriteReply
-write_reply (write.Length n) = record { length = n; refusal = 0 }
-write_reply (write.Refused n) = record { length = 0; refusal = n }
+abbrev pub write_reply : Checked ℕ → WriteReply
+write_reply (accepted n) = record { length = n; refusal = 0 }
+write_reply (refused n) = record { length = 0; refusal = n }
 
 -- the answer, and the display buffer
 pub record AfterSentence : Type 0 where

@@ -1,10 +1,10 @@
 -- STRUCTS WITH ANOTHER NUMBER IN EACH FIELD: 1 and on, in the order of the fields.
-use Rattle.std.specs.Prelude.{ℕ, zero, suc, ◌+◌, ◌*◌, List, [], ◌∷◌, pos, set, replicate}
+use Rattle.std.specs.Prelude.{ℕ, ◌+◌, ◌*◌, List, [], ◌∷◌, map, pos}
+use Rattle.std.specs.List.{range_with_len}
 use Rattle.definition.specs.declared.Lump.{Lump}
 use Rattle.definition.specs.declared.FileRecord.{FileRecord}
 use Rattle.definition.specs.declared.Settings.{Settings}
 use Rattle.definition.specs.declared.StackFrame.{StackFrame}
-use Rattle.definition.specs.Machine.{zero_frame}
 use Rattle.progs.specs.declared.ExecutionContext.{ExecutionContext}
 use Rattle.host.specs.declared.layout.Structs.{Structs}
 use Rattle.host.specs.declared.records.StatementReply.{StatementReply}
@@ -32,10 +32,9 @@ numbered_settings = record { check_number = 15; depth = 16; saved = 17; limit = 
 abbrev pub numbered_frame : ℕ → StackFrame
 numbered_frame i = record { instr_id = pos (24 + 2 * i); func_id = 25 + 2 * i }
 
--- the first k of the 31 frames have their numbers
-unfoldable pub numbered_frames : ℕ → List StackFrame
-numbered_frames zero = replicate 31 zero_frame
-numbered_frames (suc k) = set (numbered_frames k) k (numbered_frame k)
+-- the 31 frames
+abbrev pub numbered_frames : List StackFrame
+numbered_frames = map numbered_frame (range_with_len 0 31)
 
 abbrev pub numbered_context : ExecutionContext
 numbered_context =
@@ -47,7 +46,7 @@ numbered_context =
       depth = 21;
       saved = 22;
       entity_count = 23;
-      frames = numbered_frames 31;
+      frames = numbered_frames;
     }
 
 abbrev pub numbered_statement : StatementReply

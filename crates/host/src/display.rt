@@ -1,9 +1,10 @@
 // The sentence of a run's outcome for a display (document 02, R-8). It takes no state. A function that is exported can't return an enum, so the answer is
 // two numbers: the length of what was written and the refusal's number, each 0 where there is none.
 ghost use Rattle.std.specs.Prelude.{◌≡◌};
+ghost use Rattle.definition.specs.Refusals.{checked};
 ghost use Rattle.host.specs.Display.{write_reply, display_of, after_sentence};
 
-use definition::WriteAnswer;
+use definition::refusal::Refusal;
 
 #[repr(C)]
 #[derive(Clone, Copy)]
@@ -12,15 +13,17 @@ pub struct WriteReply {
     pub refusal: u32,
 }
 
-pub fn reply_written(answer: WriteAnswer) -> WriteReply
-    ensures { result ≡ write_reply answer }
-{
-    match answer {
-        WriteAnswer::Length(length) => return WriteReply { length, refusal: 0 },
-        WriteAnswer::Refused(n) => return WriteReply {
-            length: 0,
-            refusal: n as u32,
-        },
+impl From<Result<usize, Refusal>> for WriteReply {
+    ghost from_gives = { λ answer reply. reply ≡ write_reply (checked answer) };
+
+    fn from(answer: Result<usize, Refusal>) -> WriteReply {
+        match answer {
+            Ok(length) => WriteReply { length, refusal: 0 },
+            Err(refusal) => WriteReply {
+                length: 0,
+                refusal: u32::from(refusal.number()),
+            },
+        }
     }
 }
 
@@ -36,6 +39,5 @@ pub extern "C" fn host_sentence(
 ) -> WriteReply
     ensures { display_of result display.new ≡ after_sentence word detail count position function display.old }
 {
-    let answer = sentences::compose_numbers(display, word, detail, count, position, function);
-    reply_written(answer)
+    sentences::compose_numbers(display, word, detail, count, position, function).into()
 }

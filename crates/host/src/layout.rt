@@ -1,13 +1,11 @@
 // Where the fields of the structs lie. A host declares the structs again, and sees by a number of its own in each field whether its places are these.
-ghost use Rattle.std.specs.Prelude.{◌≡◌, ◌≤◌};
-ghost use Rattle.host.specs.Layout.{numbered_file, numbered_settings, numbered_context, numbered_statement, numbered_function, numbered_structs};
+ghost use Rattle.std.specs.Prelude.{◌≡◌, ◌+◌, ◌≤◌};
+ghost use Rattle.host.specs.Layout.{numbered_lump, numbered_file, numbered_settings, numbered_context, numbered_statement, numbered_function, numbered_structs};
 
 use crate::display::WriteReply;
 use crate::records::{DefinitionReply, FunctionReply, HeaderReply, StatementReply};
 use call_list::Replied;
-use definition::{
-    Definition, FileRecord, FunctionDef, GREATEST_DEPTH, Lump, Settings, StackFrame, Statement,
-};
+use definition::{Definition, FileRecord, FunctionDef, Lump, Settings, StackFrame, Statement};
 use progs::ExecutionContext;
 
 // All that the exported functions answer.
@@ -22,36 +20,28 @@ pub struct Structs {
     pub written: WriteReply,
 }
 
+fn numbered_lump(n: usize) -> Lump
+    requires { n ≤ 102 }
+    ensures { result ≡ numbered_lump n (n + 1) }
+{
+    Lump {
+        offset: n,
+        count: n + 1,
+    }
+}
+
 fn numbered_file(n: usize) -> FileRecord
     requires { n ≤ 91 }
     ensures { result ≡ numbered_file n }
 {
     FileRecord {
         length: n,
-        statements: Lump {
-            offset: n + 1,
-            count: n + 2,
-        },
-        globaldefs: Lump {
-            offset: n + 3,
-            count: n + 4,
-        },
-        fielddefs: Lump {
-            offset: n + 5,
-            count: n + 6,
-        },
-        functions: Lump {
-            offset: n + 7,
-            count: n + 8,
-        },
-        strings: Lump {
-            offset: n + 9,
-            count: n + 10,
-        },
-        globals: Lump {
-            offset: n + 11,
-            count: n + 12,
-        },
+        statements: numbered_lump(n + 1),
+        globaldefs: numbered_lump(n + 3),
+        fielddefs: numbered_lump(n + 5),
+        functions: numbered_lump(n + 7),
+        strings: numbered_lump(n + 9),
+        globals: numbered_lump(n + 11),
         entityfields: n + 13,
     }
 }
@@ -70,31 +60,18 @@ fn numbered_settings() -> Settings
 fn numbered_context() -> ExecutionContext
     ensures { result ≡ numbered_context }
 {
-    let none = StackFrame {
-        instr_id: 0,
-        func_id: 0,
-    };
-    let mut frames = [none; GREATEST_DEPTH];
-    let mut i: usize = 0;
-    while i < GREATEST_DEPTH {
-        let frame = StackFrame {
-            instr_id: (24 + 2 * i) as i64,
-            func_id: 25 + 2 * i,
-        };
-        frames[i] = frame;
-        i += 1;
-    }
-    let file = numbered_file(1);
-    let settings = numbered_settings();
     ExecutionContext {
-        file,
-        settings,
+        file: numbered_file(1),
+        settings: numbered_settings(),
         pc: 19,
         current_function: 20,
         depth: 21,
         saved: 22,
         entity_count: 23,
-        frames,
+        frames: std::array::from_fn(|i| StackFrame {
+            instr_id: (24 + 2 * i) as i64,
+            func_id: 25 + 2 * i,
+        }),
     }
 }
 
@@ -116,7 +93,6 @@ fn numbered_statement() -> StatementReply
 fn numbered_function() -> FunctionReply
     ensures { result ≡ numbered_function }
 {
-    let argsz = [119, 120, 121, 122, 123, 124, 125, 126];
     FunctionReply {
         found: 111,
         refusal: 112,
@@ -127,7 +103,7 @@ fn numbered_function() -> FunctionReply
             name: 116,
             srcfile: 117,
             argc: 118,
-            argsz,
+            argsz: [119, 120, 121, 122, 123, 124, 125, 126],
         },
     }
 }
@@ -136,13 +112,9 @@ fn numbered_function() -> FunctionReply
 pub extern "C" fn host_layout() -> Structs
     ensures { result ≡ numbered_structs }
 {
-    let context = numbered_context();
-    let recorded = numbered_file(91);
-    let statement = numbered_statement();
-    let function = numbered_function();
     Structs {
         reply: Replied {
-            context,
+            context: numbered_context(),
             word: 86,
             detail: 87,
             count: 88,
@@ -150,10 +122,10 @@ pub extern "C" fn host_layout() -> Structs
         header: HeaderReply {
             found: 89,
             refusal: 90,
-            recorded,
+            recorded: numbered_file(91),
         },
-        statement,
-        function,
+        statement: numbered_statement(),
+        function: numbered_function(),
         definition: DefinitionReply {
             found: 127,
             refusal: 128,

@@ -1,10 +1,11 @@
 // The static library: each operation under a name of C, and the readers of records. A function that is exported can't return an enum, so an answer is
 // three numbers, those of a list of calls, beside the context after the operation. No function asks anything of its caller but that the buffers are
-// what they are said to be.
-#![tactic(auto)]
+// what they are said to be. Their parameters are those of the C interface, and each calls one operation and makes one reply, so that a function for two of them would be no plainer.
+#![tactic(auto, unfolding(definition::specs::Calls::after, call_list::specs::Encoding::reply))]
 
 ghost use Rattle.std.specs.Prelude.{◌≡◌};
 ghost use Rattle.definition.specs.Load.{program_of};
+ghost use Rattle.definition.specs.Written.{write_file, outcome_of, write_outcome};
 ghost use Rattle.definition.specs.Calls.{enters, runs_unpacked, carries, abandons, reads, writes, writes_all};
 ghost use Rattle.progs.specs.Contexts.{config};
 ghost use Rattle.call_list.specs.Encoding.{replied_of, after_call};
@@ -13,8 +14,9 @@ ghost use Rattle.host.specs.Unpacking.{unpacking_of, after_unpacking};
 ghost use Rattle.host.specs.Writing.{writing_of, after_writing};
 
 use call_list::Replied;
-use definition::{ReadAnswer, Settings, WriteAnswer};
-use progs::{Answered, ExecutionContext, load};
+use definition::Settings;
+use definition::refusal::Refusal;
+use progs::{ExecutionContext, load};
 
 mod display;
 mod layout;
@@ -33,13 +35,15 @@ pub extern "C" fn host_load(
 ) -> Replied
     ensures { replied_of result cells.new store.now entities.now ≡ after_load settings file.now number cells.old store.now entities.now }
 {
-    let loaded = load::load(settings, file, number, cells, store, entities);
-    call_list::reply_answer(loaded)
+    match load::load(settings, file, number, cells, store, entities) {
+        Ok(context) => call_list::reply_answer(context, Ok(())),
+        Err(refusal) => call_list::reply_answer(ExecutionContext::of_nothing(), Err(refusal)),
+    }
 }
 
 #[unsafe(no_mangle)]
 pub extern "C" fn host_enter(
-    context: ExecutionContext,
+    mut context: ExecutionContext,
     file: &[u8],
     function: i64,
     cells: &mut [u32],
@@ -49,7 +53,7 @@ pub extern "C" fn host_enter(
     ensures { replied_of result cells.new store.new entities.now ≡ after_call (program_of file.now) (enters function) (config context cells.old store.old entities.now) }
 {
     let entered = context.enter(file, function, cells, store, entities);
-    call_list::reply_answer(entered)
+    call_list::reply_answer(context, entered)
 }
 
 // A run of the second engine, from the buffer (document 02, R-12).
@@ -74,7 +78,7 @@ pub extern "C" fn host_run_unpacked(
 
 #[unsafe(no_mangle)]
 pub extern "C" fn host_carry_on(
-    context: ExecutionContext,
+    mut context: ExecutionContext,
     file: &[u8],
     cells: &[u32],
     store: &[u32],
@@ -83,12 +87,12 @@ pub extern "C" fn host_carry_on(
     ensures { replied_of result cells.now store.now entities.now ≡ after_call (program_of file.now) carries (config context cells.now store.now entities.now) }
 {
     let carried = context.carry_on(file, cells, store, entities);
-    call_list::reply_answer(carried)
+    call_list::reply_answer(context, carried)
 }
 
 #[unsafe(no_mangle)]
 pub extern "C" fn host_abandon(
-    context: ExecutionContext,
+    mut context: ExecutionContext,
     file: &[u8],
     target: i64,
     cells: &mut [u32],
@@ -98,7 +102,7 @@ pub extern "C" fn host_abandon(
     ensures { replied_of result cells.new store.now entities.now ≡ after_call (program_of file.now) (abandons target) (config context cells.old store.now entities.now) }
 {
     let abandoned = context.abandon(file, target, cells, store, entities);
-    call_list::reply_answer(abandoned)
+    call_list::reply_answer(context, abandoned)
 }
 
 // The detail is the cell where it is accepted.
@@ -130,7 +134,7 @@ pub extern "C" fn host_write(
     ensures { replied_of result cells.new store.now entities.now ≡ after_call (program_of file.now) (writes address value) (config context cells.old store.now entities.now) }
 {
     let written = context.write(file, address, value, cells, store, entities);
-    call_list::reply_answer(written)
+    call_list::reply_answer(context, written)
 }
 
 // The pairs of address and value in `numbers`, all or none (document 02, R-9).
@@ -146,7 +150,22 @@ pub extern "C" fn host_write_all(
     ensures { replied_of result cells.new store.now entities.now ≡ after_call (program_of file.now) (writes_all numbers.now) (config context cells.old store.now entities.now) }
 {
     let written = context.write_all(file, numbers, cells, store, entities);
-    call_list::reply_answer(written)
+    call_list::reply_answer(context, written)
+}
+
+// A written program is no longer than a file may be, so its length has room in 32 bits.
+fn write_file(
+    context: &ExecutionContext,
+    file: &[u8],
+    cells: &[u32],
+    store: &[u32],
+    entities: &[u32],
+    output: &mut [u8],
+) -> Result<u32, Refusal>
+    ensures { outcome_of result output.new ≡ write_outcome output.old (write_file file.now output.old (config context.now cells.now store.now entities.now)) }
+{
+    let length = image::write_file(context, file, cells, store, entities, output)?;
+    Ok(length as u32)
 }
 
 // The program of the file at the front of the output buffer (document 02, R-6). The detail is its length where it is accepted.
@@ -161,13 +180,8 @@ pub extern "C" fn host_write_file(
 ) -> Replied
     ensures { writing_of result output.new ≡ after_writing file.now output.old context cells.now store.now entities.now }
 {
-    match image::write_file(context, file, cells, store, entities, output) {
-        WriteAnswer::Length(n) => return call_list::reply_read(
-            context,
-            ReadAnswer::Value(n as u32),
-        ),
-        WriteAnswer::Refused(n) => return call_list::reply_read(context, ReadAnswer::Refused(n)),
-    }
+    let written = write_file(&context, file, cells, store, entities, output);
+    call_list::reply_read(context, written)
 }
 
 // The file's statements at the front of the buffer (document 02, R-12).
@@ -182,6 +196,6 @@ pub extern "C" fn host_unpack(
 ) -> Replied
     ensures { unpacking_of result buffer.new ≡ after_unpacking file.now buffer.old context cells.now store.now entities.now }
 {
-    let answer = unpacked::unpack(context, file, buffer, cells, store, entities);
-    call_list::reply_answer(Answered { context, answer })
+    let unpacked = unpacked::unpack(&context, file, buffer, cells, store, entities);
+    call_list::reply_answer(context, unpacked)
 }

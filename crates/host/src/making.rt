@@ -2,13 +2,11 @@
 ghost use Rattle.std.specs.Prelude.{◌≡◌};
 ghost use Rattle.host.specs.Making.{making_of, after_making};
 
-use crate::display;
 use crate::display::WriteReply;
 
 #[unsafe(no_mangle)]
 pub extern "C" fn host_make_file(seed: u32, n: i64, output: &mut [u8]) -> WriteReply
     ensures { making_of result output.new ≡ after_making seed n output.old }
 {
-    let answer = load_files::make_file(seed, n, output);
-    display::reply_written(answer)
+    load_files::make_file(seed, n, output).into()
 }

@@ -2,13 +2,38 @@
 // there, 1 or 0, and the refusal's number, 0 for none. Where a definition isn't there, which has no number in 01, both are 0. A record that isn't
 // there is of zeros.
 ghost use Rattle.std.specs.Prelude.{◌≡◌};
+ghost use Rattle.definition.specs.Refusals.{checked};
 ghost use Rattle.view.specs.Records.{statement_in, function_in, definition_in, field_in};
-ghost use Rattle.host.specs.Found.{header_absent, header_reply, statement_reply, function_reply, definition_absent, definition_reply};
+ghost use Rattle.host.specs.Found.{numbered, header_in, header_answered, header_reply, statement_reply, function_reply, definition_reply};
 
-use definition::{Answer, Definition, FileRecord, FunctionDef, Lump, Statement};
-use functions::fetch::Fetched;
+use definition::refusal::Refusal;
+use definition::{
+    Definition, FileRecord, FunctionDef, HEADER_LENGTH, LONGEST_FILE, MOST_ARGUMENTS, Statement,
+};
 use functions::header;
-use view::{FoundDefinition, FoundFunction};
+
+const NO_STATEMENT: Statement = Statement {
+    opcode: 0,
+    arg1: 0,
+    arg2: 0,
+    arg3: 0,
+};
+
+const NO_FUNCTION: FunctionDef = FunctionDef {
+    first: 0,
+    start: 0,
+    locals: 0,
+    name: 0,
+    srcfile: 0,
+    argc: 0,
+    argsz: [0; MOST_ARGUMENTS],
+};
+
+const NO_DEFINITION: Definition = Definition {
+    kind: 0,
+    offset: 0,
+    name: 0,
+};
 
 #[repr(C)]
 #[derive(Clone, Copy)]
@@ -42,145 +67,101 @@ pub struct DefinitionReply {
     pub definition: Definition,
 }
 
-fn no_header() -> HeaderReply
-    ensures { result ≡ header_absent }
+// The two numbers, and the record that stands beside them: `none` where it isn't there.
+fn numbered<T: Copy>(answer: Result<Option<T>, Refusal>, none: T) -> (u32, u32, T)
+    ensures { result ≡ numbered none (checked answer) }
 {
-    let none = Lump {
-        offset: 0,
-        count: 0,
-    };
-    let recorded = FileRecord {
-        length: 0,
-        statements: none,
-        globaldefs: none,
-        fielddefs: none,
-        functions: none,
-        strings: none,
-        globals: none,
-        entityfields: 0,
-    };
-    HeaderReply {
-        found: 0,
-        refusal: 1,
-        recorded,
-    }
-}
-
-fn reply_statement(fetched: Fetched) -> StatementReply
-    ensures { result ≡ statement_reply fetched }
-{
-    match fetched {
-        Fetched::At(_, statement) => {
-            return StatementReply {
-                found: 1,
-                refusal: 0,
-                statement,
-            };
-        }
-        Fetched::Refused(n) => {
-            let statement = Statement {
-                opcode: 0,
-                arg1: 0,
-                arg2: 0,
-                arg3: 0,
-            };
-            return StatementReply {
-                found: 0,
-                refusal: n as u32,
-                statement,
-            };
-        }
-    }
-}
-
-fn reply_function(found: FoundFunction) -> FunctionReply
-    ensures { result ≡ function_reply found }
-{
-    let answer = found.answer;
-    let function = found.def;
     match answer {
-        Answer::Accepted => {
-            return FunctionReply {
-                found: 1,
-                refusal: 0,
-                function,
-            };
-        }
-        Answer::Refused(n) => {
-            return FunctionReply {
-                found: 0,
-                refusal: n as u32,
-                function,
-            };
+        Ok(Some(record)) => (1, 0, record),
+        Ok(None) => (0, 0, none),
+        Err(refusal) => (0, u32::from(refusal.number()), none),
+    }
+}
+
+impl From<Result<FileRecord, Refusal>> for HeaderReply {
+    ghost from_gives = { λ answer reply. reply ≡ header_answered (checked answer) };
+
+    fn from(answer: Result<FileRecord, Refusal>) -> HeaderReply {
+        let (found, refusal, recorded) = numbered(answer.map(Some), FileRecord::default());
+        HeaderReply {
+            found,
+            refusal,
+            recorded,
         }
     }
 }
 
-fn no_definition(refusal: u32) -> DefinitionReply
-    ensures { result ≡ definition_absent refusal }
+impl From<Result<(usize, Statement), Refusal>> for StatementReply {
+    ghost from_gives = { λ answer reply. reply ≡ statement_reply (checked answer) };
+
+    fn from(answer: Result<(usize, Statement), Refusal>) -> StatementReply {
+        let read = answer.map(|(_, statement)| Some(statement));
+        let (found, refusal, statement) = numbered(read, NO_STATEMENT);
+        StatementReply {
+            found,
+            refusal,
+            statement,
+        }
+    }
+}
+
+impl From<Result<FunctionDef, Refusal>> for FunctionReply {
+    ghost from_gives = { λ answer reply. reply ≡ function_reply (checked answer) };
+
+    fn from(answer: Result<FunctionDef, Refusal>) -> FunctionReply {
+        let (found, refusal, function) = numbered(answer.map(Some), NO_FUNCTION);
+        FunctionReply {
+            found,
+            refusal,
+            function,
+        }
+    }
+}
+
+impl From<Result<Option<Definition>, Refusal>> for DefinitionReply {
+    ghost from_gives = { λ answer reply. reply ≡ definition_reply (checked answer) };
+
+    fn from(answer: Result<Option<Definition>, Refusal>) -> DefinitionReply {
+        let (found, refusal, definition) = numbered(answer, NO_DEFINITION);
+        DefinitionReply {
+            found,
+            refusal,
+            definition,
+        }
+    }
+}
+
+// Refusal 1 is for a length that no file may have.
+#[tactic(auto, unfolding(definition::specs::File::file_of))]
+fn read_header(file: &[u8]) -> Result<FileRecord, Refusal>
+    ensures { checked result ≡ header_in file.now }
 {
-    let definition = Definition {
-        kind: 0,
-        offset: 0,
-        name: 0,
-    };
-    DefinitionReply {
-        found: 0,
-        refusal,
-        definition,
+    if !(HEADER_LENGTH..=LONGEST_FILE).contains(&file.len()) {
+        return Err(Refusal::FileLength);
     }
+    Ok(header::file_of(file))
 }
 
-fn reply_definition(found: FoundDefinition) -> DefinitionReply
-    ensures { result ≡ definition_reply found }
-{
-    match found {
-        FoundDefinition::At(definition) => {
-            return DefinitionReply {
-                found: 1,
-                refusal: 0,
-                definition,
-            };
-        }
-        FoundDefinition::NoDefinition => return no_definition(0),
-        FoundDefinition::Refused(n) => return no_definition(n as u32),
-    }
-}
-
-// What the header says of the file, in the form in which a context records it. Refusal 1 is for a length that no file may have.
+// What the header says of the file, in the form in which a context records it.
 #[unsafe(no_mangle)]
 pub extern "C" fn host_read_header(file: &[u8]) -> HeaderReply
     ensures { result ≡ header_reply file.now }
 {
-    if file.len() < 60 {
-        return no_header();
-    }
-    let recorded = header::file_of(file);
-    if header::length_fits(recorded) {
-        HeaderReply {
-            found: 1,
-            refusal: 0,
-            recorded,
-        }
-    } else {
-        no_header()
-    }
+    read_header(file).into()
 }
 
 #[unsafe(no_mangle)]
 pub extern "C" fn host_read_statement(file: &[u8], recorded: FileRecord, pc: i64) -> StatementReply
     ensures { result ≡ statement_reply (statement_in file.now recorded pc) }
 {
-    let fetched = view::read_statement(file, recorded, pc);
-    reply_statement(fetched)
+    view::read_statement(file, recorded, pc).into()
 }
 
 #[unsafe(no_mangle)]
 pub extern "C" fn host_read_function(file: &[u8], recorded: FileRecord, id: i64) -> FunctionReply
     ensures { result ≡ function_reply (function_in file.now recorded id) }
 {
-    let found = view::read_function(file, recorded, id);
-    reply_function(found)
+    view::read_function(file, recorded, id).into()
 }
 
 #[unsafe(no_mangle)]
@@ -191,14 +172,12 @@ pub extern "C" fn host_read_definition(
 ) -> DefinitionReply
     ensures { result ≡ definition_reply (definition_in file.now recorded index) }
 {
-    let found = view::read_definition(file, recorded, index);
-    reply_definition(found)
+    view::read_definition(file, recorded, index).into()
 }
 
 #[unsafe(no_mangle)]
 pub extern "C" fn host_read_field(file: &[u8], recorded: FileRecord, index: i64) -> DefinitionReply
     ensures { result ≡ definition_reply (field_in file.now recorded index) }
 {
-    let found = view::read_field(file, recorded, index);
-    reply_definition(found)
+    view::read_field(file, recorded, index).into()
 }

@@ -3,34 +3,46 @@
 #![tactic(auto)]
 
 ghost use Rattle.std.specs.Prelude.{◌≡◌, ◌≤◌, length};
+ghost use Rattle.definition.specs.Written.{outcome_of};
 ghost use Rattle.text.specs.Output.{output, at_front};
-ghost use Rattle.load_file.specs.Printed.{printed};
+ghost use Rattle.load_file.specs.Numbers.{numbers_of};
+ghost use Rattle.load_file.specs.Printed.{printed, made_for};
 
-use definition::WriteAnswer;
+use definition::refusal::Refusal;
 use load_files::LONGEST;
 use numbers::LONGEST_LINE;
 use std::io;
-use std::io::Write;
+use std::io::{Read, Write};
 
 mod numbers;
 
-// What is printed stands at the front of `out`; the result is its length.
+// The file that a line asks for. A line without two numbers is refused as a load file that isn't permitted is.
+fn make_file(line: &[u8], out: &mut [u8]) -> Result<usize, Refusal>
+    ensures { outcome_of result out.new ≡ made_for (numbers_of line.now) out.old }
+{
+    let asked = numbers::read_numbers(line).ok_or(Refusal::LoadFile)?;
+    load_files::make_file(asked.seed, i64::from(asked.n), out)
+}
+
+// What is printed stands at the front of `out`; the result is its length. `padding::pad` ends so too: a line or two, of another file.
 fn print_file(line: &[u8], out: &mut [u8]) -> usize
     requires { 8405 ≤ length out.old }
     ensures result_after { output out.new result ≡ at_front (printed line.now) out.old }
     ensures upper_bound { result ≤ 8405 }
 {
-    let asked = numbers::read_numbers(line);
-    match load_files::make_file(asked.seed, asked.n as i64, out) {
-        WriteAnswer::Length(n) => return n,
-        WriteAnswer::Refused(n) => return text::refused_line(out, n),
+    match make_file(line, out) {
+        Ok(n) => n,
+        Err(refusal) => text::refused_line(out, refusal.number()),
     }
 }
 
+// An array, since the longest file is known and the contract says that there is room.
 fn main(rt: HostRuntime) -> io::Result<()> {
-    let mut line = [0u8; LONGEST_LINE + 1];
+    let mut line = Vec::new(rt.alloc());
     let mut out = [0u8; LONGEST];
-    let n = streams::read_full(&mut rt.stdin(), &mut line)?;
-    let end = print_file(&line[..n], &mut out);
+    rt.stdin()
+        .take(LONGEST_LINE as u64 + 1)
+        .read_to_end(&mut line)?;
+    let end = print_file(&line, &mut out);
     rt.stdout().write_all(&out[..end])
 }

@@ -5,8 +5,7 @@ use Rattle.std.proofs.Math.Bool.{and-false}
 use Rattle.std.proofs.Common.{arith}
 use borrow.Author.Tests.{le-leb, lt-leb, ne_eqb}
 use Rattle.std.proofs.Math.ListN.{length}
-use Rattle.definition.specs.declared.WriteAnswer.TheVariants as write
-use Rattle.definition.specs.Checks.{judge, guard}
+use Rattle.definition.specs.Checks.{judge, refused, accepted, guard}
 use Rattle.definition.specs.Written.{layout, WriteOutcome, write_outcome}
 use Rattle.load_files.specs.LoadFile.{bytes_for, make_conditions, make_file}
 use Rattle.load_files.specs.Laws.{length_file}
@@ -19,7 +18,7 @@ length_is seed n = omega (arith, length_file seed n)
 module _ (output : List ℕ) where
   -- the answer, with the output buffer as it was
   abbrev refuses : ℕ → WriteOutcome
-  refuses number = record { answer = write.Refused number; output = output }
+  refuses number = record { answer = refused number; output = output }
 
   -- 35, whatever the output buffer is
   pub no_seed : (n : ℤ) → write_outcome output (make_file 0 n output) ≡ refuses 35
@@ -46,7 +45,7 @@ module _ (output : List ℕ) where
 
       pub makes : length (bytes_for seed n) ≤ length output
           → write_outcome output (make_file seed (pos n) output)
-          ≡ record { answer = write.Length (length (bytes_for seed n)); output = bytes_for seed n ++ drop (length (bytes_for seed n)) output }
+          ≡ record { answer = accepted (length (bytes_for seed n)); output = bytes_for seed n ++ drop (length (bytes_for seed n)) output }
       unfolding make_file make_conditions guard judge
       makes h =
           let short : length (bytes_for seed n) ≤ 1048576 = omega (arith, length_is seed n) in

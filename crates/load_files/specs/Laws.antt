@@ -74,18 +74,21 @@ abbrev pub lumps_for : ℕ → ℕ → List ℕ
 lumps_for seed n =
     bytes_of statement_bytes (statements_of seed n) ++ (bytes_of function_bytes functions_of ++ (0 ∷ bytes_of u32_bytes (cells_of seed)))
 
+-- so many records in a lump
+abbrev pub counted : ℕ → Lump
+counted n = record { offset = 0; count = n }
+
 -- how many there are in each lump, the offsets apart
 abbrev pub counts_for : ℕ → FileRecord
 counts_for n =
-    let none : Lump = record { offset = 0; count = 0 } in
     record {
       length = 0;
-      statements = record { offset = 0; count = n + 2 };
-      globaldefs = none;
-      fielddefs = none;
-      functions = record { offset = 0; count = 2 };
-      strings = record { offset = 0; count = 1 };
-      globals = record { offset = 0; count = 64 };
+      statements = counted (n + 2);
+      globaldefs = counted 0;
+      fielddefs = counted 0;
+      functions = counted 2;
+      strings = counted 1;
+      globals = counted 64;
       entityfields = 105;
     }
 

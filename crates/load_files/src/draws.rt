@@ -2,6 +2,7 @@
 ghost use Rattle.std.specs.Prelude.{◌≡◌};
 ghost use Rattle.load_files.specs.Draws.{draw, after};
 
+#[tactic(auto, using(crate::proofs::Shifts::drawn_by_shifts))]
 pub fn draw(s: u32) -> u32
     ensures { result ≡ draw s }
 {
@@ -11,14 +12,13 @@ pub fn draw(s: u32) -> u32
 }
 
 // So many draws, of which the last is given.
+#[tactic(auto, using(crate::proofs::Drawing::after_none, crate::proofs::Drawing::after_more))]
 pub fn skip(seed: u32, count: usize) -> u32
     ensures { result ≡ after count seed }
 {
     let mut s = seed;
-    let mut i = 0;
-    while i < count {
+    for _ in 0..count {
         s = draw(s);
-        i += 1;
     }
     s
 }

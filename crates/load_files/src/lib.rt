@@ -2,15 +2,18 @@
 #![tactic(auto)]
 
 ghost use Rattle.std.specs.Prelude.{◌≡◌, ◌+◌, ◌≤◌};
-ghost use Rattle.definition.specs.Written.{write_outcome};
-ghost use Rattle.text.specs.Output.{output, put, Room};
-ghost use Rattle.writer.specs.Outcomes.{outcome_of, writing};
+ghost use Rattle.definition.specs.Written.{write_outcome, outcome_of};
+ghost use Rattle.text.specs.Output.{Room};
+ghost use Rattle.text.specs.Writing.{at_place, Wrote};
+ghost use Rattle.writer.specs.Outcomes.{writing};
 ghost use Rattle.load_files.specs.LoadFile.{bytes_for, make_file};
-ghost use Rattle.load_files.specs.Laws.{lumps_for, layout_for};
+ghost use Rattle.load_files.specs.Laws.{lumps_for, counted, layout_for};
 
 use cells::DRAWN_COUNT;
-use definition::{CHECK_NUMBER, FUNCTION_SIZE, FileRecord, Lump, WriteAnswer};
+use definition::refusal::Refusal;
+use definition::{CHECK_NUMBER, FUNCTION_SIZE, FileRecord, Lump};
 use functions::fetch;
+use text::Writer;
 
 pub mod cells;
 pub mod draws;
@@ -25,85 +28,71 @@ const ENTITY_CELLS: usize = 105;
 // The longest load file.
 pub const LONGEST: usize = 8_405;
 
+// So many records, whose place is still to be found.
+fn counted(count: usize) -> Lump
+    ensures { result ≡ counted count }
+{
+    Lump { offset: 0, count }
+}
+
 // The lumps of a load file: statements with a Done before those that are drawn and a Return behind them, no definitions, two functions, a byte of
 // strings, 64 cells, 105 cells per entity.
 fn lumps(n: usize) -> FileRecord
     requires { n ≤ 1000 }
     ensures { result ≡ layout_for n }
 {
-    let none = Lump {
-        offset: 0,
-        count: 0,
-    };
-    let statements = Lump {
-        offset: 0,
-        count: n + 2,
-    };
-    let functions = Lump {
-        offset: 0,
-        count: 2,
-    };
-    let strings = Lump {
-        offset: 0,
-        count: 1,
-    };
-    let globals = Lump {
-        offset: 0,
-        count: cells::CELL_COUNT,
-    };
     writer::laid_out(FileRecord {
         length: 0,
-        statements,
-        globaldefs: none,
-        fielddefs: none,
-        functions,
-        strings,
-        globals,
+        statements: counted(n + 2),
+        globaldefs: counted(0),
+        fielddefs: counted(0),
+        functions: counted(2),
+        strings: counted(1),
+        globals: counted(cells::CELL_COUNT),
         entityfields: ENTITY_CELLS,
     })
 }
 
 // The lumps' bytes. The cells stand last and are drawn first, so the statements' draws go on from where the cells' end. Function 0 is all zeros, and so is
 // function 1 but for its first statement, 1.
-fn write_lumps(out: &mut [u8], at: usize, seed: u32, n: usize) -> usize
-    requires { Room (lumps_for seed n) (output out.old at) }
-    ensures { output out.new result ≡ put (lumps_for seed n) (output out.old at) }
+fn write_lumps(out: &mut Writer<'_>, seed: u32, n: usize)
+    requires { Room (lumps_for seed n) (at_place out.old) }
+    ensures { Wrote (lumps_for seed n) out.old out.new }
 {
     let mut functions = [0u8; 2 * FUNCTION_SIZE];
     functions[FUNCTION_SIZE] = 1;
     let s = draws::skip(seed, DRAWN_COUNT);
-    let mut next = statements::write_statements(out, at, n, s);
-    next = text::write_bytes(out, next, &functions);
-    next = text::write_byte(out, next, 0);
-    cells::write_cells(out, next, seed)
+    statements::write_statements(out, n, s);
+    out.write_bytes(&functions);
+    out.write_byte(0);
+    cells::write_cells(out, seed);
 }
 
 // At the front of the output buffer, or 34 and nothing.
-fn write_file(out: &mut [u8], seed: u32, n: usize) -> WriteAnswer
+#[tactic(auto, using(writer::proofs::Program::no_room, writer::proofs::Program::small, writing_laws::specs::Written::length_header, crate::specs::Laws::length_file, crate::specs::Laws::length_lumps), unfolding(definition::specs::Written::layout))]
+fn write_file(out: &mut [u8], seed: u32, n: usize) -> Result<usize, Refusal>
     requires { n ≤ 1000 }
     ensures { outcome_of result out.new ≡ writing (bytes_for seed n) out.old }
 {
     let laid = lumps(n);
     if out.len() < laid.length {
-        return WriteAnswer::Refused(34);
+        return Err(Refusal::OutputTooShort);
     }
-    let at = writer::write_header(out, CHECK_NUMBER, laid);
-    WriteAnswer::Length(write_lumps(out, at, seed, n))
+    let mut output = Writer { buf: out, at: 0 };
+    writer::write_header(&mut output, CHECK_NUMBER, laid);
+    write_lumps(&mut output, seed, n);
+    Ok(output.at)
 }
 
 // "A seed of 0 or another n is refused 35, then a short output buffer 34; nothing is written."
-pub fn make_file(seed: u32, n: i64, output: &mut [u8]) -> WriteAnswer
+#[tactic(auto, using(crate::proofs::Making::refused_35))]
+pub fn make_file(seed: u32, n: i64, output: &mut [u8]) -> Result<usize, Refusal>
     ensures { outcome_of result output.new ≡ write_outcome output.old (make_file seed n output.old) }
 {
     let count = fetch::place_of(0, n);
-    if seed == 0 {
-        return WriteAnswer::Refused(35);
+    if seed != 0 && (1..=MOST_STATEMENTS).contains(&count) {
+        write_file(output, seed, count)
+    } else {
+        Err(Refusal::LoadFile)
     }
-    if count == 0 {
-        return WriteAnswer::Refused(35);
-    }
-    if MOST_STATEMENTS < count {
-        return WriteAnswer::Refused(35);
-    }
-    write_file(output, seed, count)
 }

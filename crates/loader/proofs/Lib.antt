@@ -1,5 +1,3 @@
 pub mod Each
-pub mod Header
-pub mod Filling
-pub mod Rows
+mod Rows
 pub mod Loads

@@ -1,60 +1,60 @@
-// The checks of a load in the order of document 01's table, and the filling of the lent cells (progs/mod.rs, load). A refusal is its number, 0 is none.
+// The checks of a load in the order of document 01's table, and the filling of the lent cells (progs/mod.rs, load).
 #![tactic(auto)]
 
-ghost use Rattle.std.specs.Prelude.{◌≡◌, [], ◌∷◌, ◌++◌, ◌/◌, ◌≤◌, ◌<◌, length, drop};
+ghost use Rattle.std.specs.Prelude.{◌≡◌, [], ◌∷◌, ◌++◌, ◌/◌, ◌≤◌, length, drop};
 ghost use Rattle.definition.specs.Checks.{judge, ◌otherwise◌};
+ghost use Rattle.definition.specs.Refusals.{number, refusal_in};
 ghost use Rattle.definition.specs.Load.{header_conditions, cell_conditions, file_conditions};
 ghost use Rattle.functions.specs.Parts.{cells_in};
 
-use definition::{CELL_SIZE, FileRecord, HEADER_LENGTH, LONGEST_FILE, SAVED_STORE, VERSION};
-use functions::{header, reads};
+use definition::refusal::Refusal;
+use definition::{FileRecord, HEADER_LENGTH, LONGEST_FILE, SAVED_STORE, VERSION};
+use functions::{header, parts, reads};
 
 pub mod records;
 
-// A condition's number where it fails.
-fn otherwise(holds: bool, number: u8) -> u8
-    requires { 0 < number }
-    ensures { result ≡ judge ((holds otherwise number) ∷ []) }
+// A condition's refusal where it fails.
+#[tactic(auto, unfolding(definition::specs::Checks::judge))]
+fn otherwise(holds: bool, refusal: Refusal) -> Result<(), Refusal>
+    ensures { refusal_in result ≡ judge ((holds otherwise number refusal) ∷ []) }
 {
-    if holds { 0 } else { number }
+    if holds { Ok(()) } else { Err(refusal) }
 }
 
 // The row "header", for files of this check number.
-fn header_refusal(file: &[u8], check: usize) -> u8
-    ensures { result ≡ judge (header_conditions check file.now) }
+#[tactic(auto, using(definition::proofs::RefusalLaws::numbered), unfolding(definition::specs::Checks::judge, definition::specs::Load::header_conditions, definition::specs::File::file_of))]
+fn check_header(file: &[u8], check: usize) -> Result<(), Refusal>
+    ensures { refusal_in result ≡ judge (header_conditions check file.now) }
 {
-    if file.len() < HEADER_LENGTH {
-        return 1;
-    }
-    if LONGEST_FILE < file.len() {
-        return 1;
-    }
-    if reads::u32_at(file, 0) != VERSION {
-        return 2;
-    }
-    if reads::u32_at(file, 4) as usize != check {
-        return 3;
-    }
-    otherwise(header::lumps_fit(header::file_of(file)), 4)
+    otherwise(
+        (HEADER_LENGTH..=LONGEST_FILE).contains(&file.len()),
+        Refusal::FileLength,
+    )?;
+    otherwise(reads::u32_at(file, 0) == VERSION, Refusal::Version)?;
+    otherwise(
+        reads::u32_at(file, 4) as usize == check,
+        Refusal::CheckNumber,
+    )?;
+    otherwise(header::lumps_fit(header::file_of(file)), Refusal::Lump)
 }
 
 // The row "cells".
-fn cells_refusal(least: usize, r: FileRecord, lent: usize, store: usize) -> u8
-    ensures { result ≡ judge (cell_conditions least r lent store) }
+#[tactic(auto, using(definition::proofs::RefusalLaws::numbered), unfolding(definition::specs::Checks::judge, definition::specs::Load::cell_conditions))]
+fn check_cells(least: usize, r: FileRecord, lent: usize, store: usize) -> Result<(), Refusal>
+    ensures { refusal_in result ≡ judge (cell_conditions least r lent store) }
 {
-    if !header::cells_fit(least, r) {
-        return 10;
-    }
-    if !header::entity_fits(r) {
-        return 11;
-    }
-    let globals = r.globals;
-    otherwise((globals.count <= lent) & (SAVED_STORE <= store), 12)
+    otherwise(header::cells_fit(least, r), Refusal::CellCount)?;
+    otherwise(header::entity_fits(r), Refusal::EntityCellCount)?;
+    otherwise(
+        (r.globals.count <= lent) & (SAVED_STORE <= store),
+        Refusal::LentTooShort,
+    )
 }
 
-// The number of the first condition that a load of a file fails, beside so many entities and so many lent cells of each store; `least` is the least number
-// of cells of a file, `check` the check number that it must have.
-pub fn file_refusal(
+// The first condition that a load of a file fails, beside so many entities and so many lent cells of each store; `least` is the least number of cells of a
+// file, `check` the check number that it must have.
+#[tactic(auto, using(definition::proofs::RefusalLaws::numbered, definition::proofs::CheckLaws::judge_append))]
+pub fn check_file(
     file: &[u8],
     least: usize,
     check: usize,
@@ -62,23 +62,17 @@ pub fn file_refusal(
     lent: usize,
     store: usize,
     entities: usize,
-) -> u8
-    ensures { result ≡ judge (file_conditions least check file.now number lent store entities) }
+) -> Result<(), Refusal>
+    ensures { refusal_in result ≡ judge (file_conditions least check file.now number lent store entities) }
 {
-    let h = header_refusal(file, check);
-    if h != 0 {
-        return h;
-    }
+    check_header(file, check)?;
     let r = header::file_of(file);
-    let n = records::records_refusal(file, r);
-    if n != 0 {
-        return n;
-    }
-    let c = cells_refusal(least, r, lent, store);
-    if c != 0 {
-        return c;
-    }
-    otherwise(header::entities_fit(number, r.entityfields, entities), 13)
+    records::check_records(file, r)?;
+    check_cells(least, r, lent, store)?;
+    otherwise(
+        header::entities_fit(number, r.entityfields, entities),
+        Refusal::State,
+    )
 }
 
 // The lent cells become the file's starting cells, from 0 on; the rest stay.
@@ -86,10 +80,5 @@ pub fn fill(globals: &[u8], cells: &mut [u32])
     requires { length globals.now / 4 ≤ length cells.old }
     ensures { cells.new ≡ cells_in globals.now ++ drop (length globals.now / 4) cells.old }
 {
-    let count = globals.len() / CELL_SIZE;
-    let mut i = 0;
-    while i < count {
-        cells[i] = reads::u32_at(globals, CELL_SIZE * i);
-        i += 1;
-    }
+    parts::fill(globals, cells);
 }

@@ -1,148 +1,138 @@
-// The records of a file, each along its row of document 01's table. A refusal is its number, 0 is none.
-ghost use Rattle.std.specs.Prelude.{◌≡◌, true, [], ◌∷◌, ◌+◌, ◌≤◌, length};
-ghost use Rattle.definition.specs.Checks.{judge};
+// The records of a file, each along its row of document 01's table.
+ghost use Rattle.std.specs.Prelude.{◌≡◌, true, ℕ, [], ◌∷◌, List, length};
+ghost use Rattle.std.proofs.Common.{lit≤};
+ghost use Rattle.definition.specs.Checks.{Conditions, judge};
+ghost use Rattle.definition.specs.Refusals.{refusal_in};
 ghost use Rattle.definition.specs.File.{lump_fits, lumps_fit, contents_at};
-ghost use Rattle.definition.specs.Load.{named, function_conditions, statement_conditions, type_known, globaldef_conditions, fielddef_conditions, record_conditions};
-ghost use Rattle.functions.specs.Parts.{part_of};
-ghost use Rattle.loader.specs.Records.{size_of, conditions_at, each_in};
+ghost use Rattle.definition.specs.Load.{named, function_conditions, statement_conditions, type_known, globaldef_conditions, fielddef_conditions, each, record_conditions};
+ghost use Rattle.functions.specs.Parts.{part_of, records_of};
+ghost use Rattle.loader.specs.Records.{read_fielddef, fielddef_local};
 
 use crate::otherwise;
+use definition::refusal::Refusal;
 use definition::{
-    DEFINITION_SIZE, Definition, FUNCTION_SIZE, FileRecord, FunctionDef, GREATEST_TYPE, Lump,
-    SAVE_FLAG, STATEMENT_SIZE, Statement,
+    DEFINITION_SIZE, Definition, FileRecord, FunctionDef, GREATEST_TYPE, Lump, SAVE_FLAG, Statement,
 };
-use functions::string_table::StringId;
-use functions::{ops, parts, reads, string_table};
+use functions::reads::FromBytes;
+use functions::{ops, parts};
 
-// The lumps whose records a load checks.
+// A record whose row a load checks, beside so many bytes of strings.
+pub trait Record: FromBytes {
+    ghost conditions: { ℕ → Self → Conditions };
+
+    fn check(self, strings: usize) -> Result<(), Refusal>
+        ensures { refusal_in result ≡ judge (conditions strings self) };
+}
+
+// A field's definition: the numbers of a global's, and another row.
 #[derive(Clone, Copy)]
-pub enum Kind {
-    Functions,
-    Statements,
-    Globaldefs,
-    Fielddefs,
+pub struct Fielddef {
+    pub definition: Definition,
 }
 
-fn name_refusal(strings: usize, name: u32) -> u8
-    ensures { result ≡ judge (named strings name ∷ []) }
-{
-    match string_table::id_from_i32(name, strings) {
-        StringId::Id(_) => return 0,
-        StringId::NoString => return 6,
-    }
-}
+impl FromBytes for Fielddef {
+    const SIZE: usize = DEFINITION_SIZE;
 
-fn function_refusal(strings: usize, def: FunctionDef) -> u8
-    ensures { result ≡ judge (function_conditions strings def) }
-{
-    if !functions::builtin_known(def) {
-        return 5;
-    }
-    let n = name_refusal(strings, def.name);
-    if n != 0 {
-        return n;
-    }
-    name_refusal(strings, def.srcfile)
-}
+    ghost SIZE = { 8 };
 
-fn statement_refusal(statement: Statement) -> u8
-    ensures { result ≡ judge (statement_conditions statement) }
-{
-    otherwise(ops::is_opcode(statement.opcode), 7)
-}
+    ghost read_at = { read_fielddef };
 
-fn type_refusal(def: Definition) -> u8
-    ensures { result ≡ judge (type_known def ∷ []) }
-{
-    otherwise(def.kind % SAVE_FLAG <= GREATEST_TYPE, 8)
-}
+    ghost sized = { (lit≤ tt, lit≤ tt) };
 
-fn globaldef_refusal(strings: usize, def: Definition) -> u8
-    ensures { result ≡ judge (globaldef_conditions strings def) }
-{
-    let n = name_refusal(strings, def.name);
-    if n != 0 {
-        return n;
-    }
-    type_refusal(def)
-}
+    ghost local = { fielddef_local };
 
-fn fielddef_refusal(strings: usize, def: Definition) -> u8
-    ensures { result ≡ judge (fielddef_conditions strings def) }
-{
-    let n = name_refusal(strings, def.name);
-    if n != 0 {
-        return n;
-    }
-    if SAVE_FLAG <= def.kind {
-        return 9;
-    }
-    type_refusal(def)
-}
-
-// The record that starts at byte `at` of a part.
-fn record_refusal(kind: Kind, part: &[u8], at: usize, strings: usize) -> u8
-    requires { at + size_of kind ≤ length part.now }
-    ensures { result ≡ judge (conditions_at kind strings part.now at) }
-{
-    match kind {
-        Kind::Functions => return function_refusal(strings, reads::read_function(part, at)),
-        Kind::Statements => return statement_refusal(reads::read_statement(part, at)),
-        Kind::Globaldefs => return globaldef_refusal(strings, reads::read_definition(part, at)),
-        Kind::Fielddefs => return fielddef_refusal(strings, reads::read_definition(part, at)),
-    }
-}
-
-fn size_of(kind: Kind) -> usize
-    ensures { result ≡ size_of kind }
-{
-    match kind {
-        Kind::Functions => FUNCTION_SIZE,
-        Kind::Statements => STATEMENT_SIZE,
-        Kind::Globaldefs => DEFINITION_SIZE,
-        Kind::Fielddefs => DEFINITION_SIZE,
-    }
-}
-
-fn part_refusal(kind: Kind, part: &[u8], strings: usize) -> u8
-    ensures { result ≡ judge (each_in kind strings part.now) }
-{
-    let size = size_of(kind);
-    let mut at = 0;
-    while size <= part.len() - at {
-        let r = record_refusal(kind, part, at, strings);
-        if r != 0 {
-            return r;
+    fn read(file: &[u8], at: usize) -> Fielddef {
+        Fielddef {
+            definition: Definition::read(file, at),
         }
-        at += size;
     }
-    0
 }
 
-fn lump_refusal(kind: Kind, file: &[u8], lump: Lump, strings: usize) -> u8
-    requires { lump_fits (size_of kind) (length file.now) lump ≡ true }
-    ensures { result ≡ judge (each_in kind strings (part_of (size_of kind) lump file.now)) }
+#[tactic(auto, unfolding(definition::specs::Checks::judge, functions::specs::Answers::function_id))]
+fn check_name(strings: usize, name: u32) -> Result<(), Refusal>
+    ensures { refusal_in result ≡ judge (named strings name ∷ []) }
 {
-    part_refusal(kind, parts::part(file, size_of(kind), lump), strings)
+    match functions::id_from_i32(name, strings) {
+        Some(_) => Ok(()),
+        None => Err(Refusal::Name),
+    }
+}
+
+fn check_type(def: Definition) -> Result<(), Refusal>
+    ensures { refusal_in result ≡ judge (type_known def ∷ []) }
+{
+    otherwise(
+        def.kind % SAVE_FLAG <= GREATEST_TYPE,
+        Refusal::DefinitionType,
+    )
+}
+
+#[tactic(auto, using(definition::proofs::RefusalLaws::numbered), unfolding(definition::specs::Checks::judge))]
+impl Record for FunctionDef {
+    ghost conditions = { function_conditions };
+
+    fn check(self, strings: usize) -> Result<(), Refusal> {
+        otherwise(functions::builtin_known(self), Refusal::BuiltinNumber)?;
+        check_name(strings, self.name)?;
+        check_name(strings, self.srcfile)
+    }
+}
+
+#[tactic(auto, using(definition::proofs::RefusalLaws::numbered), unfolding(definition::specs::Checks::judge))]
+impl Record for Statement {
+    ghost conditions = { λ _ statement. statement_conditions statement };
+
+    fn check(self, _strings: usize) -> Result<(), Refusal> {
+        otherwise(ops::is_opcode(self.opcode), Refusal::Opcode)
+    }
+}
+
+#[tactic(auto, using(definition::proofs::RefusalLaws::numbered), unfolding(definition::specs::Checks::judge))]
+impl Record for Definition {
+    ghost conditions = { globaldef_conditions };
+
+    fn check(self, strings: usize) -> Result<(), Refusal> {
+        check_name(strings, self.name)?;
+        check_type(self)
+    }
+}
+
+#[tactic(auto, using(definition::proofs::RefusalLaws::numbered), unfolding(definition::specs::Checks::judge))]
+impl Record for Fielddef {
+    ghost conditions = { λ strings field. fielddef_conditions strings field.definition };
+
+    fn check(self, strings: usize) -> Result<(), Refusal> {
+        check_name(strings, self.definition.name)?;
+        otherwise(self.definition.kind < SAVE_FLAG, Refusal::FieldSaveFlag)?;
+        check_type(self.definition)
+    }
+}
+
+fn check_part<R: Record>(part: &[u8], strings: usize) -> Result<(), Refusal>
+    ensures { refusal_in result ≡ judge (each (R.conditions strings) (records_of R.read_at R.SIZE part.now)) }
+{
+    for bytes in part.chunks_exact(R::SIZE) {
+        R::read(bytes, 0).check(strings)?;
+    }
+    Ok(())
+}
+
+fn check_lump<R: Record>(file: &[u8], lump: Lump, strings: usize) -> Result<(), Refusal>
+    requires { lump_fits R.SIZE (length file.now) lump ≡ true }
+    ensures { refusal_in result ≡ judge (each (R.conditions strings) (records_of R.read_at R.SIZE (part_of R.SIZE lump file.now))) }
+{
+    check_part::<R>(parts::part(file, R::SIZE, lump), strings)
 }
 
 // The rows "functions" to "global, then field definitions".
-pub fn records_refusal(file: &[u8], r: FileRecord) -> u8
+#[tactic(auto, using(definition::proofs::RefusalLaws::numbered, definition::proofs::CheckLaws::judge_append, crate::proofs::Rows::by_parts))]
+pub fn check_records(file: &[u8], r: FileRecord) -> Result<(), Refusal>
     requires { (lumps_fit r ≡ true) × (r.length ≡ length file.now) }
-    ensures { result ≡ judge (record_conditions r.strings.count (contents_at r file.now)) }
+    ensures { refusal_in result ≡ judge (record_conditions r.strings.count (contents_at r file.now)) }
 {
     let strings = r.strings.count;
-    let f = lump_refusal(Kind::Functions, file, r.functions, strings);
-    if f != 0 {
-        return f;
-    }
-    let s = lump_refusal(Kind::Statements, file, r.statements, strings);
-    if s != 0 {
-        return s;
-    }
-    let g = lump_refusal(Kind::Globaldefs, file, r.globaldefs, strings);
-    if g != 0 {
-        return g;
-    }
-    lump_refusal(Kind::Fielddefs, file, r.fielddefs, strings)
+    check_lump::<FunctionDef>(file, r.functions, strings)?;
+    check_lump::<Statement>(file, r.statements, strings)?;
+    check_lump::<Definition>(file, r.globaldefs, strings)?;
+    check_lump::<Fielddef>(file, r.fielddefs, strings)
 }

@@ -1,109 +1,91 @@
--- Pair after pair down a list of numbers: what is left of it at a place.
-use Prim.Native.Nat.{ℕ, zero, suc, ◌+◌, ◌%◌, ◌<◌, ◌≤◌}
-use mathlib.Core.Path.{◌≡◌, refl, sym, ◌∙◌, ap}
-use mathlib.Core.List.{List, [], ◌∷◌}
-use mathlib.Core.Bool.{true}
-use native.Mathlib.Omega.{arith}
-use borrow.Author.Tests.{lt-ltb, le-ltb, ltb-true, le-leb, lt-leb, eq-eqb, ne_eqb}
-use lib.IntN.{ℤ, pos, negsuc}
-use lib.ListN.{length, drop, get_or, set, length-drop}
-use lib.Seq.{drop-cons}
-use lib.Dec.{eqb, ltb, leb}
+-- Pair after pair down a list of numbers: what is left of it has a pair at its front. Assumes nothing.
+use Rattle.std.proofs.Common.{ℕ, ◌<◌, ◌≤◌, ◌≡◌, refl, sym, ◌∙◌, List, [], ◌∷◌, ◌++◌, true, false, length, get_or, arith, lt-ltb, le-ltb, ltb-true}
+use Rattle.std.specs.Prelude.{ℤ, pos, negsuc}
+use Rattle.std.proofs.Math.ListN.{set}
+use Rattle.std.proofs.lemmas.Bool.{false≢true}
+use Rattle.std.specs.Prelude.{Result, Ok, Err, not}
+use Rattle.std.specs.Result.{OkIff, is_err}
+use Rattle.std.specs.Int.{FitsUnsignedBits}
 use Rattle.definition.specs.Checks.{judge}
 use Rattle.definition.specs.CheckLaws.{All}
 use Rattle.definition.proofs.CheckLaws.{judge_passed}
-use Rattle.definition.proofs.PlaceLaws.{below_place, below_natural, place_zero}
+use Rattle.definition.proofs.PlaceLaws.{below_place, below_natural}
 use Rattle.definition.specs.Statements.{place_of}
 use Rattle.definition.specs.Operations.{natural, below, pair_conditions, pairs_conditions, pairs_written}
-use Rattle.pairs.specs.Together.{unless_refused}
 
--- ---- what is left of the numbers
-
-abbrev pub number : List ℤ → ℕ → ℤ
-number numbers at = get_or numbers at (pos 0)
-
-pub next_pair : (numbers : List ℤ) (at : ℕ) → at + 1 < length numbers → drop at numbers ≡ number numbers at ∷ number numbers (at + 1) ∷ drop (at + 2) numbers
-next_pair numbers at h =
-    let one : at + 1 ≡ suc at = omega arith in
-    let two : at + 2 ≡ suc (suc at) = omega arith in
-    drop-cons numbers at (pos 0) (omega arith)
-    ∙ ap (λ (l : List ℤ). number numbers at ∷ l) (drop-cons numbers (suc at) (pos 0) (omega arith) ∙ rw (one, two))
-
-none_left : (l : List ℤ) → length l ≤ 1 → (count : ℕ) (cells : List ℕ) → (judge (pair_conditions count l) ≡ 0) × (pairs_written l cells ≡ cells)
+-- no whole pair is left
+pub none_left : (part : List ℤ) → length part < 2 → (count : ℕ) (cells : List ℕ) → (judge (pair_conditions count part) ≡ 0) × (pairs_written part cells ≡ cells)
 unfolding judge pair_conditions pairs_written
 none_left [] h count cells = (refl, refl)
 none_left (a ∷ []) h count cells = (refl, refl)
-none_left (a ∷ v ∷ l) h count cells = absurd (omega arith)
+none_left (a ∷ v ∷ part) h count cells = absurd (omega arith)
 
-pub at_end : (numbers : List ℤ) (at : ℕ) → length numbers ≤ at + 1 → (count : ℕ) (cells : List ℕ)
-    → (judge (pair_conditions count (drop at numbers)) ≡ 0) × (pairs_written (drop at numbers) cells ≡ cells)
-at_end numbers at h = none_left (drop at numbers) (omega (arith, length-drop at numbers))
+natural_law : (a : ℤ) (n : ℕ) → below a n ≡ true → a ≡ pos (natural a)
+natural_law (pos i) n e = refl
+natural_law (negsuc i) n e = absurd (false≢true e)
 
--- ---- the check of a pair
+-- what is a value of a cell
+pub value_law : {E : Type 0} (v : ℤ) (w : ℕ) (r : Result ℕ E) → OkIff r (FitsUnsignedBits 32 v) w → below v 4294967296 ≡ not (is_err r)
+value_law (pos i) w (Ok x) h = lt-ltb i 4294967296 h.0
+value_law (pos i) w (Err e) h = le-ltb i 4294967296 (omega (arith, h))
+value_law (negsuc i) w (Ok x) h = absurd h.0
+value_law (negsuc i) w (Err e) h = refl
 
-module _ (numbers : List ℤ) (at count : ℕ) (h : at + 1 < length numbers) where
-  abbrev left : ℕ
-  left = judge (pair_conditions count (drop at numbers))
+module _ (part pair rest : List ℤ) (is : part ≡ pair ++ rest) (two : length pair ≡ 2) where
+  abbrev address : ℤ
+  address = get_or pair 0 (pos 0)
 
-  module _ (cell : ℕ) (c : cell ≡ place_of count (number numbers at)) where
-    pub bad_address : count ≤ cell → 15 ≡ left
+  abbrev value : ℤ
+  value = get_or pair 1 (pos 0)
+
+  front : part ≡ address ∷ value ∷ rest
+  front = is ∙ both pair two
+    where
+      both : (l : List ℤ) → length l ≡ 2 → l ++ rest ≡ get_or l 0 (pos 0) ∷ get_or l 1 (pos 0) ∷ rest
+      both [] h = absurd (omega arith)
+      both (a ∷ []) h = absurd (omega arith)
+      both (a ∷ v ∷ []) h = refl
+      both (a ∷ v ∷ w ∷ l) h = absurd (omega arith)
+
+  -- ---- its check
+  module _ (count : ℕ) where
+    pub bad_address : count ≤ place_of count address → 15 ≡ judge (pair_conditions count part)
     unfolding judge pair_conditions
-    bad_address k = rw (next_pair numbers at h, below_place count (number numbers at), ← c, le-ltb cell count k)
+    bad_address h = rw (front, below_place count address, le-ltb _ _ h)
 
-    module _ (k : cell < count) (value : ℕ) (v : value ≡ place_of 4294967296 (number numbers (at + 1))) where
-      pub bad_value : 4294967296 ≤ value → 15 ≡ left
+    module _ (h : place_of count address < count) where
+      pub bad_value : below value 4294967296 ≡ false → 15 ≡ judge (pair_conditions count part)
       unfolding judge pair_conditions
-      bad_value l =
-          rw (next_pair numbers at h, below_place count (number numbers at), ← c, lt-ltb cell count k, below_place 4294967296 (number numbers (at + 1)), ← v, le-ltb value 4294967296 l)
+      bad_value e = rw (front, below_place count address, lt-ltb _ _ h, e)
 
-      pub good_pair : value < 4294967296 → judge (pair_conditions count (drop (at + 2) numbers)) ≡ left
+      pub good_pair : below value 4294967296 ≡ true → judge (pair_conditions count rest) ≡ judge (pair_conditions count part)
       unfolding judge pair_conditions
-      good_pair l =
-          rw (next_pair numbers at h, below_place count (number numbers at), ← c, lt-ltb cell count k, below_place 4294967296 (number numbers (at + 1)), ← v, lt-ltb value 4294967296 l)
+      good_pair e = rw (front, below_place count address, lt-ltb _ _ h, e)
 
--- ---- the numbers as a whole
+  -- ---- its writing
+  pub record Good (n : ℕ) : Type 0 where
+    pub address_is : address ≡ pos (natural address)
+    pub cell_there : natural address < n
+    pub value_is : value ≡ pos (natural value)
+    pub value_fits : natural value < 4294967296
+    pub rest_good : All (pair_conditions n rest)
+    pub written : (cells : List ℕ) → pairs_written rest (set cells (natural address) (natural value)) ≡ pairs_written part cells
 
-module _ (numbers : List ℤ) (count : ℕ) where
-  abbrev whole : ℕ
-  whole = judge (pairs_conditions count numbers)
-
-  pub unpaired : (length numbers % 2 ≡ 0 → ⊥) → 15 ≡ whole
-  unfolding judge pairs_conditions
-  unpaired n = rw (ne_eqb (length numbers % 2) 0 n)
-
-  module _ (even : length numbers % 2 ≡ 0) where
-    pub too_many : 128 < length numbers → 15 ≡ whole
-    unfolding judge pairs_conditions
-    too_many k = rw (even, lt-leb (length numbers) 128 k)
-
-    pub as_pairs : length numbers ≤ 128 → judge (pair_conditions count numbers) ≡ whole
-    unfolding judge pairs_conditions
-    as_pairs k = rw (even, le-leb (length numbers) 128 k)
-
--- ---- the writing of a pair
-
-module _ (numbers : List ℤ) (at n : ℕ) (h : at + 1 < length numbers) (good : All (pair_conditions n (drop at numbers))) where
-  here : All (pair_conditions n (number numbers at ∷ number numbers (at + 1) ∷ drop (at + 2) numbers))
-  here = rw (next_pair numbers at h) at good
-
-  pub cell_there : place_of 0 (number numbers at) < n
-  unfolding pair_conditions
-  cell_there = rw (place_zero (number numbers at)) (below_natural n (number numbers at) here.0)
-
-  pub value_fits : place_of 0 (number numbers (at + 1)) < 4294967296
-  unfolding pair_conditions
-  value_fits = rw (place_zero (number numbers (at + 1))) (below_natural 4294967296 (number numbers (at + 1)) here.1.0)
-
-  pub good_left : All (pair_conditions n (drop (at + 2) numbers))
-  unfolding pair_conditions
-  good_left = here.1.1
-
-  pub pair_written : (cells : List ℕ) → pairs_written (drop (at + 2) numbers) (set cells (place_of 0 (number numbers at)) (place_of 0 (number numbers (at + 1)))) ≡ pairs_written (drop at numbers) cells
-  unfolding pairs_written
-  pair_written cells = rw (next_pair numbers at h, place_zero (number numbers at), place_zero (number numbers (at + 1)))
+  pub good : (n : ℕ) → All (pair_conditions n part) → Good n
+  unfolding pair_conditions pairs_written
+  good n all =
+      let here : All (pair_conditions n (address ∷ value ∷ rest)) = rw front at all in
+      record {
+        address_is = natural_law address n here.0;
+        cell_there = below_natural n address here.0;
+        value_is = natural_law value 4294967296 here.1.0;
+        value_fits = below_natural 4294967296 value here.1.0;
+        rest_good = here.1.1;
+        written = λ cells. rw front;
+      }
 
 -- what is good for some of the cells is good for all
-pub more_cells_law : (count n : ℕ) (numbers : List ℤ) → count ≤ n → All (pair_conditions count numbers) → All (pair_conditions n numbers)
+more_cells_law : (count n : ℕ) (numbers : List ℤ) → count ≤ n → All (pair_conditions count numbers) → All (pair_conditions n numbers)
 unfolding pair_conditions
 more_cells_law count n [] h good = tt
 more_cells_law count n (a ∷ []) h good = tt
@@ -113,12 +95,7 @@ more_cells_law count n (a ∷ v ∷ numbers) h good = (below_more a good.0, (goo
     below_more (pos i) t = lt-ltb i n (omega (arith, ltb-true i count t))
     below_more (negsuc i) t = t
 
--- ---- all or none
-
-pub all_good : (count n : ℕ) (numbers : List ℤ) → count ≤ n → judge (pairs_conditions count numbers) ≡ 0 → All (pair_conditions n numbers)
+-- all or none
+pub all_good : (count n : ℕ) (numbers : List ℤ) → 0 ≡ judge (pairs_conditions count numbers) → count ≤ n → All (pair_conditions n numbers)
 unfolding pairs_conditions
-all_good count n numbers h z = more_cells_law count n numbers h (judge_passed (pairs_conditions count numbers) z).1.1
-
-pub none_written : (refusal : ℕ) (written cells : List ℕ) → (refusal ≡ 0 → ⊥) → cells ≡ unless_refused refusal written cells
-none_written zero written cells n = absurd (n refl)
-none_written (suc m) written cells n = refl
+all_good count n numbers z h = more_cells_law count n numbers h (judge_passed (pairs_conditions count numbers) (sym z)).1.1

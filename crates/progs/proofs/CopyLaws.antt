@@ -1,15 +1,5 @@
--- Laws of ranges, of pasting and of copying one at a time: what a turn of each loop does, and what is left.
-use Prim.Native.Nat.{ℕ, zero, suc, ◌+◌, ◌*◌, ◌-◌, ◌^◌, ◌≤◌, ◌<◌}
-use mathlib.Core.Path.{◌≡◌, refl, sym, ◌∙◌}
-use mathlib.Core.Logic.{◌⊎◌, inl, inr, ⊎_elim}
-use mathlib.Core.List.{List, [], ◌∷◌, ◌++◌}
-use mathlib.Core.Bool.{Bool, true, false, ◌&&◌, ◌||◌}
-use native.Mathlib.Omega.{arith}
-use native.Mathlib.Numerals.{add-one}
-use borrow.Author.Tests.{leb-true, leb-false, le-leb, lt-leb, lt-ltb, ltb-true, eq-eqb, ne_eqb, eqb-true}
-use lib.ListN.{length, get_or, set, drop, length-drop}
-use lib.Seq.{paste, paste-suc, drop-cons, get_or-drop}
-use lib.Dec.{leb, ltb, eqb}
+-- Laws of ranges and of copying one at a time: what a turn of each loop does, and what is left.
+use Rattle.std.proofs.Common.{◌≡◌, ℕ, zero, suc, ◌+◌, ◌*◌, ◌-◌, ◌^◌, ◌≤◌, ◌<◌, ◌⊎◌, inl, inr, ⊎_elim, List, [], ◌∷◌, ◌++◌, Bool, true, false, ◌&&◌, length, get_or, set, drop, leb, ltb, eqb, refl, sym, arith, add-one, add-zero, drop-cons, leb-true, le-leb, lt-ltb, ltb-true, eqb-true}
 use Rattle.definition.specs.Machine.{present, Copy, copied, successive, arguments, copies_present}
 use Rattle.definition.proofs.CheckLaws.{and_left, and_right, and_both, or_cases}
 
@@ -20,72 +10,44 @@ unfolding present
 present_cases first n size e =
     ⊎_elim (λ a. inl (eqb-true n 0 a)) (λ a. inr (leb-true (first + n) size a)) (or_cases (eqb n 0) (leb (first + n) size) e)
 
+pub present_reaches : (first n size : ℕ) → present first n size ≡ true → (n ≡ 0 → ⊥) → first + n ≤ size
+present_reaches first n size e z = ⊎_elim (λ a. absurd (z a)) (λ a. a) (present_cases first n size e)
+
 pub present_at : (first n size i : ℕ) → present first n size ≡ true → i < n → first + i < size
 present_at first n size i h k = ⊎_elim (λ e. omega arith) (λ e. omega arith) (present_cases first n size h)
-
-pub present_none : (first n size : ℕ) → n ≡ 0 → true ≡ present first n size
-unfolding present
-present_none first n size e = rw (eq-eqb n 0 e)
-
-pub present_few : (first n size : ℕ) → (n ≡ 0 → ⊥) → size < n → false ≡ present first n size
-unfolding present
-present_few first n size e h = rw (ne_eqb n 0 e, lt-leb (first + n) size (omega arith))
-
-pub present_some : (first n size : ℕ) → (n ≡ 0 → ⊥) → n ≤ size → leb first (size - n) ≡ present first n size
-unfolding present
-present_some first n size e h = rw (ne_eqb n 0 e) (by (leb first (size - n)) refl)
-  where
-    by : (b : Bool) → leb first (size - n) ≡ b → b ≡ leb (first + n) size
-    by true t = sym (le-leb (first + n) size (omega (arith, leb-true first (size - n) t)))
-    by false t = sym (lt-leb (first + n) size (omega (arith, leb-false first (size - n) t)))
 
 pub present_of : (first n size : ℕ) → first + n ≤ size → present first n size ≡ true
 unfolding present
 present_of first n size h = rw (le-leb (first + n) size h, mathlib.Core.Bool.or-true)
 
 pub present_more : (first n size more : ℕ) → size ≤ more → present first n size ≡ true → present first n more ≡ true
-present_more first n size more h e = ⊎_elim (λ z. sym (present_none first n more z)) (λ l. present_of first n more (omega arith)) (present_cases first n size e)
+unfolding present
+present_more first n size more h e =
+    ⊎_elim (λ (z : n ≡ 0). rw z) (λ (l : first + n ≤ size). present_of first n more (omega arith)) (present_cases first n size e)
 
 -- a range that starts below the top of the numbers ends there
 pub present_ends : (to n size : ℕ) → present to n size ≡ true → to < 2 ^ 64 → size < 2 ^ 64 → to + n < 2 ^ 64
 present_ends to n size h a b = ⊎_elim (λ e. omega arith) (λ e. omega arith) (present_cases to n size h)
 
--- ---- pasting
-
--- one cell more
-pub pasted_on : (src dst₀ dst : List ℕ) (first at n i : ℕ) → present first n (length src) ≡ true → present at n (length dst₀) ≡ true → i < n
-    → dst ≡ paste dst₀ at (drop first src) i
-    → set dst (at + i) (get_or src (first + i) 0) ≡ paste dst₀ at (drop first src) (i + 1)
-pasted_on src dst₀ dst first at n i hs hd k e =
-    let a = present_at first n (length src) i hs k in
-    rw (e, add-one i, ← get_or-drop first src i 0)
-    (paste-suc dst₀ at (drop first src) i 0 (present_at at n (length dst₀) i hd k) (omega (arith, length-drop first src)))
-
 -- ---- successive cells
 
--- what is left of n after i of them
-abbrev pub left_of : ℕ → ℕ → ℕ → ℕ → List Copy
-left_of n i from to = successive (n - i) (from + i) (to + i)
-
-pub left_at_start : (n from to : ℕ) (cells : List ℕ) → copied (left_of n 0 from to) cells ≡ copied (successive n from to) cells
-left_at_start n from to cells =
-    let a : n - 0 ≡ n = omega arith in
-    let b : from + 0 ≡ from = omega arith in
-    let c : to + 0 ≡ to = omega arith in
-    rw (a, b, c)
-
-pub left_on : (n i from to : ℕ) (cells : List ℕ) → i < n
-    → copied (left_of n (i + 1) from to) (set cells (to + i) (get_or cells (from + i) 0)) ≡ copied (left_of n i from to) cells
+pub copied_none : (from to : ℕ) (cells : List ℕ) → copied (successive 0 from to) cells ≡ cells
 unfolding copied successive
-left_on n i from to cells h =
-    let a : n - i ≡ suc (n - (i + 1)) = omega arith in
-    let b : from + (i + 1) ≡ from + i + 1 = omega arith in
-    let c : to + (i + 1) ≡ to + i + 1 = omega arith in
-    rw (a, b, c)
+copied_none from to cells = refl
 
-pub left_at_end : (n i from to : ℕ) (cells : List ℕ) → n ≤ i → cells ≡ copied (left_of n i from to) cells
+-- one cell more
+copied_suc : (n from to : ℕ) (cells : List ℕ)
+    → copied (successive (suc n) from to) cells ≡ set (copied (successive n from to) cells) (to + n) (get_or (copied (successive n from to) cells) (from + n) 0)
 unfolding copied successive
-left_at_end n i from to cells h = let a : n - i ≡ 0 = omega arith in rw a
+copied_suc zero from to cells = rw (add-zero to, add-zero from)
+copied_suc (suc n) from to cells =
+    let a : from + suc n ≡ from + 1 + n = omega arith in
+    let b : to + suc n ≡ to + 1 + n = omega arith in
+    rw (a, b) (copied_suc n (from + 1) (to + 1) (set cells to (get_or cells from 0)))
+
+pub copied_next : (n from to : ℕ) (cells : List ℕ)
+    → copied (successive (n + 1) from to) cells ≡ set (copied (successive n from to) cells) (to + n) (get_or (copied (successive n from to) cells) (from + n) 0)
+copied_next n from to cells = rw (add-one n) (copied_suc n from to cells)
 
 -- ---- arguments
 
@@ -148,66 +110,40 @@ copies_more size more (m ∷ ms) h e =
     rw (lt-ltb m.from more (omega arith), lt-ltb m.to more (omega arith))
     (copies_more size more ms h (and_right (ltb m.from size && ltb m.to size) (copies_present size ms) e))
 
--- one argument more: `sizes` are those of all arguments, and i is its number
+-- the arguments from number i on, of the sizes of all
+abbrev pub rest : List ℕ → ℕ → ℕ → ℕ → List Copy
+rest sizes argc i to = arguments (argc - i) i to (drop i sizes)
+
+-- no argument is left
+rest_none : (sizes : List ℕ) (argc i to : ℕ) → argc ≤ i → rest sizes argc i to ≡ []
+unfolding arguments
+rest_none sizes argc i to h = let a : argc - i ≡ 0 = omega arith in rw a
+
+pub rest_there : (size : ℕ) (sizes : List ℕ) (argc i to : ℕ) → argc ≤ i → copies_present size (rest sizes argc i to) ≡ true
+unfolding copies_present
+rest_there size sizes argc i to h = rw (rest_none sizes argc i to h)
+
+pub rest_copied : (sizes cells : List ℕ) (argc i to : ℕ) → argc ≤ i → copied (rest sizes argc i to) cells ≡ cells
+unfolding copied
+rest_copied sizes cells argc i to h = rw (rest_none sizes argc i to h)
+
+-- one argument more, of these many cells
 module _ (sizes : List ℕ) (argc i to : ℕ) (more : i < argc) (there : i < length sizes) where
-  -- the copies of the argument i, and of those after it
-  these : List Copy
-  these = successive (get_or sizes i 0) (4 + 3 * i) to
+  abbrev n : ℕ
+  n = get_or sizes i 0
 
-  after : List Copy
-  after = arguments (argc - (i + 1)) (i + 1) (to + get_or sizes i 0) (drop (i + 1) sizes)
-
-  arguments_on : arguments (argc - i) i to (drop i sizes) ≡ these ++ after
-  unfolding arguments these after
-  arguments_on =
+  rest_on : rest sizes argc i to ≡ successive n (4 + 3 * i) to ++ rest sizes argc (i + 1) (to + n)
+  unfolding arguments
+  rest_on =
       let a : argc - i ≡ suc (argc - (i + 1)) = omega arith in
       rw (a, drop-cons sizes i 0 there, ← add-one i)
 
-  pub copied_on : (cells : List ℕ)
-      → copied (arguments (argc - (i + 1)) (i + 1) (to + get_or sizes i 0) (drop (i + 1) sizes)) (copied (successive (get_or sizes i 0) (4 + 3 * i) to) cells)
-      ≡ copied (arguments (argc - i) i to (drop i sizes)) cells
-  unfolding these after
-  copied_on cells = rw arguments_on (sym (copied_append these after cells))
+  pub copied_on : (cells : List ℕ) → copied (rest sizes argc (i + 1) (to + n)) (copied (successive n (4 + 3 * i) to) cells) ≡ copied (rest sizes argc i to) cells
+  copied_on cells = rw rest_on (sym (copied_append (successive n (4 + 3 * i) to) (rest sizes argc (i + 1) (to + n)) cells))
 
   module _ (size : ℕ) where
-    copies_on : copies_present size (arguments (argc - i) i to (drop i sizes))
-        ≡ ((present (4 + 3 * i) (get_or sizes i 0) size && present to (get_or sizes i 0) size) && copies_present size after)
-    unfolding these
-    copies_on = rw (arguments_on, copies_append size these after, successive_present size (get_or sizes i 0) (4 + 3 * i) to)
+    abbrev both : Bool
+    both = present (4 + 3 * i) n size && present to n size
 
-    pub no_source : present (4 + 3 * i) (get_or sizes i 0) size ≡ false → false ≡ copies_present size (arguments (argc - i) i to (drop i sizes))
-    no_source a = rw (copies_on, a)
-
-    pub no_target : present (4 + 3 * i) (get_or sizes i 0) size ≡ true → present to (get_or sizes i 0) size ≡ false
-        → false ≡ copies_present size (arguments (argc - i) i to (drop i sizes))
-    no_target a b = rw (copies_on, a, b)
-
-    pub both_there : present (4 + 3 * i) (get_or sizes i 0) size ≡ true → present to (get_or sizes i 0) size ≡ true
-        → copies_present size (arguments (argc - (i + 1)) (i + 1) (to + get_or sizes i 0) (drop (i + 1) sizes))
-        ≡ copies_present size (arguments (argc - i) i to (drop i sizes))
-    unfolding after
-    both_there a b = rw (copies_on, a, b)
-
-    -- what it is for all of them to be there
-    pub record Turn : Type 0 where
-      pub source : present (4 + 3 * i) (get_or sizes i 0) size ≡ true
-      pub target : present to (get_or sizes i 0) size ≡ true
-      pub rest : copies_present size (arguments (argc - (i + 1)) (i + 1) (to + get_or sizes i 0) (drop (i + 1) sizes)) ≡ true
-
-    pub turn_of : copies_present size (arguments (argc - i) i to (drop i sizes)) ≡ true → Turn
-    unfolding after
-    turn_of h =
-        let s = present (4 + 3 * i) (get_or sizes i 0) size in
-        let t = present to (get_or sizes i 0) size in
-        let e = sym copies_on ∙ h in
-        let st = and_left (s && t) (copies_present size after) e in
-        record { source = and_left s t st; target = and_right s t st; rest = and_right (s && t) (copies_present size after) e }
-
--- none is left
-pub copies_none : (size : ℕ) (sizes : List ℕ) (argc i to : ℕ) → argc ≤ i → true ≡ copies_present size (arguments (argc - i) i to (drop i sizes))
-unfolding arguments copies_present
-copies_none size sizes argc i to h = let a : argc - i ≡ 0 = omega arith in rw a
-
-pub copied_none : (sizes cells : List ℕ) (argc i to : ℕ) → argc ≤ i → cells ≡ copied (arguments (argc - i) i to (drop i sizes)) cells
-unfolding arguments copied
-copied_none sizes cells argc i to h = let a : argc - i ≡ 0 = omega arith in rw a
+    pub copies_on : copies_present size (rest sizes argc i to) ≡ (both && copies_present size (rest sizes argc (i + 1) (to + n)))
+    copies_on = rw (rest_on, copies_append size (successive n (4 + 3 * i) to) (rest sizes argc (i + 1) (to + n)), successive_present size n (4 + 3 * i) to)

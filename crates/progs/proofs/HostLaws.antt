@@ -1,153 +1,145 @@
--- What the host's calls answer, by the tests that decide it.
-use Prim.Native.Nat.{ℕ, zero, suc, ◌+◌, ◌-◌, ◌≤◌, ◌<◌}
-use mathlib.Core.Path.{◌≡◌, refl, sym, ◌∙◌}
-use mathlib.Core.List.{List}
-use mathlib.Core.Bool.{true, false}
-use native.Mathlib.Omega.{arith}
-use borrow.Author.Tests.{lt-ltb, le-ltb}
-use lib.IntN.{ℤ}
-use lib.ListN.{length, get_or, set}
-use Rattle.definition.specs.declared.ReadAnswer.TheVariants as read
-use Rattle.definition.specs.Checks.{judge, guard}
+-- The host's operations, by what check 13 leaves of them.
+use Rattle.std.proofs.Common.{◌≡◌, ℕ, zero, suc, ◌+◌, ◌-◌, ◌≤◌, ◌<◌, List, ℤ, pos, ◌+ℤ◌, true, false, length, get_or, set, refl, ◌∙◌, arith, le-ltb, lt-ltb, Result, Ok, Err}
+use Rattle.definition.specs.declared.refusal.Refusal.{Refusal}
+use Rattle.definition.specs.Checks.{judge, Checked, refused, accepted, decided, guard}
+use Rattle.definition.specs.Refusals.{number, refusal_in}
 use Rattle.definition.specs.Statements.{place_of}
-use Rattle.definition.specs.Machine.{Program, Config, entry_conditions, enter}
-use Rattle.definition.specs.Operations.{sound, natural, below, host_enter, left_times, leavings_conditions, abandon_conditions, abandon, raw_conditions, raw_read, raw_write, pairs_conditions, pairs_written, write_all_conditions, write_all}
+use Rattle.definition.specs.Machine.{Program, Config, entities_of, count_of, with_cells, advanced, enter}
+use Rattle.definition.specs.Operations.{sound, natural, below, host_enter, carry_on_conditions, carry_on, left_times, leavings_conditions, abandon_conditions, abandon, pairs_conditions, pairs_written, write_all, raw_conditions, raw_read, raw_write}
 use Rattle.definition.specs.Load.{program_of}
-use Rattle.definition.specs.Answers.{Outcome, read_answer}
-use Rattle.definition.proofs.CheckLaws.{judge_passed}
-use Rattle.definition.proofs.PlaceLaws.{below_place, below_natural, place_zero, place_natural}
+use Rattle.definition.proofs.CheckLaws.{accepted_all}
+use Rattle.definition.proofs.PlaceLaws.{below_place, below_natural, place_natural}
+use Rattle.definition.proofs.RefusalLaws.{numbered}
 use Rattle.pairs.specs.Together.{unless_refused}
-use Rattle.pairs.proofs.PairLaws.{none_written}
 use Rattle.progs.specs.declared.ExecutionContext.{ExecutionContext}
-use Rattle.progs.specs.declared.Answered.{Answered}
-use Rattle.progs.specs.Contexts.{config, bare, outcome_of, after, refusing, accepting}
-use Rattle.progs.proofs.OutcomeLaws.{refused_outcome, accepted_outcome, guard_past}
+use Rattle.progs.specs.Contexts.{config, outcome_of, after, bare, onward, raw_place}
 use Rattle.progs.proofs.StateLaws.{passed}
+use Rattle.progs.proofs.OutcomeLaws.{refused_outcome, accepted_outcome}
+use Rattle.progs.proofs.FileLaws.{function_count}
 use Rattle.progs.proofs.AbandonLaws.{leavings_alone}
 
-module _ (P : Program) (x : ExecutionContext) (cells saved entities : List ℕ) where
+-- a refusal leaves the cells
+unwritten : (r : Refusal) (written cells : List ℕ) → unless_refused (number r) written cells ≡ cells
+unwritten r written cells = by (number r) (numbered r)
+  where
+    by : (n : ℕ) → (n ≡ 0 → ⊥) → unless_refused n written cells ≡ cells
+    by zero z = absurd (z refl)
+    by (suc n) z = refl
+
+module _ (file : List ℕ) (x : ExecutionContext) (cells saved entities : List ℕ) where
+  abbrev P : Program
+  P = program_of file
+
   abbrev here : Config
   here = config x cells saved entities
 
   -- ---- entry
 
-  module _ (f : ℤ) where
-    pub enter_13 : (r : Answered) → sound P here ≡ false → r ≡ refusing x 13 → outcome_of r cells saved entities ≡ after here (host_enter P f)
-    unfolding host_enter judge
-    enter_13 r s h = refused_outcome x cells saved entities _ _ 13 r (rw s) (λ z. absurd (omega arith)) h
+  pub enter_13 : (f : ℤ) → sound P here ≡ false → host_enter P f here ≡ refused 13
+  unfolding host_enter guard judge
+  enter_13 f s = rw s
 
-    pub enter_host : (o : Outcome) (i : ℕ) → sound P here ≡ true → i ≡ place_of (length P.functions) f → o ≡ after here (enter P i x.pc) → o ≡ after here (host_enter P f)
-    unfolding host_enter
-    enter_host o i s e h = h ∙ rw (e, guard_past (sound P here) 12 (entry_conditions P (place_of (length P.functions) f) here) _ s)
+  pub enter_sound : (f : ℤ) → sound P here ≡ true → host_enter P f here ≡ enter P (place_of x.file.functions.count f) x.pc here
+  unfolding host_enter guard judge
+  enter_sound f s = rw (s, function_count _ _ (passed _ _ _ _ _ s).loaded)
 
-  -- ---- raw access
+  -- ---- carrying on
 
-  module _ (a : ℤ) where
-    pub raw_13 : sound P here ≡ false → 13 ≡ judge (raw_conditions P a here)
-    unfolding judge
-    raw_13 s = rw s
+  pub carry_13 : sound P here ≡ false → carry_on P here ≡ refused 13
+  unfolding carry_on carry_on_conditions guard judge
+  carry_13 s = rw s
 
-    module _ (count at : ℕ) (n : count ≡ x.file.globals.count) (s : sound P here ≡ true) (e : at ≡ place_of count a) where
-      pub raw_15 : count ≤ at → 15 ≡ judge (raw_conditions P a here)
-      unfolding judge
-      raw_15 k = rw (s, ← n, below_place count a, ← e, le-ltb at count k)
-
-      pub raw_0 : at < count → 0 ≡ judge (raw_conditions P a here)
-      unfolding judge
-      raw_0 k = rw (s, ← n, below_place count a, ← e, lt-ltb at count k)
-
-    -- what an access that is accepted knows
-    raw_passed : judge (raw_conditions P a here) ≡ 0 → (sound P here ≡ true) × (natural a < x.file.globals.count)
-    raw_passed z = let h = judge_passed (raw_conditions P a here) z in (h.0, below_natural x.file.globals.count a h.1.0)
-
-    pub read_refused : (n : ℕ) → n ≡ judge (raw_conditions P a here) → (n ≡ 0 → ⊥) → read.Refused n ≡ read_answer (raw_read P a here)
-    unfolding raw_read guard
-    read_refused zero e z = absurd (z refl)
-    read_refused (suc n) e z = rw (← e)
-
-    pub write_refused : (v n : ℕ) (r : Answered) → n ≡ judge (raw_conditions P a here) → (n ≡ 0 → ⊥) → r ≡ refusing x n → outcome_of r cells saved entities ≡ after here (raw_write P a v)
-    unfolding raw_write
-    write_refused v n r e z h = refused_outcome x cells saved entities _ _ n r e z h
-
-    module _ (at : ℕ) (e : at ≡ place_of 0 a) (z : judge (raw_conditions P a here) ≡ 0) where
-      pub read_value_law : read.Value (get_or cells at 0) ≡ read_answer (raw_read P a here)
-      unfolding raw_read guard
-      read_value_law = rw (z, e, place_zero a)
-
-      pub write_done : (v : ℕ) → outcome_of (accepting x) (set cells at v) saved entities ≡ after here (raw_write P a v)
-      unfolding raw_write
-      write_done v = accepted_outcome x cells saved entities _ _ x (set cells at v) saved z (rw (e, place_zero a))
+  pub carry_sound : sound P here ≡ true → carry_on P here ≡ guard (onward P x.pc (entities_of here) cells) (advanced here (x.pc +ℤ pos 1) cells entities)
+  unfolding carry_on carry_on_conditions guard judge
+  carry_sound s = rw s
 
   -- ---- pairs written together
 
   module _ (numbers : List ℤ) where
-    pub write_all_13 : (r : Answered) → sound P here ≡ false → r ≡ refusing x 13 → outcome_of r cells saved entities ≡ after here (write_all P numbers)
-    unfolding write_all judge
-    write_all_13 r s h = refused_outcome x cells saved entities _ _ 13 r (rw s) (λ z. absurd (omega arith)) h
+    pub write_all_13 : sound P here ≡ false → write_all P numbers here ≡ refused 13
+    unfolding write_all guard judge
+    write_all_13 s = rw s
 
-    module _ (count refusal : ℕ) (n : count ≡ x.file.globals.count) (s : sound P here ≡ true) (e : refusal ≡ judge (pairs_conditions count numbers)) (cells' : List ℕ)
-        (w : cells' ≡ unless_refused refusal (pairs_written numbers cells) cells) where
-      own_number : refusal ≡ judge (write_all_conditions P numbers here)
-      unfolding judge
-      own_number = e ∙ rw (n, s)
+    write_all_sound : sound P here ≡ true → write_all P numbers here ≡ guard (pairs_conditions x.file.globals.count numbers) (with_cells here (pairs_written numbers cells))
+    unfolding write_all guard judge
+    write_all_sound s = rw s
 
-      pub write_all_refused : (r : Answered) → (refusal ≡ 0 → ⊥) → r ≡ refusing x refusal → outcome_of r cells' saved entities ≡ after here (write_all P numbers)
-      unfolding write_all
-      write_all_refused r z h = rw (w, ← none_written refusal (pairs_written numbers cells) cells z) (refused_outcome x cells saved entities _ _ refusal r own_number z h)
-
-      pub write_all_done : refusal ≡ 0 → outcome_of (accepting x) cells' saved entities ≡ after here (write_all P numbers)
-      unfolding write_all
-      write_all_done z = accepted_outcome x cells saved entities _ _ x cells' saved (sym own_number ∙ z) (rw (w, z))
+    pub written_together : sound P here ≡ true → (r : Result (Unit {0}) Refusal) (cells' : List ℕ)
+        → refusal_in r ≡ judge (pairs_conditions x.file.globals.count numbers)
+        → cells' ≡ unless_refused (refusal_in r) (pairs_written numbers cells) cells
+        → outcome_of r x cells' saved entities ≡ after here (write_all P numbers)
+    written_together s (Ok done) cells' e w = rw (w, write_all_sound s) (accepted_outcome x cells saved entities _ _ e x _ saved refl)
+    written_together s (Err r) cells' e w = rw (w, unwritten r (pairs_written numbers cells) cells, write_all_sound s) (refused_outcome x cells saved entities _ _ r e)
 
   -- ---- abandonment
 
   module _ (target : ℤ) where
-    pub abandon_13 : (r : Answered) → sound P here ≡ false → r ≡ refusing x 13 → outcome_of r cells saved entities ≡ after here (abandon P target)
-    unfolding abandon abandon_conditions judge
-    abandon_13 r s h = refused_outcome x cells saved entities _ _ 13 r (rw s) (λ z. absurd (omega arith)) h
+    abbrev down : ℕ
+    down = place_of (x.depth + 1) target
 
-    module _ (down : ℕ) (s : sound P here ≡ true) (e : down ≡ place_of (x.depth + 1) target) where
-      pub abandon_29 : (r : Answered) → x.depth < down → r ≡ refusing x 29 → outcome_of r cells saved entities ≡ after here (abandon P target)
-      unfolding abandon abandon_conditions judge
-      abandon_29 r k h =
-          let out : below target (x.depth + 1) ≡ false = below_place (x.depth + 1) target ∙ le-ltb _ _ (rw e at (suc_below k)) in
-          refused_outcome x cells saved entities _ _ 29 r (rw (s, out)) (λ z. absurd (omega arith)) h
-        where
-          suc_below : x.depth < down → x.depth + 1 ≤ down
-          suc_below k = omega arith
+    pub abandon_13 : sound P here ≡ false → abandon P target here ≡ refused 13
+    unfolding abandon abandon_conditions guard judge
+    abandon_13 s = rw s
 
-      module _ (k : down ≤ x.depth) where
-        in_reach : below target (x.depth + 1) ≡ true
-        in_reach = below_place (x.depth + 1) target ∙ lt-ltb _ _ (rw e at less)
-          where
-            less : down < x.depth + 1
-            less = omega arith
+    out_of_reach : x.depth < down → below target (x.depth + 1) ≡ false
+    out_of_reach k = below_place (x.depth + 1) target ∙ le-ltb down (x.depth + 1) (omega arith)
 
-        same_target : natural target ≡ down
-        same_target = place_natural (x.depth + 1) target (rw e at less) ∙ sym e
-          where
-            less : down < x.depth + 1
-            less = omega arith
+    in_reach : down ≤ x.depth → (below target (x.depth + 1) ≡ true) × (natural target ≡ down)
+    in_reach k = let less : down < x.depth + 1 = omega arith in (below_place (x.depth + 1) target ∙ lt-ltb down (x.depth + 1) less, place_natural (x.depth + 1) target less)
 
-        -- the conditions of the leavings are those on the context alone
-        numbers : judge (abandon_conditions P target here) ≡ judge (leavings_conditions P (x.depth - down) (bare x))
-        unfolding abandon_conditions judge
-        numbers = rw (s, in_reach, same_target, leavings_alone P (x.depth - down) here)
+    pub abandon_29 : sound P here ≡ true → x.depth < down → abandon P target here ≡ refused 29
+    unfolding abandon abandon_conditions guard judge
+    abandon_29 s k = rw (s, out_of_reach k)
 
-        pub abandon_refused : (n : ℕ) (r : Answered) → n ≡ judge (leavings_conditions P (x.depth - down) (bare x)) → (n ≡ 0 → ⊥) → r ≡ refusing x n
-            → outcome_of r cells saved entities ≡ after here (abandon P target)
-        unfolding abandon
-        abandon_refused n r f z h = refused_outcome x cells saved entities _ _ n r (f ∙ sym numbers) z h
+    pub abandon_sound : sound P here ≡ true → down ≤ x.depth → abandon P target here ≡ guard (leavings_conditions P (x.depth - down) (bare x)) (left_times P (x.depth - down) here)
+    unfolding abandon abandon_conditions guard judge
+    abandon_sound s k = let reach = in_reach k in rw (s, reach.0, reach.1, leavings_alone P (x.depth - down) here)
 
-        pub abandon_done : (y : ExecutionContext) (cells' : List ℕ) → judge (leavings_conditions P (x.depth - down) (bare x)) ≡ 0
-            → config y cells' saved entities ≡ left_times P (x.depth - down) here
-            → outcome_of (accepting y) cells' saved entities ≡ after here (abandon P target)
-        unfolding abandon
-        abandon_done y cells' z h = accepted_outcome x cells saved entities _ _ y cells' saved (numbers ∙ z) (rw same_target h)
+-- ---- raw access
 
--- the cell of an access that is accepted is there
-pub raw_there : (file : List ℕ) (x : ExecutionContext) (cells saved entities : List ℕ) (a : ℤ) (at : ℕ) → at ≡ place_of 0 a → judge (raw_conditions (program_of file) a (config x cells saved entities)) ≡ 0 → at < length cells
-raw_there file x cells saved entities a at e z =
-    let h = raw_passed (program_of file) x cells saved entities a z in
-    let w = passed file cells saved entities x h.0 in
-    omega (arith, e, place_zero a, h.1, w.lent)
+-- what is read at a place, and the configuration after a write there
+abbrev read_at : Config → Checked ℕ → Checked ℕ
+read_at c (refused n) = refused n
+read_at c (accepted at) = accepted (get_or c.cells at 0)
+
+abbrev written_at : ℕ → Config → Checked ℕ → Checked Config
+written_at v c (refused n) = refused n
+written_at v c (accepted at) = accepted (with_cells c (set c.cells at v))
+
+module _ (P : Program) (a : ℤ) (c : Config) where
+  pub place_13 : sound P c ≡ false → raw_place P a c ≡ refused 13
+  unfolding raw_place guard judge
+  place_13 s = rw s
+
+  pub place_15 : sound P c ≡ true → count_of c ≤ place_of (count_of c) a → raw_place P a c ≡ refused 15
+  unfolding raw_place guard judge
+  place_15 s k = rw (s, below_place (count_of c) a, le-ltb _ _ k)
+
+  pub place_found : sound P c ≡ true → place_of (count_of c) a < count_of c → raw_place P a c ≡ accepted (place_of (count_of c) a)
+  unfolding raw_place guard judge
+  place_found s k = rw (s, below_place (count_of c) a, lt-ltb _ _ k, place_natural (count_of c) a k)
+
+  pub read_by : raw_read P a c ≡ read_at c (raw_place P a c)
+  unfolding raw_read raw_place guard
+  read_by = by (judge (raw_conditions P a c))
+    where
+      by : (n : ℕ) → decided n (get_or c.cells (natural a) 0) ≡ read_at c (decided n (natural a))
+      by zero = refl
+      by (suc n) = refl
+
+  pub write_by : (v : ℕ) → raw_write P a v c ≡ written_at v c (raw_place P a c)
+  unfolding raw_write raw_place guard
+  write_by v = by (judge (raw_conditions P a c))
+    where
+      by : (n : ℕ) → decided n (with_cells c (set c.cells (natural a) v)) ≡ written_at v c (decided n (natural a))
+      by zero = refl
+      by (suc n) = refl
+
+-- the cell at an address is there
+pub place_inside : (file : List ℕ) (a : ℤ) (x : ExecutionContext) (cells saved entities : List ℕ) (at : ℕ) → raw_place (program_of file) a (config x cells saved entities) ≡ accepted at → at < length cells
+unfolding raw_place
+place_inside file a x cells saved entities at e =
+    let c = config x cells saved entities in
+    let h = accepted_all (raw_conditions (program_of file) a c) (natural a) at e in
+    let w = passed file cells saved entities x h.0.0 in
+    omega (arith, h.1, below_natural x.file.globals.count a h.0.1.0, w.lent)

@@ -1,12 +1,9 @@
 pub mod CopyLaws
 pub mod FileLaws
 pub mod OutcomeLaws
-pub mod DoesLaws
-pub mod EntryLaws
-pub mod LeaveLaws
-pub mod StateLaws
-pub mod NumberLaws
-pub mod ReturnLaws
 pub mod AbandonLaws
+pub mod DoesLaws
+pub mod CallLaws
+pub mod StateLaws
 pub mod HostLaws
 pub mod LoadLaws

@@ -1,48 +1,22 @@
 -- What a load answers, and the starting cells.
-use Prim.Native.Nat.{ℕ, zero, suc, ◌/◌}
-use mathlib.Core.Path.{◌≡◌, refl, sym, ◌∙◌, ap}
-use mathlib.Core.List.{List, ◌++◌}
-use mathlib.Core.Bool.{true, false}
-use lib.ListN.{length, drop}
-use lib.IntN.{ℤ}
+use Rattle.std.proofs.Common.{◌≡◌, ℕ, ◌/◌, List, ◌++◌, ℤ, true, false, Ok, length, drop, sym, ◌∙◌, ap}
 use Rattle.definition.specs.declared.FileRecord.{FileRecord}
 use Rattle.definition.specs.declared.Settings.{Settings}
-use Rattle.definition.specs.declared.Answer.TheVariants as answer
-use Rattle.definition.specs.Checks.{judge, guard}
+use Rattle.definition.specs.declared.refusal.Refusal.{Refusal}
+use Rattle.definition.specs.Checks.{judge, refused, guard}
+use Rattle.definition.specs.Refusals.{number}
 use Rattle.definition.specs.File.{file_of, least_cells, u32_at, contents_at, settings_fit}
 use Rattle.definition.specs.Machine.{start_state}
 use Rattle.definition.specs.Load.{file_conditions, entities_given, loaded, load}
-use Rattle.definition.specs.Answers.{no_state, load_outcome}
+use Rattle.definition.specs.Answers.{load_outcome}
 use Rattle.definition.proofs.RecordLaws.{length_records}
 use Rattle.functions.specs.Laws.{AllFit}
 use Rattle.functions.specs.Parts.{part_of, cells_in}
 use Rattle.functions.specs.PartLaws.{part_globals}
+use Rattle.loader.proofs.Loads.{loads}
 use Rattle.progs.specs.declared.ExecutionContext.{ExecutionContext}
-use Rattle.progs.specs.Contexts.{state_of, outcome_of, accepting}
-
-module _ (t : Settings) (file cells saved entities : List ℕ) (given : ℤ) where
-  -- the conditions of the file
-  abbrev number : ℕ
-  number = judge (file_conditions least_cells t.check_number file (entities_given given) (length cells) (length saved) (length entities))
-
-  pub load_36 : (y : ExecutionContext) → settings_fit t ≡ false → state_of y ≡ no_state
-      → outcome_of (record { context = y; answer = answer.Refused 36 }) cells saved entities ≡ load_outcome cells saved entities (load t file given cells saved entities)
-  unfolding load guard judge
-  load_36 y h s = rw (h, s)
-
-  -- after 36 the file decides
-  module _ (fit : settings_fit t ≡ true) where
-    pub load_refused : (n : ℕ) (y : ExecutionContext) → n ≡ number → (n ≡ 0 → ⊥) → state_of y ≡ no_state
-        → outcome_of (record { context = y; answer = answer.Refused n }) cells saved entities ≡ load_outcome cells saved entities (load t file given cells saved entities)
-    unfolding load guard judge
-    load_refused zero y e z s = absurd (z refl)
-    load_refused (suc n) y e z s = rw (fit, ← e, s)
-
-    pub load_accepted : (y : ExecutionContext) (r : FileRecord) (cells' : List ℕ) → number ≡ 0 → r ≡ file_of file → state_of y ≡ start_state t r (entities_given given)
-        → cells' ≡ (contents_at r file).globals ++ drop r.globals.count cells
-        → outcome_of (accepting y) cells' saved entities ≡ load_outcome cells saved entities (load t file given cells saved entities)
-    unfolding load guard loaded judge
-    load_accepted y r cells' z e s a = rw (fit, z, s, a, e)
+use Rattle.progs.specs.Contexts.{state_of, loading_of}
+use Rattle.progs.proofs.OutcomeLaws.{guard_number, guard_clear}
 
 -- the starting cells, by the part that has them
 module _ (file : List ℕ) (r : FileRecord) (fit : AllFit (length file) r) (part : List ℕ) (e : part ≡ part_of 4 r.globals file) where
@@ -55,3 +29,36 @@ module _ (file : List ℕ) (r : FileRecord) (fit : AllFit (length file) r) (part
 
   pub filled : (cells cells' : List ℕ) → cells' ≡ cells_in part ++ drop (length part / 4) cells → cells' ≡ (contents_at r file).globals ++ drop r.globals.count cells
   filled cells cells' h = h ∙ rw (starting, starting_count)
+
+module _ (t : Settings) (file : List ℕ) (given : ℤ) (cells saved entities : List ℕ) where
+  -- the conditions of the file
+  abbrev number_of : ℕ
+  number_of = judge (file_conditions least_cells t.check_number file (entities_given given) (length cells) (length saved) (length entities))
+
+  pub load_36 : settings_fit t ≡ false → load t file given cells saved entities ≡ refused 36
+  unfolding load guard judge
+  load_36 h = rw h
+
+  -- after 36 the file decides
+  after_36 : settings_fit t ≡ true
+      → load t file given cells saved entities
+      ≡ guard (file_conditions least_cells t.check_number file (entities_given given) (length cells) (length saved) (length entities)) (loaded t file (entities_given given) cells saved entities)
+  unfolding load guard judge
+  after_36 fit = rw fit
+
+  pub load_refused : settings_fit t ≡ true → (r : Refusal) → number r ≡ number_of → load t file given cells saved entities ≡ refused (number r)
+  load_refused fit r e = after_36 fit ∙ guard_number _ _ r e
+
+  pub load_accepted : settings_fit t ≡ true → (n : ℕ) → n ≡ entities_given given
+      → 0 ≡ judge (file_conditions least_cells t.check_number file n (length cells) (length saved) (length entities))
+      → (r : FileRecord) → r ≡ file_of file
+      → (y : ExecutionContext) → state_of y ≡ start_state t r n
+      → (part : List ℕ) → part ≡ part_of 4 r.globals file
+      → (cells' : List ℕ) → cells' ≡ cells_in part ++ drop (length part / 4) cells
+      → loading_of (Ok y) cells' saved entities ≡ load_outcome cells saved entities (load t file given cells saved entities)
+  unfolding loaded
+  load_accepted fit n given_is e r is y starts part part_is cells' fills =
+      let known = loads _ _ file n _ _ _ r (sym e) is in
+      let cells_are = filled file r known.lumps part part_is cells cells' fills in
+      let clear = rw given_is at e in
+      rw (after_36 fit, guard_clear _ (loaded t file (entities_given given) cells saved entities) clear, starts, cells_are, is, given_is)

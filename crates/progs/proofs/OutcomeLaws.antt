@@ -1,39 +1,30 @@
--- What a method that refuses and one that accepts answer, for any conditions.
-use Prim.Native.Nat.{ℕ, zero, suc}
-use mathlib.Core.Path.{◌≡◌, refl, ap}
-use mathlib.Core.Logic.{◌⊎◌, inl, inr}
-use mathlib.Core.List.{List, ◌∷◌}
-use mathlib.Core.Bool.{Bool, true}
-use Rattle.definition.specs.Checks.{Conditions, ◌otherwise◌, judge, guard, decided}
+-- What conditions make of an answer: those that refuse, by the refusal's number, and those that hold.
+use Rattle.std.proofs.Common.{◌≡◌, ℕ, zero, suc, List, Ok, Err, refl}
+use Rattle.definition.specs.declared.refusal.Refusal.{Refusal}
+use Rattle.definition.specs.Checks.{Conditions, judge, refused, accepted, guard, decided}
+use Rattle.definition.specs.Refusals.{number}
+use Rattle.definition.proofs.RefusalLaws.{numbered}
 use Rattle.definition.specs.Machine.{Config}
-use Rattle.definition.specs.Answers.{Outcome, outcome, kept}
+use Rattle.definition.specs.Answers.{outcome}
 use Rattle.progs.specs.declared.ExecutionContext.{ExecutionContext}
-use Rattle.progs.specs.declared.Answered.{Answered}
-use Rattle.progs.specs.Contexts.{state_of, config, outcome_of, refusing, accepting}
+use Rattle.progs.specs.Contexts.{config, outcome_of}
+
+module _ {A : Type 0} (cs : Conditions) (a : A) where
+  pub guard_number : (r : Refusal) → number r ≡ judge cs → guard cs a ≡ refused (number r)
+  unfolding guard
+  guard_number r e = rw (← e) (by (number r) (numbered r))
+    where
+      by : (n : ℕ) → (n ≡ 0 → ⊥) → decided n a ≡ refused n
+      by zero z = absurd (z refl)
+      by (suc n) z = refl
+
+  pub guard_clear : 0 ≡ judge cs → guard cs a ≡ accepted a
+  unfolding guard
+  guard_clear e = rw (← e)
 
 module _ (x : ExecutionContext) (cells saved entities : List ℕ) (cs : Conditions) (a : Config) where
-  pub refused_outcome : (n : ℕ) (r : Answered) → n ≡ judge cs → (n ≡ 0 → ⊥) → r ≡ refusing x n → outcome_of r cells saved entities ≡ outcome (config x cells saved entities) (guard cs a)
-  unfolding guard
-  refused_outcome zero r e z h = absurd (z refl)
-  refused_outcome (suc n) r e z h = rw (← e, h)
+  pub refused_outcome : (r : Refusal) → number r ≡ judge cs → outcome_of (Err r) x cells saved entities ≡ outcome (config x cells saved entities) (guard cs a)
+  refused_outcome r e = rw (guard_number cs a r e)
 
-  pub accepted_outcome : (y : ExecutionContext) (cells' saved' : List ℕ) → judge cs ≡ 0 → config y cells' saved' entities ≡ a
-      → outcome_of (accepting y) cells' saved' entities ≡ outcome (config x cells saved entities) (guard cs a)
-  unfolding guard
-  accepted_outcome y cells' saved' e h = rw (e, h)
-
-  -- the other way: the context is as it was, or all the conditions hold and the result is there
-  pub outcome_cases : (r : Answered) (cells' saved' : List ℕ) → outcome_of r cells' saved' entities ≡ outcome (config x cells saved entities) (guard cs a)
-      → (state_of r.context ≡ state_of x) ⊎ ((judge cs ≡ 0) × (config r.context cells' saved' entities ≡ a))
-  unfolding guard
-  outcome_cases r cells' saved' e = by (judge cs) refl (ap (λ (o : Outcome). o.config) e)
-    where
-      by : (n : ℕ) → judge cs ≡ n → config r.context cells' saved' entities ≡ kept (config x cells saved entities) (decided n a)
-          → (state_of r.context ≡ state_of x) ⊎ ((judge cs ≡ 0) × (config r.context cells' saved' entities ≡ a))
-      by zero z f = inr (z, f)
-      by (suc n) z f = inl (ap (λ (c : Config). c.state) f)
-
--- a condition that holds refuses nothing
-pub guard_past : (b : Bool) (n : ℕ) (cs : Conditions) (a : Config) → b ≡ true → guard ((b otherwise suc n) ∷ cs) a ≡ guard cs a
-unfolding guard judge
-guard_past b n cs a h = rw h
+  pub accepted_outcome : 0 ≡ judge cs → (y : ExecutionContext) (cells' saved' : List ℕ) → config y cells' saved' entities ≡ a → outcome_of (Ok tt) y cells' saved' entities ≡ outcome (config x cells saved entities) (guard cs a)
+  accepted_outcome e y cells' saved' h = rw (guard_clear cs a e, h)

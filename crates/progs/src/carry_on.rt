@@ -1,51 +1,47 @@
 // Carrying on: past a statement that was handed over.
-ghost use Rattle.std.specs.Prelude.{◌≡◌, [], ◌∷◌, ◌++◌, ◌*◌, length};
-ghost use Rattle.definition.specs.Checks.{◌otherwise◌, judge};
+ghost use Rattle.std.specs.Prelude.{◌≡◌, ◌<◌, pos, IfOk};
+ghost use Rattle.definition.specs.Checks.{judge};
+ghost use Rattle.definition.specs.Refusals.{refusal_in};
 ghost use Rattle.definition.specs.Statements.{Entities};
 ghost use Rattle.definition.specs.Load.{program_of};
-ghost use Rattle.definition.specs.Operations.{is_handed_over, carry_on};
-ghost use Rattle.progs.specs.Contexts.{config, outcome_of, after, onward, Within};
+ghost use Rattle.definition.specs.Operations.{carry_on};
+ghost use Rattle.progs.specs.Contexts.{config, outcome_of, after, onward, Lent};
 
-use crate::{Answered, ExecutionContext};
-use definition::{Answer, STATEMENT_SIZE};
-use functions::fetch::Fetched;
+use crate::ExecutionContext;
+use definition::STATEMENT_SIZE;
+use definition::refusal::Refusal;
 use functions::{fetch, parts};
 
 impl ExecutionContext {
-    // 0, or the number of the refusal: the statement at the position is looked at, not executed. No entity cell decides whether it is handed over.
-    fn carry_on_refusal(self, file: &[u8], cells: &[u32], store: &[u32]) -> u8
-        requires { Within file.now self (length cells.now) (length store.now) (self.entity_count * self.file.entityfields) }
-        ensures { (e : Entities) → result ≡ judge (onward (program_of file.now) self.pc e cells.now) }
+    // The index of the statement at the position, which is looked at, not executed. No entity cell decides whether it is handed over.
+    fn handed_over(&self, file: &[u8], cells: &[u32], store: &[u32]) -> Result<usize, Refusal>
+        requires { Lent file.now self.now cells.now store.now }
+        ensures refusal { (e : Entities) → refusal_in result ≡ judge (onward (program_of file.now) self.now.pc e cells.now) }
+        ensures index { IfOk result (λ k. (self.now.pc ≡ pos k) × (k < 2147483648)) }
     {
-        let recorded = self.file;
-        let statements = parts::part(file, STATEMENT_SIZE, recorded.statements);
-        let fetched = fetch::fetch(statements, self.pc);
-        match fetched {
-            Fetched::Refused(n) => return n,
-            Fetched::At(_k, s) => {
-                if execution::hands_over(file, recorded, cells, s) {
-                    return 0;
-                }
-                return 27;
-            }
+        let statements = parts::part(file, STATEMENT_SIZE, self.file.statements);
+        let (k, statement) = fetch::fetch(statements, self.pc)?;
+        if !execution::hands_over(file, self.file, cells, statement) {
+            return Err(Refusal::NotHandedOver);
         }
+        Ok(k)
     }
 
-    pub fn carry_on(self, file: &[u8], cells: &[u32], store: &[u32], entities: &[u32]) -> Answered
-        ensures { outcome_of result cells.now store.now entities.now ≡ after (config self cells.now store.now entities.now) (carry_on (program_of file.now)) }
+    #[tactic(auto, using(crate::proofs::StateLaws::own, crate::proofs::HostLaws::carry_13, crate::proofs::HostLaws::carry_sound))]
+    pub fn carry_on(
+        &mut self,
+        file: &[u8],
+        cells: &[u32],
+        store: &[u32],
+        entities: &[u32],
+    ) -> Result<(), Refusal>
+        ensures { outcome_of result self.new cells.now store.now entities.now ≡ after (config self.old cells.now store.now entities.now) (carry_on (program_of file.now)) }
     {
         if !self.check_state(file, cells, store, entities) {
-            return self.refused(13);
+            return Err(Refusal::State);
         }
-        let refusal = self.carry_on_refusal(file, cells, store);
-        if refusal != 0 {
-            return self.refused(refusal);
-        }
-        let mut next = self;
-        next.pc = fetch::after(fetch::place_of(0, self.pc));
-        Answered {
-            context: next,
-            answer: Answer::Accepted,
-        }
+        let k = self.handed_over(file, cells, store)?;
+        self.pc = fetch::after(k);
+        Ok(())
     }
 }

@@ -4,31 +4,25 @@ ghost use Rattle.definition.specs.Load.{program_of};
 ghost use Rattle.definition.specs.Operations.{write_all};
 ghost use Rattle.progs.specs.Contexts.{config, outcome_of, after};
 
-use crate::{Answered, ExecutionContext};
-use definition::Answer;
+use crate::ExecutionContext;
+use definition::refusal::Refusal;
 
 impl ExecutionContext {
     // The numbers are an address and a value in turn.
+    #[tactic(auto, using(crate::proofs::StateLaws::own, crate::proofs::HostLaws::write_all_13))]
     pub fn write_all(
-        self,
+        &self,
         file: &[u8],
         numbers: &[i64],
         cells: &mut [u32],
         store: &[u32],
         entities: &[u32],
-    ) -> Answered
-        ensures { outcome_of result cells.new store.now entities.now ≡ after (config self cells.old store.now entities.now) (write_all (program_of file.now) numbers.now) }
+    ) -> Result<(), Refusal>
+        ensures { outcome_of result self.now cells.new store.now entities.now ≡ after (config self.now cells.old store.now entities.now) (write_all (program_of file.now) numbers.now) }
     {
         if !self.check_state(file, cells, store, entities) {
-            return self.refused(13);
+            return Err(Refusal::State);
         }
-        let refusal = pairs::write_all(numbers, self.cell_count(), cells);
-        if refusal != 0 {
-            return self.refused(refusal);
-        }
-        Answered {
-            context: self,
-            answer: Answer::Accepted,
-        }
+        pairs::write_all(numbers, self.file.globals.count, cells)
     }
 }

@@ -6,11 +6,12 @@ ghost use Rattle.definition.specs.Load.{program_of};
 ghost use Rattle.definition.specs.Operations.{host_enter};
 ghost use Rattle.progs.specs.Contexts.{config, outcome_of, after};
 
-use definition::{Answer, FileRecord, GREATEST_DEPTH, Settings, StackFrame};
+use definition::refusal::Refusal;
+use definition::{FileRecord, GREATEST_DEPTH, Settings, StackFrame};
 use functions::fetch;
 
 mod abandon;
-pub mod calls;
+mod calls;
 mod carry_on;
 mod cell_pairs;
 mod copies;
@@ -27,7 +28,7 @@ pub struct ExecutionContext {
     pub settings: Settings,
     pub pc: i64,
     pub current_function: usize,
-    // How many frames are in use, and how many cells of the saved store.
+    // How many frames are in use, and how many cells of the saved store: the C interface has counts beside a fixed array and a lent store.
     pub depth: usize,
     pub saved: usize,
     // How many entities there are (document 02, R-3).
@@ -35,29 +36,24 @@ pub struct ExecutionContext {
     pub frames: [StackFrame; GREATEST_DEPTH],
 }
 
-// The context after an operation, and its answer.
-#[derive(Clone, Copy)]
-pub struct Answered {
-    pub context: ExecutionContext,
-    pub answer: Answer,
-}
-
+// What is lent comes with each call as plain slices, as in the C interface.
 impl ExecutionContext {
     // The host enters a function, which is to go back to the present position.
+    #[tactic(auto, using(crate::proofs::StateLaws::own, crate::proofs::HostLaws::enter_13, crate::proofs::HostLaws::enter_sound))]
     pub fn enter(
-        self,
+        &mut self,
         file: &[u8],
         function: i64,
         cells: &mut [u32],
         store: &mut [u32],
         entities: &[u32],
-    ) -> Answered
-        ensures { outcome_of result cells.new store.new entities.now ≡ after (config self cells.old store.old entities.now) (host_enter (program_of file.now) function) }
+    ) -> Result<(), Refusal>
+        ensures { outcome_of result self.new cells.new store.new entities.now ≡ after (config self.old cells.old store.old entities.now) (host_enter (program_of file.now) function) }
     {
         if !self.check_state(file, cells, store, entities) {
-            return self.refused(13);
+            return Err(Refusal::State);
         }
-        let f = fetch::place_of(self.function_count(), function);
+        let f = fetch::place_of(self.file.functions.count, function);
         self.enter_function(file, f, self.pc, cells, store)
     }
 }

@@ -1,73 +1,67 @@
 // Raw access: the host reads and writes a cell by its address.
 ghost use Rattle.std.specs.Prelude.{◌≡◌};
-ghost use Rattle.definition.specs.Checks.{judge};
+ghost use Rattle.definition.specs.Refusals.{checked};
 ghost use Rattle.definition.specs.Load.{program_of};
-ghost use Rattle.definition.specs.Operations.{raw_conditions, raw_read, raw_write};
-ghost use Rattle.definition.specs.Answers.{read_answer};
-ghost use Rattle.progs.specs.Contexts.{config, outcome_of, after};
+ghost use Rattle.definition.specs.Operations.{raw_read, raw_write};
+ghost use Rattle.progs.specs.Contexts.{config, outcome_of, after, raw_place};
 
-use crate::{Answered, ExecutionContext};
-use definition::{Answer, ReadAnswer};
+use crate::ExecutionContext;
+use definition::refusal::Refusal;
 use functions::fetch;
 
 impl ExecutionContext {
-    // 0, or the number of the refusal.
-    fn raw_refusal(
-        self,
+    // The cell at an address.
+    #[tactic(auto, using(crate::proofs::HostLaws::place_13, crate::proofs::HostLaws::place_15, crate::proofs::HostLaws::place_found))]
+    fn place(
+        &self,
         file: &[u8],
         address: i64,
         cells: &[u32],
         store: &[u32],
         entities: &[u32],
-    ) -> u8
-        ensures { result ≡ judge (raw_conditions (program_of file.now) address (config self cells.now store.now entities.now)) }
+    ) -> Result<usize, Refusal>
+        ensures { checked result ≡ raw_place (program_of file.now) address (config self.now cells.now store.now entities.now) }
     {
         if !self.check_state(file, cells, store, entities) {
-            return 13;
+            return Err(Refusal::State);
         }
-        let count = self.cell_count();
+        let count = self.file.globals.count;
         let at = fetch::place_of(count, address);
-        if count <= at { 15 } else { 0 }
+        if at < count {
+            Ok(at)
+        } else {
+            Err(Refusal::Address)
+        }
     }
 
+    #[tactic(auto, using(crate::proofs::HostLaws::read_by, crate::proofs::HostLaws::place_inside))]
     pub fn read(
-        self,
+        &self,
         file: &[u8],
         address: i64,
         cells: &[u32],
         store: &[u32],
         entities: &[u32],
-    ) -> ReadAnswer
-        ensures { result ≡ read_answer (raw_read (program_of file.now) address (config self cells.now store.now entities.now)) }
+    ) -> Result<u32, Refusal>
+        ensures { checked result ≡ raw_read (program_of file.now) address (config self.now cells.now store.now entities.now) }
     {
-        let refusal = self.raw_refusal(file, address, cells, store, entities);
-        if refusal != 0 {
-            return ReadAnswer::Refused(refusal);
-        }
-        let at = fetch::place_of(0, address);
-        ReadAnswer::Value(cells[at])
+        Ok(cells[self.place(file, address, cells, store, entities)?])
     }
 
+    #[tactic(auto, using(crate::proofs::HostLaws::write_by, crate::proofs::HostLaws::place_inside))]
     pub fn write(
-        self,
+        &self,
         file: &[u8],
         address: i64,
         value: u32,
         cells: &mut [u32],
         store: &[u32],
         entities: &[u32],
-    ) -> Answered
-        ensures { outcome_of result cells.new store.now entities.now ≡ after (config self cells.old store.now entities.now) (raw_write (program_of file.now) address value) }
+    ) -> Result<(), Refusal>
+        ensures { outcome_of result self.now cells.new store.now entities.now ≡ after (config self.now cells.old store.now entities.now) (raw_write (program_of file.now) address value) }
     {
-        let refusal = self.raw_refusal(file, address, cells, store, entities);
-        if refusal != 0 {
-            return self.refused(refusal);
-        }
-        let at = fetch::place_of(0, address);
+        let at = self.place(file, address, cells, store, entities)?;
         cells[at] = value;
-        Answered {
-            context: self,
-            answer: Answer::Accepted,
-        }
+        Ok(())
     }
 }

@@ -1,2 +1,3 @@
 pub mod QuickLaws
-pub mod InPlace
+pub mod StepLaws
+pub mod RunLaws

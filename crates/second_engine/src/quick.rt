@@ -1,21 +1,13 @@
 // The commonest statements, over cells that pass as floats with nothing looked up: their code is part of the loop, in which all else is a call.
-ghost use Rattle.std.specs.Prelude.{◌≡◌, true, false, cond, ◌*◌, ◌≤◌, ◌<◌, pos, ◌+ℤ◌, length};
-ghost use Rattle.std.specs.Bool.{beq};
+ghost use Rattle.std.specs.Prelude.{◌≡◌, true, ◌*◌, ◌≤◌, ◌<◌, length, IfSome};
 ghost use Rattle.definition.specs.File.{Contents, unpacked_statements};
-ghost use Rattle.definition.specs.Cells.{signed, typing_of};
-ghost use Rattle.definition.specs.Floats.{is_zero};
-ghost use Rattle.definition.specs.Statements.{Entities, does_at};
-ghost use Rattle.second_engine.specs.Quickly.{AllFloats, CommonIs, QuicklyDoes, GoesOn};
+ghost use Rattle.definition.specs.Cells.{typing_of};
+ghost use Rattle.definition.specs.Statements.{Entities, shape_of, does_at};
+ghost use Rattle.floats.specs.Opcodes.{float_op};
+ghost use Rattle.execution.specs.Shapes.{is_floats};
+ghost use Rattle.second_engine.specs.Quickly.{AllFloats, QuicklyDoes, GoesOn};
 
-use functions::fetch::Fetched;
 use functions::{fetch, ops};
-
-// Whether a statement was done, and the position after it.
-#[derive(Clone, Copy)]
-struct Turn {
-    done: bool,
-    pc: i64,
-}
 
 // The position after statements that were done, and their number.
 #[derive(Clone, Copy)]
@@ -24,95 +16,58 @@ pub struct Turns {
     pub count: u32,
 }
 
-#[derive(Clone, Copy)]
-enum Common {
-    Value(u32),
-    Other,
-}
-
-// What arithmetic and comparisons make of two floats. One number to an arm and a `return` in each, as in `floats::float_op`, which has a caller too many to
-// become part of the loop.
-fn common_op(op: u16, a: u32, b: u32) -> Common
-    ensures { CommonIs result op a b }
+// What arithmetic and comparisons make of two floats. `floats::float_op` in its place would be a call in the loop, which misses the bars of speed.
+#[tactic(auto, unfolding(definition::specs::Statements::opcodes, definition::specs::Statements::shape_of, floats::specs::Opcodes::float_op))]
+fn common_op(op: u16, a: u32, b: u32) -> Option<u32>
+    ensures { IfSome result (λ v. (is_floats (shape_of op) ≡ true) × (v ≡ float_op op a b)) }
 {
-    match op {
-        ops::MUL_F => return Common::Value(floats::mul_f(a, b)),
-        ops::DIV => return Common::Value(floats::div_f(a, b)),
-        ops::ADD_F => return Common::Value(floats::add_f(a, b)),
-        ops::SUB_F => return Common::Value(floats::sub_f(a, b)),
-        ops::EQ_F => return Common::Value(floats::eq_f(a, b)),
-        ops::NE_F => return Common::Value(floats::ne_f(a, b)),
-        ops::LE => return Common::Value(floats::le_f(a, b)),
-        ops::GE => return Common::Value(floats::ge_f(a, b)),
-        ops::LT => return Common::Value(floats::lt_f(a, b)),
-        ops::GT => return Common::Value(floats::gt_f(a, b)),
-        _ => return Common::Other,
-    }
+    Some(match op {
+        ops::MUL_F => floats::mul_f(a, b),
+        ops::DIV => floats::div_f(a, b),
+        ops::ADD_F => floats::add_f(a, b),
+        ops::SUB_F => floats::sub_f(a, b),
+        ops::EQ_F => floats::eq_f(a, b),
+        ops::NE_F => floats::ne_f(a, b),
+        ops::LE => floats::le_f(a, b),
+        ops::GE => floats::ge_f(a, b),
+        ops::LT => floats::lt_f(a, b),
+        ops::GT => floats::gt_f(a, b),
+        _ => return None,
+    })
 }
 
-// If (false) or IfNot (true) at statement k.
-fn branch(k: usize, when: bool, value: u32, by: u16) -> Turn
-    requires { k < 2147483648 }
-    ensures { (result.done ≡ true) × (result.pc ≡ pos k +ℤ cond (beq (is_zero value) when) (signed by) (pos 1)) }
-{
-    if floats::is_zero(value) == when {
-        return Turn {
-            done: true,
-            pc: fetch::jump(k, by),
-        };
-    }
-    Turn {
-        done: true,
-        pc: fetch::after(k),
-    }
-}
-
-fn not_done() -> Turn
-    ensures { result.done ≡ false }
-{
-    Turn { done: false, pc: 0 }
-}
-
-// Does the statement at a position, if it is a common one and its operands are below `untyped`, the cells that pass as floats.
-fn do_one(buffer: &[u16], count: usize, untyped: usize, cells: &mut [u32], pc: i64) -> Turn
+// Does the statement at a position, if it is a common one and its operands are below `untyped`, the cells that pass as floats. Its result is the position
+// after it.
+#[tactic(auto, using(crate::proofs::QuickLaws::index_below))]
+fn do_one(buffer: &[u16], count: usize, untyped: usize, cells: &mut [u32], pc: i64) -> Option<i64>
     requires count_in_bounds { (4 * count ≤ length buffer.now) × (count < 2147483648) }
     requires untyped_in_bounds { (untyped ≤ length cells.old) × (untyped ≤ 32768) }
-    ensures { (k : Contents) (e : Entities) → k.statements ≡ unpacked_statements buffer.now count → AllFloats (typing_of k) untyped → QuicklyDoes result.done (does_at k pc e cells.old) result.pc cells.new cells.old }
+    ensures { (k : Contents) (e : Entities) → k.statements ≡ unpacked_statements buffer.now count → AllFloats (typing_of k) untyped → QuicklyDoes result (does_at k pc e cells.old) cells.new cells.old }
 {
-    let fetched = unpacked::fetch(buffer, count, pc);
-    let Fetched::At(k, s) = fetched else {
-        return not_done();
+    let Ok((k, s)) = unpacked::fetch(buffer, count, pc) else {
+        return None;
     };
-    let x = s.arg1 as usize;
+    let x = usize::from(s.arg1);
     if untyped <= x {
-        return not_done();
+        return None;
     }
     if s.opcode == ops::IF {
-        return branch(k, false, cells[x], s.arg2);
+        return Some(execution::branched(k, false, cells[x], s.arg2));
     }
     if s.opcode == ops::IF_NOT {
-        return branch(k, true, cells[x], s.arg2);
+        return Some(execution::branched(k, true, cells[x], s.arg2));
     }
-    let y = s.arg2 as usize;
-    let z = s.arg3 as usize;
-    if untyped <= y {
-        return not_done();
+    let y = usize::from(s.arg2);
+    let z = usize::from(s.arg3);
+    if untyped <= y || untyped <= z {
+        return None;
     }
-    if untyped <= z {
-        return not_done();
-    }
-    let common = common_op(s.opcode, cells[x], cells[y]);
-    let Common::Value(v) = common else {
-        return not_done();
-    };
-    cells[z] = v;
-    Turn {
-        done: true,
-        pc: fetch::after(k),
-    }
+    cells[z] = common_op(s.opcode, cells[x], cells[y])?;
+    Some(fetch::after(k))
 }
 
 // Does statements from a position on, at most so many, as long as they are common ones.
+#[tactic(auto, using(crate::proofs::QuickLaws::several))]
 pub fn do_common(
     buffer: &[u16],
     count: usize,
@@ -123,16 +78,21 @@ pub fn do_common(
 ) -> Turns
     requires count_in_bounds { (4 * count ≤ length buffer.now) × (count < 2147483648) }
     requires untyped_in_bounds { (untyped ≤ length cells.old) × (untyped ≤ 32768) }
-    ensures { (result.count ≤ most) × ((k : Contents) (e : Entities) → k.statements ≡ unpacked_statements buffer.now count → AllFloats (typing_of k) untyped → GoesOn (λ p cs. does_at k p e cs) result.count pc cells.old result.pc cells.new) }
+    ensures few { result.count ≤ most }
+    ensures goes { (k : Contents) (e : Entities) → k.statements ≡ unpacked_statements buffer.now count → AllFloats (typing_of k) untyped → GoesOn (λ p cs. does_at k p e cs) result.count pc cells.old result.pc cells.new }
 {
-    let mut went = Turns { pc, count: 0 };
-    while went.count < most {
-        let turn = do_one(buffer, count, untyped, cells, went.pc);
-        if !turn.done {
-            break;
-        }
-        went.pc = turn.pc;
-        went.count = went.count + 1;
+    let mut at = pc;
+    for done in 0..most {
+        let Some(next) = do_one(buffer, count, untyped, cells, at) else {
+            return Turns {
+                pc: at,
+                count: done,
+            };
+        };
+        at = next;
     }
-    went
+    Turns {
+        pc: at,
+        count: most,
+    }
 }

@@ -5,8 +5,7 @@ use native.Mathlib.Omega.{arith}
 use Rattle.std.proofs.lemmas.Bool.{lt-leb}
 use Rattle.std.proofs.Math.ListN.{length-append}
 use Rattle.definition.specs.declared.RunAnswer.{RunAnswer}
-use Rattle.definition.specs.declared.WriteAnswer.TheVariants as write
-use Rattle.definition.specs.Checks.{judge, guard}
+use Rattle.definition.specs.Checks.{judge, refused, accepted, guard}
 use Rattle.definition.specs.Answers.{Word, ended, spent, completed_word, refused_word, builtin, opcode, letters}
 use Rattle.definition.specs.Machine.{Ran}
 use Rattle.text.specs.Text.{ascii, decimal, show_line}
@@ -110,13 +109,13 @@ no_line_end x =
 
 module _ (x : Five) (display : List ℕ) where
   -- "A display buffer under 120 bytes takes the existing refusal 12 and is untouched"
-  pub answers_12 : length display < 120 → displayed x display ≡ record { answer = write.Refused 12; output = display }
+  pub answers_12 : length display < 120 → displayed x display ≡ record { answer = refused 12; output = display }
   unfolding displayed guard judge
   answers_12 h = rw (lt-leb 120 (length display) h)
 
   -- "its length is given"
   pub answers_length : 120 ≤ length display
-      → displayed x display ≡ record { answer = write.Length (length (sentence x)); output = sentence x ++ drop (length (sentence x)) display }
+      → displayed x display ≡ record { answer = accepted (length (sentence x)); output = sentence x ++ drop (length (sentence x)) display }
   unfolding displayed guard judge
   answers_length h = rw (le-leb 120 (length display) h)
 

@@ -2,7 +2,6 @@
 use Rattle.std.specs.Prelude.{ℕ, List, [], ◌∷◌, ◌++◌, cond, eqb, leb, ℤ, length, drop}
 use Prim.Native.String.{String}
 use Rattle.definition.specs.declared.RunAnswer.{RunAnswer}
-use Rattle.definition.specs.declared.WriteAnswer.{WriteAnswer}
 use Rattle.definition.specs.Checks.{Conditions, ◌otherwise◌, guard}
 use Rattle.definition.specs.Machine.{Ran}
 use Rattle.definition.specs.Answers.{Word, ended, spent, refused_word, builtin, opcode, letters, outcome_word, outcome_detail}
@@ -103,8 +102,3 @@ word_numbered n =
 
 abbrev pub five_numbered : ℕ → ℕ → ℕ → ℤ → ℕ → Five
 five_numbered word detail count position function = five (word_numbered word) detail count position function
-
--- ---- what the code answers
-
-abbrev pub outcome_of : WriteAnswer → List ℕ → WriteOutcome
-outcome_of a display = record { answer = a; output = display }

@@ -1,48 +1,31 @@
 // Outcome sentences (document 02, R-8): the outcome of a run as a line of words and numbers, in a lent display buffer.
 #![tactic(auto)]
 
-ghost use Rattle.std.specs.Prelude.{◌≡◌, ◌++◌, ◌≤◌, length};
+ghost use Rattle.std.specs.Prelude.{◌≡◌, ◌++◌};
 ghost use Rattle.definition.specs.Answers.{outcome_word};
+ghost use Rattle.definition.specs.Written.{outcome_of};
 ghost use Rattle.text.specs.Text.{decimal};
-ghost use Rattle.text.specs.Output.{output, put, Room, at_front};
-ghost use Rattle.sentences.specs.Sentence.{five, sentence, five_of, five_numbered, displayed, outcome_of, word_numbered};
+ghost use Rattle.text.specs.Output.{Room};
+ghost use Rattle.text.specs.Writing.{at_place, Wrote};
+ghost use Rattle.sentences.specs.Sentence.{five, five_of, five_numbered, displayed, word_numbered};
 
-use definition::{Handover, RunAnswer, WriteAnswer};
+use definition::refusal::Refusal;
+use definition::{Handover, RunAnswer};
+use text::Writer;
 
 // "A display buffer under 120 bytes takes the existing refusal 12". No sentence has more bytes.
 pub const DISPLAY_LENGTH: usize = 120;
 
-fn write_named(buf: &mut [u8], at: usize, name: &[u8], n: u64) -> usize
-    requires { Room (name.now ++ decimal n) (output buf.old at) }
-    ensures { output buf.new result ≡ put (name.now ++ decimal n) (output buf.old at) }
+fn write_named(out: &mut Writer<'_>, name: &[u8], n: u64)
+    requires { Room (name.now ++ decimal n) (at_place out.old) }
+    ensures { Wrote (name.now ++ decimal n) out.old out.new }
 {
-    let next = text::write_bytes(buf, at, name);
-    text::write_decimal(buf, next, n)
+    out.write_bytes(name);
+    out.write_decimal(n);
 }
 
-// The word is that of the answer, whose detail stands beside it.
-fn write_sentence(
-    buf: &mut [u8],
-    answer: RunAnswer,
-    detail: u32,
-    count: u32,
-    position: i64,
-    function: usize,
-) -> usize
-    requires { 120 ≤ length buf.old }
-    ensures { output buf.new result ≡ at_front (sentence (five (outcome_word answer) detail count position function)) buf.old }
-{
-    let mut at = text::write_bytes(buf, 0, b"Run ");
-    at = text::write_word(buf, at, answer);
-    at = write_named(buf, at, b", detail ", detail as u64);
-    at = write_named(buf, at, b", statements ", count as u64);
-    at = text::write_bytes(buf, at, b", position ");
-    at = text::write_signed(buf, at, position);
-    at = write_named(buf, at, b", function ", function as u64);
-    text::write_byte(buf, at, b'.')
-}
-
-// The same at the front of any display buffer, if that is long enough.
+// The sentence at the front of the display buffer. The word is that of the answer, whose detail stands beside it.
+#[tactic(auto, using(text::specs::Laws::decimal_10, text::specs::Laws::decimal_20, text::specs::Laws::signed_20, text::specs::Laws::word_7, crate::proofs::Displays::short_refused))]
 fn compose_five(
     display: &mut [u8],
     answer: RunAnswer,
@@ -50,13 +33,25 @@ fn compose_five(
     count: u32,
     position: i64,
     function: usize,
-) -> WriteAnswer
+) -> Result<usize, Refusal>
     ensures { outcome_of result display.new ≡ displayed (five (outcome_word answer) detail count position function) display.old }
 {
     if display.len() < DISPLAY_LENGTH {
-        return WriteAnswer::Refused(12);
+        return Err(Refusal::LentTooShort);
     }
-    WriteAnswer::Length(write_sentence(display, answer, detail, count, position, function))
+    let mut out = Writer {
+        buf: display,
+        at: 0,
+    };
+    out.write_bytes(b"Run ");
+    out.write_word(answer);
+    write_named(&mut out, b", detail ", u64::from(detail));
+    write_named(&mut out, b", statements ", u64::from(count));
+    out.write_bytes(b", position ");
+    out.write_signed(position);
+    write_named(&mut out, b", function ", function as u64);
+    out.write_byte(b'.');
+    Ok(out.at)
 }
 
 // The sentence of a run's outcome.
@@ -66,23 +61,24 @@ pub fn compose(
     count: u32,
     position: i64,
     function: usize,
-) -> WriteAnswer
+) -> Result<usize, Refusal>
     ensures { outcome_of result display.new ≡ displayed (five_of answer count position function) display.old }
 {
     let detail = text::outcome_detail(answer);
     compose_five(display, answer, detail, count, position, function)
 }
 
-// An outcome that has the word of this number. Its own number is 0.
+// An outcome that has the word of this number, by which an exported function has it. Its own number is 0.
+#[tactic(auto, unfolding(crate::specs::Sentence::word_numbered))]
 fn outcome_worded(word: u32) -> RunAnswer
     ensures { outcome_word result ≡ word_numbered word }
 {
     match word {
-        1 => return RunAnswer::Ended,
-        2 => return RunAnswer::Spent,
-        4 => return RunAnswer::HandedOver(Handover::Builtin(0)),
-        5 => return RunAnswer::HandedOver(Handover::Opcode(0)),
-        _ => return RunAnswer::Refused(0),
+        1 => RunAnswer::Ended,
+        2 => RunAnswer::Spent,
+        4 => RunAnswer::HandedOver(Handover::Builtin(0)),
+        5 => RunAnswer::HandedOver(Handover::Opcode(0)),
+        _ => RunAnswer::Refused(0),
     }
 }
 
@@ -94,7 +90,7 @@ pub fn compose_numbers(
     count: u32,
     position: i64,
     function: usize,
-) -> WriteAnswer
+) -> Result<usize, Refusal>
     ensures { outcome_of result display.new ≡ displayed (five_numbered word detail count position function) display.old }
 {
     let answer = outcome_worded(word);

@@ -1,4 +1,5 @@
 // What the show program prints for a file: document 01's last situation, over the machine's operations.
+// What is lent comes as plain slices, as in the C interface.
 #![tactic(auto)]
 
 ghost use Rattle.std.specs.Prelude.{◌≡◌, ◌≤◌, length, get_or};
@@ -8,7 +9,8 @@ ghost use Rattle.server.specs.Stepping.{ran_of};
 ghost use Rattle.text.specs.Output.{output, at_front};
 ghost use Rattle.shown.specs.Shown.{state_line, entered_and_run, shown, printed, at_front_of};
 
-use definition::{Answer, GREATEST_LIMIT, RunAnswer};
+use definition::GREATEST_LIMIT;
+use definition::refusal::Refusal;
 use functions::header;
 use progs::{ExecutionContext, load};
 use server::Ran;
@@ -27,45 +29,35 @@ const NO_ENTITIES: i64 = 0;
 fn cell_at(cells: &[u32], i: usize) -> u32
     ensures { result ≡ get_or cells.now i 0 }
 {
-    if i < cells.len() {
-        return cells[i];
-    }
-    0
+    cells.get(i).copied().unwrap_or(0)
 }
 
-fn state_line(
-    line: &mut [u8],
-    answer: RunAnswer,
-    count: u32,
-    context: ExecutionContext,
-    cells: &[u32],
-) -> usize
+fn state_line(line: &mut [u8], ran: Ran, cells: &[u32]) -> usize
     requires { 160 ≤ length line.old }
-    ensures result_after { output line.new result ≡ at_front (state_line answer count (state_of context) cells.now) line.old }
+    ensures result_after { output line.new result ≡ at_front (state_line ran.answer ran.count (state_of ran.context) cells.now) line.old }
     ensures upper_bound { result ≤ 160 }
 {
-    let c1 = cell_at(cells, 1);
-    let c2 = cell_at(cells, 2);
-    let c3 = cell_at(cells, 3);
+    let context = ran.context;
     text::show_line(
         line,
         Line {
-            answer,
-            count,
+            answer: ran.answer,
+            count: ran.count,
             pc: context.pc,
             function: context.current_function,
             depth: context.depth,
             saved: context.saved,
-            c1,
-            c2,
-            c3,
+            c1: cell_at(cells, 1),
+            c2: cell_at(cells, 2),
+            c3: cell_at(cells, 3),
         },
     )
 }
 
 // Enters function 1 and runs to depth 0. A refused entry is a run that completes nothing.
+#[tactic(auto, using(crate::proofs::Laws::entry_accepted))]
 fn enter_and_run(
-    context: ExecutionContext,
+    mut context: ExecutionContext,
     file: &[u8],
     cells: &mut [u32],
     store: &mut [u32],
@@ -73,22 +65,14 @@ fn enter_and_run(
 ) -> Ran
     ensures { ran_of result cells.new store.new entities.new ≡ entered_and_run (program_of file.now) (config context cells.old store.old entities.old) }
 {
-    let entered = context.enter(file, 1, cells, store, entities);
-    let context = entered.context;
-    let answer = entered.answer;
-    match answer {
-        Answer::Refused(n) => {
-            return Ran {
-                context,
-                answer: RunAnswer::Refused(n),
-                count: 0,
-            };
-        }
-        Answer::Accepted => return server::run(context, file, 0, LIMIT, cells, store, entities),
+    match context.enter(file, 1, cells, store, entities) {
+        Ok(()) => server::run(context, file, 0, LIMIT, cells, store, entities),
+        Err(refusal) => Ran::refused(context, refusal, 0),
     }
 }
 
 // The line stands at the front of `line`; the result is its length.
+#[tactic(auto, using(crate::proofs::Laws::too_long, crate::proofs::Laws::prints))]
 pub fn show(
     file: &[u8],
     cells: &mut [u32],
@@ -101,25 +85,20 @@ pub fn show(
     ensures upper_bound { result ≤ 160 }
 {
     if LONGEST_INPUT < file.len() {
-        return text::refused_line(line, 1);
+        return text::refused_line(line, Refusal::FileLength.number());
     }
-    let loaded = load::load(
+    match load::load(
         header::standard(),
         file,
         NO_ENTITIES,
         cells,
         store,
         entities,
-    );
-    let context = loaded.context;
-    let answer = loaded.answer;
-    match answer {
-        Answer::Refused(n) => return text::refused_line(line, n),
-        Answer::Accepted => {
+    ) {
+        Ok(context) => {
             let ran = enter_and_run(context, file, cells, store, entities);
-            let last = ran.context;
-            let outcome = ran.answer;
-            return state_line(line, outcome, ran.count, last, cells);
+            state_line(line, ran, cells)
         }
+        Err(refusal) => text::refused_line(line, refusal.number()),
     }
 }

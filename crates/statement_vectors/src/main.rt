@@ -3,314 +3,225 @@
 // tools/statement_vectors.py writes the lines, of a letter and two hexadecimal numbers, and says what they mean.
 #![tactic(auto)]
 
-use definition::{HEADER_LENGTH, Handover, LEAST_ENTITY_CELLS, MOST_CELLS};
+use anyhow::Result;
+use definition::refusal::Refusal;
+use definition::{HEADER_LENGTH, Handover, MOST_CELLS};
 use execution::Executed;
 use functions::{fetch, header};
-use std::io;
-use std::io::{BufReader, BufWriter, Read, Write};
-use vectors::{Counts, MOST_LINES};
+use std::alloc::{AllocError, Global};
+use std::io::{BufRead, BufReader, BufWriter, Write};
+use std::str::FromStr;
+use vectors::{Counts, LineError, next_hex, next_word};
 
-// The longest file of the cases has 131,945 bytes.
-const BYTES: usize = 140000;
+// What a statement answers: what it does, or the number of its refusal.
+type Answer = Result<Executed, u8>;
 
-// The most entity cells that a case lends.
-const ENTITY_CELLS: usize = 65540;
-
-// A line: its letter and two numbers.
 #[derive(Clone, Copy)]
-struct Line {
-    letter: u8,
-    x: u32,
-    y: u32,
-}
-
-// How much of the buffers is lent: the file's length, and the entity cells, with how many entities they are.
-#[derive(Clone, Copy)]
-struct Given {
-    size: usize,
-    number: usize,
-    lent: usize,
-}
-
-// What a line does: it gives part of a case, or a file of a size, or entities and how many cells are lent for them; or a case is run.
-#[derive(Clone, Copy)]
-enum Step {
-    Given,
+enum Line {
+    // A file of so many bytes, all zeros.
     File(usize),
+    // Four bytes of the file, the lowest first.
+    Word(usize, u32),
+    // So many entities, and so many lent entity cells, all zeros.
     Entities(usize, usize),
-    Same,
-    Differs,
-    End,
+    Cell(usize, u32),
+    EntityCell(usize, u32),
+    // What a cell is to hold after the statement.
+    Wanted(usize, u32),
+    WantedOfEntities(usize, u32),
+    // The statement at position 0 is to answer so.
+    Run(Answer),
+}
+
+// An answer by its kind and number.
+fn answer(kind: u32, n: u32) -> Result<Answer, LineError> {
+    match kind {
+        0 => Ok(Ok(Executed::Next(fetch::signed(u16::try_from(n)?)))),
+        1 => Ok(Ok(Executed::Calls(n as usize))),
+        2 => Ok(Ok(Executed::Returns(n as usize))),
+        3 => Ok(Err(u8::try_from(n)?)),
+        4 => Ok(Ok(Executed::HandedOver(Handover::Builtin(n)))),
+        5 => Ok(Ok(Executed::HandedOver(Handover::Opcode(n)))),
+        _ => Err(LineError::Unknown),
+    }
+}
+
+impl FromStr for Line {
+    type Err = LineError;
+
+    fn from_str(line: &str) -> Result<Line, LineError> {
+        let mut words = line.split_ascii_whitespace();
+        let letter = next_word(&mut words)?;
+        let x = next_hex(&mut words)?;
+        let y = next_hex(&mut words)?;
+        let place = x as usize;
+        match letter {
+            "f" => Ok(Line::File(place)),
+            "b" => Ok(Line::Word(place, y)),
+            "n" => Ok(Line::Entities(place, y as usize)),
+            "c" => Ok(Line::Cell(place, y)),
+            "e" => Ok(Line::EntityCell(place, y)),
+            "w" => Ok(Line::Wanted(place, y)),
+            "x" => Ok(Line::WantedOfEntities(place, y)),
+            "r" => Ok(Line::Run(answer(x, y)?)),
+            _ => Err(LineError::Unknown),
+        }
+    }
+}
+
+// Lent cells, and what they are to hold after the statement.
+#[derive(Drop)]
+struct Cells {
+    given: Vec<u32>,
+    wanted: Vec<u32>,
+}
+
+impl Cells {
+    fn new(alloc: Global) -> Cells {
+        Cells {
+            given: Vec::new(alloc),
+            wanted: Vec::new(alloc),
+        }
+    }
+
+    // So many of them, all zeros.
+    fn reset(&mut self, count: usize) -> Result<(), AllocError> {
+        self.given.resize(count, 0)?;
+        self.wanted.resize(count, 0)?;
+        self.given.fill(0);
+        self.wanted.fill(0);
+        Ok(())
+    }
+
+    fn give(&mut self, i: usize, value: u32) {
+        vectors::put(&mut self.given, i, value);
+        self.want(i, value);
+    }
+
+    fn want(&mut self, i: usize, value: u32) {
+        vectors::put(&mut self.wanted, i, value);
+    }
+
+    fn agree(&self) -> bool {
+        self.given == self.wanted
+    }
+}
+
+// What the lines have given of a case.
+#[derive(Drop)]
+struct Case {
+    file: Vec<u8>,
+    cells: Cells,
+    // How many entities there are, and their cells.
+    number: usize,
+    entities: Cells,
 }
 
 // What the statement at position 0 does: refused 13 where the lumps don't lie in the file, or the cells are too few or the file's too many, or so many
 // entities of the file's size have no room.
-fn executed(file: &[u8], number: usize, cells: &mut [u32], entities: &mut [u32]) -> Executed {
+fn executed(
+    file: &[u8],
+    number: usize,
+    cells: &mut [u32],
+    entities: &mut [u32],
+) -> Result<Executed, Refusal> {
     if file.len() < HEADER_LENGTH {
-        return Executed::Refused(13);
+        return Err(Refusal::State);
     }
     let recorded = header::file_of(file);
-    if !header::lumps_fit(recorded) {
-        return Executed::Refused(13);
+    let fits = header::lumps_fit(recorded)
+        & header::cells_fit(0, recorded)
+        & header::entity_fits(recorded);
+    if !fits || cells.len() < recorded.globals.count {
+        return Err(Refusal::State);
     }
-    let count = recorded.globals.count;
-    if cells.len() < count {
-        return Executed::Refused(13);
-    }
-    if MOST_CELLS < count {
-        return Executed::Refused(13);
-    }
-    let size = recorded.entityfields;
-    if size < LEAST_ENTITY_CELLS {
-        return Executed::Refused(13);
-    }
-    if 2147483648 <= size {
-        return Executed::Refused(13);
-    }
-    if !header::entities_fit(number, size, entities.len()) {
-        return Executed::Refused(13);
+    if !header::entities_fit(number, recorded.entityfields, entities.len()) {
+        return Err(Refusal::State);
     }
     execution::does(file, recorded, number, cells, entities, 0)
 }
 
-// Whether an answer is the one given by its kind and number.
-fn agrees(answer: Executed, kind: u32, n: u32) -> bool {
-    match answer {
-        Executed::Next(p) => return (kind == 0) & (p == fetch::signed((n % 65536) as u16)),
-        Executed::Calls(f) => return (kind == 1) & (f == n as usize),
-        Executed::Returns(a) => return (kind == 2) & (a == n as usize),
-        Executed::Refused(r) => return (kind == 3) & (r as u32 == n),
-        Executed::HandedOver(h) => match h {
-            Handover::Builtin(b) => return (kind == 4) & (b == n),
-            Handover::Opcode(o) => return (kind == 5) & (o == n),
-        },
+impl Case {
+    fn new(alloc: Global) -> Result<Case, AllocError> {
+        let mut cells = Cells::new(alloc);
+        cells.reset(MOST_CELLS)?;
+        Ok(Case {
+            file: Vec::new(alloc),
+            cells,
+            number: 0,
+            entities: Cells::new(alloc),
+        })
     }
-}
 
-fn same_cells(cells: &[u32], want: &[u32]) -> bool {
-    if want.len() < cells.len() {
-        return false;
+    fn resize_file(&mut self, length: usize) -> Result<(), AllocError> {
+        self.file.clear();
+        self.file.resize(length, 0)
     }
-    let mut i: usize = 0;
-    while i < cells.len() {
-        if cells[i] != want[i] {
-            return false;
+
+    fn put_word(&mut self, place: usize, word: u32) {
+        for (byte, b) in self.file.iter_mut().skip(place).zip(word.to_le_bytes()) {
+            *byte = b;
         }
-        i += 1;
     }
-    true
-}
 
-fn clear_bytes(file: &mut [u8]) {
-    let mut i: usize = 0;
-    while i < file.len() {
-        file[i] = 0;
-        i += 1;
+    fn lend_entities(&mut self, number: usize, lent: usize) -> Result<(), AllocError> {
+        self.number = number;
+        self.entities.reset(lent)
     }
-}
 
-fn put_byte(file: &mut [u8], i: usize, value: u32) {
-    if i < file.len() {
-        file[i] = (value % 256) as u8;
+    // Whether the statement at position 0 does what is wanted. Afterwards all is zeros again, but the file.
+    fn run(&mut self, wanted: Answer) -> Result<bool, AllocError> {
+        let answer = executed(
+            &self.file,
+            self.number,
+            &mut self.cells.given,
+            &mut self.entities.given,
+        );
+        let same = answer.map_err(Refusal::number) == wanted
+            && self.cells.agree()
+            && self.entities.agree();
+        self.cells.reset(MOST_CELLS)?;
+        self.lend_entities(0, 0)?;
+        Ok(same)
     }
-}
 
-// Four bytes, the lowest first.
-fn put_word(file: &mut [u8], at: u32, value: u32) {
-    let i = at as usize;
-    put_byte(file, i, value);
-    put_byte(file, i + 1, value / 256);
-    put_byte(file, i + 2, value / 65536);
-    put_byte(file, i + 3, value / 16777216);
-}
-
-// Runs a case, and holds the answer, all cells and all lent entity cells against what is wanted.
-fn run_case(
-    file: &[u8],
-    number: usize,
-    cells: &mut [u32],
-    want: &[u32],
-    entities: &mut [u32],
-    want_entities: &[u32],
-    kind: u32,
-    n: u32,
-) -> Step {
-    let answer = executed(file, number, cells, entities);
-    let same = same_cells(cells, want) & same_cells(entities, want_entities);
-    if agrees(answer, kind, n) & same {
-        return Step::Same;
-    }
-    Step::Differs
-}
-
-// Runs a case on what is lent of the buffers. Afterwards all is zeros again, but the file.
-fn run_given(
-    file: &[u8],
-    given: Given,
-    cells: &mut [u32],
-    want: &mut [u32],
-    entities: &mut [u32],
-    want_entities: &mut [u32],
-    kind: u32,
-    n: u32,
-) -> Step {
-    let size = given.size;
-    let lent = given.lent;
-    if file.len() < size {
-        return Step::Differs;
-    }
-    if entities.len() < lent {
-        return Step::Differs;
-    }
-    if want_entities.len() < lent {
-        return Step::Differs;
-    }
-    let step = run_case(
-        &file[..size],
-        given.number,
-        cells,
-        want,
-        &mut entities[..lent],
-        &want_entities[..lent],
-        kind,
-        n,
-    );
-    vectors::clear_cells(cells);
-    vectors::clear_cells(want);
-    vectors::clear_cells(&mut entities[..lent]);
-    vectors::clear_cells(&mut want_entities[..lent]);
-    step
-}
-
-fn run_line(
-    file: &mut [u8],
-    given: Given,
-    cells: &mut [u32],
-    want: &mut [u32],
-    entities: &mut [u32],
-    want_entities: &mut [u32],
-    line: Line,
-) -> Step {
-    let x = line.x;
-    let y = line.y;
-    let letter = line.letter;
-    match letter {
-        b'f' => {
-            clear_bytes(file);
-            return Step::File(x as usize);
+    // What a line says is done. If that is to run the case, the result is whether all came out as wanted.
+    fn take(&mut self, line: Line) -> Result<Option<bool>, AllocError> {
+        match line {
+            Line::File(length) => self.resize_file(length)?,
+            Line::Word(place, word) => self.put_word(place, word),
+            Line::Entities(number, lent) => self.lend_entities(number, lent)?,
+            Line::Cell(i, value) => self.cells.give(i, value),
+            Line::EntityCell(i, value) => self.entities.give(i, value),
+            Line::Wanted(i, value) => self.cells.want(i, value),
+            Line::WantedOfEntities(i, value) => self.entities.want(i, value),
+            Line::Run(wanted) => return Ok(Some(self.run(wanted)?)),
         }
-        b'b' => put_word(file, x, y),
-        b'c' => {
-            vectors::put_cell(cells, x as usize, y);
-            vectors::put_cell(want, x as usize, y);
-        }
-        b'w' => vectors::put_cell(want, x as usize, y),
-        b'n' => return Step::Entities(x as usize, y as usize),
-        b'e' => {
-            vectors::put_cell(entities, x as usize, y);
-            vectors::put_cell(want_entities, x as usize, y);
-        }
-        b'x' => vectors::put_cell(want_entities, x as usize, y),
-        _ => return run_given(file, given, cells, want, entities, want_entities, x, y),
+        Ok(None)
     }
-    Step::Given
 }
 
-fn next_line<R: Read>(
-    input: &mut R,
-    file: &mut [u8],
-    given: Given,
-    cells: &mut [u32],
-    want: &mut [u32],
-    entities: &mut [u32],
-    want_entities: &mut [u32],
-) -> io::Result<Step> {
-    let mut bytes = [0u8; 20];
-    if streams::read_full(input, &mut bytes)? < 20 {
-        return Ok(Step::End);
-    }
-    let line = Line {
-        letter: bytes[0],
-        x: vectors::number(&bytes, 2, 8),
-        y: vectors::number(&bytes, 11, 8),
-    };
-    Ok(run_line(file, given, cells, want, entities, want_entities, line))
-}
-
-// What is given after a line. After a case there are no entities.
-fn given_after(given: Given, step: Step) -> Given {
-    let mut next = given;
-    match step {
-        Step::File(size) => next.size = size,
-        Step::Entities(number, lent) => {
-            next.number = number;
-            next.lent = lent;
-        }
-        Step::Same | Step::Differs => {
-            next.number = 0;
-            next.lent = 0;
-        }
-        _ => {}
-    }
-    next
-}
-
-fn report_case<W: Write>(out: &mut W, case: u64) -> io::Result<()> {
-    writeln!(out, "case {case} differs")
-}
-
-fn run_lines<R: Read, W: Write>(
-    input: &mut R,
-    out: &mut W,
-    file: &mut [u8],
-    cells: &mut [u32],
-    want: &mut [u32],
-    entities: &mut [u32],
-    want_entities: &mut [u32],
-) -> io::Result<Counts> {
-    let mut given = Given {
-        size: 0,
-        number: 0,
-        lent: 0,
-    };
-    let mut lines: u64 = 0;
-    let mut cases: u64 = 0;
-    let mut differ: u64 = 0;
-    while lines < MOST_LINES {
-        lines += 1;
-        let step = next_line(input, file, given, cells, want, entities, want_entities)?;
-        given = given_after(given, step);
-        match step {
-            Step::Same => cases += 1,
-            Step::Differs => {
-                cases += 1;
-                differ += 1;
-                report_case(out, cases)?;
+fn run_lines<R: BufRead + Drop, W: Write>(alloc: Global, input: R, out: &mut W) -> Result<Counts> {
+    let mut counts = Counts::default();
+    let mut case = Case::new(alloc)?;
+    for line in input.lines(alloc) {
+        let line: Line = line?.as_str().parse()?;
+        if let Some(same) = case.take(line)? {
+            counts.count(same);
+            if !same {
+                writeln!(out, "case {} differs", counts.cases)?;
             }
-            Step::End => break,
-            _ => {}
         }
     }
-    Ok(Counts { cases, differ })
+    Ok(counts)
 }
 
-fn main(rt: HostRuntime) -> io::Result<()> {
-    let mut input = BufReader::new(rt.alloc(), rt.stdin())?;
+// One function with the work as a parameter would take what these lines take.
+fn main(rt: HostRuntime) -> Result<()> {
+    let input = BufReader::new(rt.alloc(), rt.stdin())?;
     let mut out = BufWriter::new(rt.alloc(), rt.stdout())?;
-    let mut file = [0u8; BYTES];
-    let mut cells = [0u32; MOST_CELLS];
-    let mut want = [0u32; MOST_CELLS];
-    let mut entities = [0u32; ENTITY_CELLS];
-    let mut want_entities = [0u32; ENTITY_CELLS];
-    let counts = run_lines(
-        &mut input,
-        &mut out,
-        &mut file,
-        &mut cells,
-        &mut want,
-        &mut entities,
-        &mut want_entities,
-    )?;
-    vectors::report(&mut out, counts)?;
-    out.flush()
+    let counts = run_lines(rt.alloc(), input, &mut out)?;
+    writeln!(out, "{counts}")?;
+    out.flush()?;
+    Ok(())
 }

@@ -1,10 +1,11 @@
 // The host's outermost step: one statement, on a context that stays where the host has it.
+// What is lent comes as plain slices, as in the C interface.
 #![tactic(auto)]
 
 ghost use Rattle.std.specs.Prelude.{◌≡◌};
+ghost use Rattle.definition.specs.Answers.{statement_outcome};
 ghost use Rattle.definition.specs.Load.{program_of};
 ghost use Rattle.definition.specs.Operations.{statement};
-ghost use Rattle.definition.specs.Answers.{statement_outcome};
 ghost use Rattle.progs.specs.Contexts.{config};
 ghost use Rattle.server.specs.Stepping.{stepped_of};
 ghost use Rattle.stepping.specs.Steps.{stepped};
@@ -22,15 +23,14 @@ pub fn step(
 ) -> StatementAnswer
     ensures { stepped_of (stepped context.new result) cells.new store.new entities.new ≡ statement_outcome (config context.old cells.old store.old entities.old) (statement (program_of file.now) (config context.old cells.old store.old entities.old)) }
 {
-    let before = *context;
-    let stepped = server::statement(before, file, cells, store, entities);
+    let stepped = server::statement(*context, file, cells, store, entities);
     *context = stepped.context;
     stepped.answer
 }
 
 // The step on a context by value.
 pub fn step_once(
-    context: ExecutionContext,
+    mut context: ExecutionContext,
     file: &[u8],
     cells: &mut [u32],
     store: &mut [u32],
@@ -38,7 +38,6 @@ pub fn step_once(
 ) -> Stepped
     ensures { stepped_of result cells.new store.new entities.new ≡ statement_outcome (config context cells.old store.old entities.old) (statement (program_of file.now) (config context cells.old store.old entities.old)) }
 {
-    let mut c = context;
-    let answer = step(&mut c, file, cells, store, entities);
-    Stepped { context: c, answer }
+    let answer = step(&mut context, file, cells, store, entities);
+    Stepped { context, answer }
 }

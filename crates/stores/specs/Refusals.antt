@@ -1,5 +1,5 @@
--- THE NUMBER OF THE FIRST REFUSAL of StoreV, 0 where nothing refuses: one cell, as float or by address alone; one cell of each vector; the whole statement.
-use Rattle.std.specs.Prelude.{ℕ, ◌+◌, Bool, cond, ltb}
+-- THE NUMBER OF THE FIRST REFUSAL of StoreV, 0 where nothing refuses: one cell, as float or by address alone; n cells of each vector; the whole statement.
+use Rattle.std.specs.Prelude.{ℕ, zero, suc, ◌+◌, Bool, cond, ltb}
 use Rattle.definition.specs.Checks.{judge}
 use Rattle.definition.specs.Cells.{float, Typing, cell_access}
 use Rattle.definition.specs.Statements.{unused, reserved_cell}
@@ -8,10 +8,10 @@ use Rattle.typed.specs.Checking.{first}
 unfoldable pub raw_refusal : Typing → Bool → ℕ → ℕ
 raw_refusal g raw cell = cond raw (cond (ltb cell g.count) 0 15) (judge (cell_access g float cell))
 
-abbrev pub copy_refusal : Typing → Bool → ℕ → ℕ → ℕ
-copy_refusal g raw a b = first (raw_refusal g raw a) (raw_refusal g raw b)
+-- cell by cell, source before destination
+unfoldable pub copies_refusal : Typing → Bool → ℕ → ℕ → ℕ → ℕ
+copies_refusal g raw zero a b = 0
+copies_refusal g raw (suc n) a b = first (raw_refusal g raw a) (first (raw_refusal g raw b) (copies_refusal g raw n (a + 1) (b + 1)))
 
 abbrev pub store_v_refusal : Typing → ℕ → ℕ → ℕ → ℕ
-store_v_refusal g a b c =
-    let raw = reserved_cell b in
-    first (judge (unused c)) (first (copy_refusal g raw a b) (first (copy_refusal g raw (a + 1) (b + 1)) (copy_refusal g raw (a + 2) (b + 2))))
+store_v_refusal g a b c = first (judge (unused c)) (copies_refusal g (reserved_cell b) 3 a b)

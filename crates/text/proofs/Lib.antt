@@ -1,3 +1,5 @@
 -- What the proofs of `text` share.
-pub mod Signed
+pub mod Copying
+mod Decimal
+mod Hexadecimal
 pub mod ReadBack

@@ -7,7 +7,7 @@ use Rattle.definition.specs.declared.RunAnswer.{RunAnswer}
 use Rattle.definition.specs.declared.RunAnswer.TheVariants as run
 use Rattle.definition.specs.declared.Handover.TheVariants.{Builtin, Opcode}
 use Rattle.definition.specs.Answers.{letters, outcome_word, outcome_detail}
-use Rattle.text.specs.Text.{decimal_digits, decimal, signed_decimal, hex_digit, hex_digits, hex8, show_line, refused_line}
+use Rattle.text.specs.Text.{decimal_digits, decimal, signed_decimal, hex_digit, hex_digits, hex8, further_fields, show_line, refused_line}
 
 -- ---- decimal, by the digits of the tenth
 
@@ -85,6 +85,9 @@ signed_20 (negsuc n) h = omega (arith, decimal_length (suc n) 18 (lt_of_lt_of_le
 pub hex8_length : (n : ℕ) → length (hex8 n) ≡ 8
 unfolding hex8 hex_digits
 hex8_length n = refl
+
+pub cells_28 : (c1 c2 c3 : ℕ) → length (further_fields (hex8 c1 ∷ hex8 c2 ∷ hex8 c3 ∷ [])) ≡ 28
+cells_28 c1 c2 c3 = simp (length-append, hex8_length)
 
 pub word_7 : (answer : RunAnswer) → length (letters (outcome_word answer)) ≤ 7
 word_7 run.Ended = lit≤ tt

@@ -1,112 +1,113 @@
-// The texts that programs print, as ASCII in a lent buffer. A writer stores its text from the place `at` on and gives the place after it; it asks for
-// room for the whole text, and leaves the other bytes. What each writes is in specs/Text.antt, and that writers follow each other in specs/Output.antt.
+// The texts that programs print, as ASCII in a lent buffer. What each is is in specs/Text.antt, and that writers follow each other in specs/Output.antt.
 #![tactic(auto)]
 
-ghost use Rattle.std.specs.Prelude.{◌≡◌, List, [], ◌∷◌, ◌≤◌, ◌<◌, nat_abs, length};
+ghost use Rattle.std.specs.Prelude.{◌≡◌, List, [], ◌∷◌, ◌≤◌, length};
 ghost use Rattle.definition.specs.Answers.{letters, outcome_word, outcome_detail};
-ghost use Rattle.text.specs.Text.{comma, decimal, signed_decimal, hex_digit, hex_digits, hex8, further_fields, line_text, refused_line};
-ghost use Rattle.text.specs.Output.{output, put, Room, at_front};
+ghost use Rattle.text.specs.Text.{comma, decimal, signed_decimal, hex8, further_fields, line_text, refused_line};
+ghost use Rattle.text.specs.Output.{output, Room, at_front};
+ghost use Rattle.text.specs.Writing.{at_place, Wrote};
 
 use definition::{Handover, RunAnswer};
 
 // A line of the show program has room in so many bytes.
 pub const LINE_ROOM: usize = 160;
 
-pub fn write_byte(buf: &mut [u8], at: usize, x: u8) -> usize
-    requires { Room (x ∷ []) (output buf.old at) }
-    ensures { output buf.new result ≡ put (x ∷ []) (output buf.old at) }
-{
-    buf[at] = x;
-    at + 1
+// A lent buffer, and the place in it where the next byte is stored. A method asks for room for its whole text, stores it from the place on and leaves the other
+// bytes. (`write!` doesn't say that it succeeds where there is room, so numbers are written by methods too.)
+#[derive(Drop)]
+pub struct Writer<'a> {
+    pub buf: &'a mut [u8],
+    pub at: usize,
 }
 
-pub fn write_bytes(buf: &mut [u8], at: usize, xs: &[u8]) -> usize
-    requires { Room xs.now (output buf.old at) }
-    ensures { output buf.new result ≡ put xs.now (output buf.old at) }
-{
-    let mut i = 0;
-    while i < xs.len() {
-        buf[at + i] = xs[i];
-        i += 1;
+impl Writer<'_> {
+    #[tactic(auto, using(crate::specs::Writing::wrote), unfolding(crate::specs::Output::put))]
+    pub fn write_byte(&mut self, x: u8)
+        requires { Room (x ∷ []) (at_place self.old) }
+        ensures { Wrote (x ∷ []) self.old self.new }
+    {
+        self.buf[self.at] = x;
+        self.at += 1;
     }
-    at + i
-}
 
-// The digits of the tenth, and then the last one.
-pub fn write_decimal(buf: &mut [u8], at: usize, n: u64) -> usize
-    requires { Room (decimal n) (output buf.old at) }
-    ensures { output buf.new result ≡ put (decimal n) (output buf.old at) }
-{
-    if n < 10 {
-        return write_byte(buf, at, b'0' + (n as u8));
+    #[tactic(auto, using(crate::specs::Writing::wrote, crate::proofs::Copying::part_put))]
+    pub fn write_bytes(&mut self, xs: &[u8])
+        requires { Room xs.now (at_place self.old) }
+        ensures { Wrote xs.now self.old self.new }
+    {
+        let end = self.at + xs.len();
+        self.buf[self.at..end].copy_from_slice(xs);
+        self.at = end;
     }
-    let last = write_decimal(buf, at, n / 10);
-    write_byte(buf, last, b'0' + ((n % 10) as u8))
-}
 
-// The number without its sign. The least i64 has no negative that is an i64, so what it is short of -1 is taken.
-fn magnitude(n: i64) -> u64
-    ensures { result ≡ nat_abs n }
-{
-    if n < 0 {
-        return ((-1 - n) as u64) + 1;
+    #[tactic(auto, using(crate::proofs::Decimal::printed_decimal))]
+    pub fn write_decimal(&mut self, n: u64)
+        requires { Room (decimal n) (at_place self.old) }
+        ensures { Wrote (decimal n) self.old self.new }
+    {
+        self.write_bytes(itoa::Buffer::new().format(n).as_bytes());
     }
-    n as u64
-}
 
-pub fn write_signed(buf: &mut [u8], at: usize, n: i64) -> usize
-    requires { Room (signed_decimal n) (output buf.old at) }
-    ensures { output buf.new result ≡ put (signed_decimal n) (output buf.old at) }
-{
-    let size = magnitude(n);
-    if n < 0 {
-        let next = write_byte(buf, at, b'-');
-        return write_decimal(buf, next, size);
+    #[tactic(auto, using(crate::proofs::Decimal::printed_signed))]
+    pub fn write_signed(&mut self, z: i64)
+        requires { Room (signed_decimal z) (at_place self.old) }
+        ensures { Wrote (signed_decimal z) self.old self.new }
+    {
+        self.write_bytes(itoa::Buffer::new().format(z).as_bytes());
     }
-    write_decimal(buf, at, size)
-}
 
-fn hex_digit(d: u32) -> u8
-    requires { d < 16 }
-    ensures { result ≡ hex_digit d }
-{
-    if d < 10 {
-        return b'0' + (d as u8);
+    #[tactic(auto, using(crate::proofs::Hexadecimal::encoded))]
+    pub fn write_hex8(&mut self, n: u32)
+        requires { Room (hex8 n) (at_place self.old) }
+        ensures { Wrote (hex8 n) self.old self.new }
+    {
+        let mut digits = [0u8; 8];
+        // It has room for eight digits, so nothing is refused.
+        let _ = hex::encode_to_slice(n.to_be_bytes(), &mut digits);
+        self.write_bytes(&digits);
     }
-    b'a' + ((d - 10) as u8)
-}
 
-// The lowest k digits: those of the sixteenth, and then the last one.
-fn write_hex(buf: &mut [u8], at: usize, k: usize, n: u32) -> usize
-    requires { Room (hex_digits k n) (output buf.old at) }
-    ensures { output buf.new result ≡ put (hex_digits k n) (output buf.old at) }
-{
-    if k == 0 {
-        return at;
+    pub fn write_word(&mut self, answer: RunAnswer)
+        requires { Room (letters (outcome_word answer)) (at_place self.old) }
+        ensures { Wrote (letters (outcome_word answer)) self.old self.new }
+    {
+        self.write_bytes(match answer {
+            RunAnswer::Ended => b"ended",
+            RunAnswer::Spent => b"spent",
+            RunAnswer::Refused(_) => b"refused",
+            RunAnswer::HandedOver(Handover::Builtin(_)) => b"builtin",
+            RunAnswer::HandedOver(Handover::Opcode(_)) => b"opcode",
+        });
     }
-    let last = write_hex(buf, at, k - 1, n / 16);
-    write_byte(buf, last, hex_digit(n % 16))
-}
 
-pub fn write_hex8(buf: &mut [u8], at: usize, n: u32) -> usize
-    requires { Room (hex8 n) (output buf.old at) }
-    ensures { output buf.new result ≡ put (hex8 n) (output buf.old at) }
-{
-    write_hex(buf, at, 8, n)
-}
+    // ---- the fields of the show program's line
 
-pub fn write_word(buf: &mut [u8], at: usize, answer: RunAnswer) -> usize
-    requires { Room (letters (outcome_word answer)) (output buf.old at) }
-    ensures { output buf.new result ≡ put (letters (outcome_word answer)) (output buf.old at) }
-{
-    match answer {
-        RunAnswer::Ended => return write_bytes(buf, at, b"ended"),
-        RunAnswer::Spent => return write_bytes(buf, at, b"spent"),
-        RunAnswer::Refused(_) => return write_bytes(buf, at, b"refused"),
-        RunAnswer::HandedOver(handover) => match handover {
-            Handover::Builtin(_) => return write_bytes(buf, at, b"builtin"),
-            Handover::Opcode(_) => return write_bytes(buf, at, b"opcode"),
-        },
+    #[tactic(auto, using(crate::specs::Writing::wrote_first))]
+    fn write_field(&mut self, n: u64)
+        requires { Room (comma ∷ decimal n) (at_place self.old) }
+        ensures { Wrote (comma ∷ decimal n) self.old self.new }
+    {
+        self.write_byte(b',');
+        self.write_decimal(n);
+    }
+
+    #[tactic(auto, using(crate::specs::Writing::wrote_first))]
+    fn write_cell_field(&mut self, n: u32)
+        requires { Room (comma ∷ hex8 n) (at_place self.old) }
+        ensures { Wrote (comma ∷ hex8 n) self.old self.new }
+    {
+        self.write_byte(b',');
+        self.write_hex8(n);
+    }
+
+    fn write_cells(&mut self, c1: u32, c2: u32, c3: u32)
+        requires { Room (further_fields (hex8 c1 ∷ hex8 c2 ∷ hex8 c3 ∷ [])) (at_place self.old) }
+        ensures { Wrote (further_fields (hex8 c1 ∷ hex8 c2 ∷ hex8 c3 ∷ [])) self.old self.new }
+    {
+        self.write_cell_field(c1);
+        self.write_cell_field(c2);
+        self.write_cell_field(c3);
+        self.write_byte(b'\n');
     }
 }
 
@@ -114,45 +115,13 @@ pub fn outcome_detail(answer: RunAnswer) -> u32
     ensures { result ≡ outcome_detail answer }
 {
     match answer {
-        RunAnswer::Ended => 0,
-        RunAnswer::Spent => 0,
-        RunAnswer::Refused(n) => n as u32,
-        RunAnswer::HandedOver(handover) => match handover {
-            Handover::Builtin(n) => n,
-            Handover::Opcode(n) => n,
-        },
+        RunAnswer::Ended | RunAnswer::Spent => 0,
+        RunAnswer::Refused(n) => u32::from(n),
+        RunAnswer::HandedOver(Handover::Builtin(n) | Handover::Opcode(n)) => n,
     }
 }
 
-// ---- the show program's line
-
-fn write_field(buf: &mut [u8], at: usize, n: u64) -> usize
-    requires { Room (comma ∷ decimal n) (output buf.old at) }
-    ensures { output buf.new result ≡ put (comma ∷ decimal n) (output buf.old at) }
-{
-    let next = write_byte(buf, at, b',');
-    write_decimal(buf, next, n)
-}
-
-fn write_cell_field(buf: &mut [u8], at: usize, n: u32) -> usize
-    requires { Room (comma ∷ hex8 n) (output buf.old at) }
-    ensures { output buf.new result ≡ put (comma ∷ hex8 n) (output buf.old at) }
-{
-    let next = write_byte(buf, at, b',');
-    write_hex8(buf, next, n)
-}
-
-fn write_cells(buf: &mut [u8], at: usize, c1: u32, c2: u32, c3: u32) -> usize
-    requires { Room (further_fields (hex8 c1 ∷ hex8 c2 ∷ hex8 c3 ∷ [])) (output buf.old at) }
-    ensures { output buf.new result ≡ put (further_fields (hex8 c1 ∷ hex8 c2 ∷ hex8 c3 ∷ [])) (output buf.old at) }
-{
-    let second = write_cell_field(buf, at, c1);
-    let third = write_cell_field(buf, second, c2);
-    let end = write_cell_field(buf, third, c3);
-    write_byte(buf, end, b'\n')
-}
-
-// What the line of a run says.
+// What the line of a run says, an answer among it: the line has a word for each of the four.
 #[derive(Clone, Copy)]
 pub struct Line {
     pub answer: RunAnswer,
@@ -167,31 +136,35 @@ pub struct Line {
 }
 
 // From the front of the buffer. Whatever the numbers are, it has at most 141 bytes.
+#[tactic(auto, using(crate::specs::Laws::decimal_10, crate::specs::Laws::decimal_20, crate::specs::Laws::signed_20, crate::specs::Laws::cells_28, crate::specs::Laws::word_7))]
 pub fn show_line(buf: &mut [u8], line: Line) -> usize
     requires { 160 ≤ length buf.old }
     ensures result_after { output buf.new result ≡ at_front (line_text line) buf.old }
     ensures upper_bound { result ≤ 160 }
 {
-    let answer = line.answer;
-    let number = outcome_detail(answer);
-    let mut at = write_word(buf, 0, answer);
-    at = write_field(buf, at, number as u64);
-    at = write_field(buf, at, line.count as u64);
-    at = write_byte(buf, at, b',');
-    at = write_signed(buf, at, line.pc);
-    at = write_field(buf, at, line.function as u64);
-    at = write_field(buf, at, line.depth as u64);
-    at = write_field(buf, at, line.saved as u64);
-    write_cells(buf, at, line.c1, line.c2, line.c3)
+    let mut out = Writer { buf, at: 0 };
+    out.write_word(line.answer);
+    out.write_field(u64::from(outcome_detail(line.answer)));
+    out.write_field(u64::from(line.count));
+    out.write_byte(b',');
+    out.write_signed(line.pc);
+    out.write_field(line.function as u64);
+    out.write_field(line.depth as u64);
+    out.write_field(line.saved as u64);
+    out.write_cells(line.c1, line.c2, line.c3);
+    out.at
 }
 
 // The line of a refused load.
+#[tactic(auto, using(crate::specs::Laws::decimal_10))]
 pub fn refused_line(buf: &mut [u8], n: u8) -> usize
     requires { 160 ≤ length buf.old }
     ensures result_after { output buf.new result ≡ at_front (refused_line n) buf.old }
     ensures upper_bound { result ≤ 160 }
 {
-    let mut at = write_bytes(buf, 0, b"refused");
-    at = write_field(buf, at, n as u64);
-    write_byte(buf, at, b'\n')
+    let mut out = Writer { buf, at: 0 };
+    out.write_bytes(b"refused");
+    out.write_field(u64::from(n));
+    out.write_byte(b'\n');
+    out.at
 }

@@ -2,223 +2,124 @@
 // The lines, and what must be printed, come from tests/model by tools/cases.py; tests/model/README.md has the formats.
 #![tactic(auto)]
 
-ghost use Rattle.std.specs.Prelude.{◌≤◌, ◌<◌, length};
+ghost use Rattle.std.specs.Prelude.{◌≤◌, vec_len};
 
+use anyhow::Result;
 use cases::answers::Said;
-use cases::{answers, print};
+use cases::machine::Machine;
 use definition::SAVED_STORE;
-use functions::header;
-use progs::{ExecutionContext, load};
-use std::io;
-use std::io::{BufWriter, Write};
+use std::alloc::Global;
+use std::io::{BufRead, BufReader, BufWriter, Write};
+use vectors::{LineError, Words, next_file, next_number, next_word, put};
 
 mod records;
 
-// How far the lines are, and how many entity cells are lent.
-#[derive(Clone, Copy)]
-struct Traced {
-    context: ExecutionContext,
-    entities: usize,
+const CELLS: usize = 64;
+
+// The line `new LENGTH HEX E L`: the file is loaded. Where another number of entity cells was lent before, new ones are.
+fn load(alloc: Global, machine: &mut Machine, words: &mut Words<'_>) -> Result<Said, LineError> {
+    machine.file = next_file(alloc, words)?;
+    let number = next_number(words)?;
+    let lent = next_number(words)?;
+    if lent != machine.entities.len() {
+        machine.entities.clear();
+        machine.entities.resize(lent, 0)?;
+    }
+    Ok(machine.load(number))
+}
+
+fn enter(machine: &mut Machine, lent: usize, function: i64) -> Said
+    requires { lent ≤ vec_len machine.old.file }
+{
+    machine
+        .context
+        .enter(
+            &machine.file[..lent],
+            function,
+            &mut machine.cells,
+            &mut machine.store,
+            &machine.entities,
+        )
+        .into()
 }
 
 // One step, with the record of the statement before it.
-fn trace_step<W: Write>(
-    out: &mut W,
-    context: ExecutionContext,
-    file: &[u8],
-    cells: &mut [u32],
-    store: &mut [u32],
-    entities: &mut [u32],
-) -> io::Result<ExecutionContext> {
-    let recorded = context.file;
-    records::fetched(out, view::read_statement(file, recorded, context.pc))?;
-    print::text(out, b" ")?;
-    let stepped = stepping::step_once(context, file, cells, store, entities);
-    let after = stepped.context;
-    let answer = stepped.answer;
-    answers::print_with_state(
-        out,
-        answers::of_statement(answer),
-        after,
-        cells,
-        store,
-        entities,
-    )?;
-    Ok(after)
-}
-
-fn enter<W: Write>(
-    out: &mut W,
-    context: ExecutionContext,
-    file: &[u8],
-    function: i64,
-    cells: &mut [u32],
-    store: &mut [u32],
-    entities: &[u32],
-) -> io::Result<ExecutionContext> {
-    let entered = context.enter(file, function, cells, store, entities);
-    let after = entered.context;
-    let answer = entered.answer;
-    answers::print_with_state(
-        out,
-        answers::of_answer(answer),
-        after,
-        cells,
-        store,
-        entities,
-    )?;
-    Ok(after)
-}
-
-// As many entity cells as the word at `at` says: where another number was lent before, new ones. The result is how many.
-fn lend(text: &[u8], at: usize, before: usize, entities: &mut [u32]) -> usize
-    ensures { result ≤ length entities.new }
+fn step<W: Write>(out: &mut W, machine: &mut Machine, lent: usize) -> Result<Said>
+    requires { lent ≤ vec_len machine.old.file }
 {
-    let n = cases::count(text, at, entities.len());
-    if n != before {
-        vectors::clear_cells(entities);
-    }
-    n
-}
-
-// The line `new LENGTH HEX E L`: the file is loaded.
-fn load_file<W: Write>(
-    out: &mut W,
-    text: &[u8],
-    at: usize,
-    before: usize,
-    file: &mut [u8],
-    cells: &mut [u32],
-    store: &[u32],
-    entities: &mut [u32],
-) -> io::Result<Traced>
-    requires { at ≤ length text.now }
-{
-    let size = cases::next_word(text, at);
-    let number = cases::next_word(text, cases::next_word(text, size));
-    let lent = lend(text, cases::next_word(text, number), before, entities);
-    let n = cases::file(text, size, file);
-    let given = cases::signed(text, number);
-    let loaded = load::load(
-        header::standard(),
-        &file[..n],
-        given,
-        cells,
-        store,
-        &entities[..lent],
-    );
-    let context = loaded.context;
-    let answer = loaded.answer;
-    answers::print(out, answers::of_answer(answer))?;
-    Ok(Traced {
-        context,
-        entities: lent,
-    })
-}
-
-// The line at `at` about a file: its first letter says which, then come a number and how many of the file's bytes are lent.
-fn perform<W: Write>(
-    out: &mut W,
-    text: &[u8],
-    at: usize,
-    context: ExecutionContext,
-    file: &mut [u8],
-    cells: &mut [u32],
-    store: &mut [u32],
-    entities: &mut [u32],
-) -> io::Result<ExecutionContext>
-    requires { at < length text.now }
-{
-    let numbers = cases::numbers_at(text, at);
-    let n = numbers.first;
-    let lent = cases::least(numbers.value as usize, file.len());
-    let recorded = context.file;
-    match text[at] {
-        b's' => records::fetched(out, view::read_statement(&file[..lent], recorded, n))?,
-        b'f' => records::found_function(out, view::read_function(&file[..lent], recorded, n))?,
-        b'd' => records::found_definition(out, view::read_definition(&file[..lent], recorded, n))?,
-        b'b' => {
-            cases::set_byte(file, numbers.place, (numbers.value % 256) as u8);
-            answers::print(out, Said::Accepted(0))?;
-        }
-        b'e' => return enter(out, context, &file[..lent], n, cells, store, entities),
-        _ => return trace_step(out, context, &file[..lent], cells, store, entities),
-    }
-    Ok(context)
-}
-
-// The line at `at`: a file is loaded, or something is done with it.
-fn perform_line<W: Write>(
-    out: &mut W,
-    text: &[u8],
-    at: usize,
-    traced: Traced,
-    file: &mut [u8],
-    cells: &mut [u32],
-    store: &mut [u32],
-    entities: &mut [u32],
-) -> io::Result<Traced>
-    requires { at < length text.now }
-{
-    if text[at] == b'n' {
-        return load_file(out, text, at, traced.entities, file, cells, store, entities);
-    }
-    let e = cases::least(traced.entities, entities.len());
-    let context = traced.context;
-    let after = perform(
-        out,
-        text,
-        at,
+    let context = machine.context;
+    let file = &machine.file[..lent];
+    records::write_statement(out, view::read_statement(file, context.file, context.pc))?;
+    write!(out, " ")?;
+    let stepped = stepping::step_once(
         context,
         file,
-        cells,
-        store,
-        &mut entities[..e],
-    )?;
-    Ok(Traced {
-        context: after,
-        entities: e,
-    })
+        &mut machine.cells,
+        &mut machine.store,
+        &mut machine.entities,
+    );
+    machine.context = stepped.context;
+    Ok(stepped.answer.into())
 }
 
-// Each file is loaded before the lines about it; the state before the first is all zeros.
-fn perform_lines<W: Write>(
+// A line about the file: what is done, a number, and how many of the file's bytes are lent. Each word has an arm, since each reads and prints what is its own.
+fn perform<W: Write>(
     out: &mut W,
-    text: &[u8],
-    file: &mut [u8],
-    cells: &mut [u32],
-    store: &mut [u32],
-    entities: &mut [u32],
-) -> io::Result<()> {
-    let context = cases::zero_state();
-    let mut traced = Traced {
-        context,
-        entities: 0,
-    };
-    let mut at = 0;
-    while at < text.len() {
-        traced = perform_line(out, text, at, traced, file, cells, store, entities)?;
-        print::end_line(out)?;
-        at = cases::next_line(text, at);
+    machine: &mut Machine,
+    what: &str,
+    words: &mut Words<'_>,
+) -> Result<()> {
+    let n = next_number(words)?;
+    let lent = machine.file.len().min(next_number(words)?);
+    let file = &machine.file[..lent];
+    let recorded = machine.context.file;
+    match what {
+        "statement" => records::write_statement(out, view::read_statement(file, recorded, n))?,
+        "function" => records::write_function(out, view::read_function(file, recorded, n))?,
+        "definition" => records::write_definition(out, view::read_definition(file, recorded, n))?,
+        "enter" => {
+            let said = enter(machine, lent, n);
+            write!(out, "{said} {machine}")?;
+        }
+        "trace" => {
+            let said = step(out, machine, lent)?;
+            write!(out, "{said} {machine}")?;
+        }
+        _ => return Err(LineError::Unknown.into()),
     }
     Ok(())
 }
 
-fn main(rt: HostRuntime) -> io::Result<()> {
+// Each file is loaded before the lines about it; the state before the first is all zeros.
+fn perform_lines<R: BufRead + Drop, W: Write>(alloc: Global, input: R, out: &mut W) -> Result<()> {
+    let mut machine = Machine::new(alloc);
+    machine.cells.resize(CELLS, 0)?;
+    machine.store.resize(SAVED_STORE, 0)?;
+    for line in input.lines(alloc) {
+        let line = line?;
+        let mut words = line.as_str().split_ascii_whitespace();
+        match next_word(&mut words)? {
+            "new" => write!(out, "{}", load(alloc, &mut machine, &mut words)?)?,
+            "byte" => {
+                put(
+                    &mut machine.file,
+                    next_number(&mut words)?,
+                    next_number(&mut words)?,
+                );
+                write!(out, "{}", Said::Accepted(0))?;
+            }
+            what => perform(out, &mut machine, what, &mut words)?,
+        }
+        writeln!(out)?;
+    }
+    Ok(())
+}
+
+// One function with the work as a parameter would take what these lines take.
+fn main(rt: HostRuntime) -> Result<()> {
+    let input = BufReader::new(rt.alloc(), rt.stdin())?;
     let mut out = BufWriter::new(rt.alloc(), rt.stdout())?;
-    let mut text = [0u8; 65536];
-    let mut file = [0u8; 4096];
-    let mut cells = [0u32; 64];
-    let mut store = [0u32; SAVED_STORE];
-    let mut entities = [0u32; 512];
-    let n = streams::read_full(&mut rt.stdin(), &mut text)?;
-    perform_lines(
-        &mut out,
-        &text[..n],
-        &mut file,
-        &mut cells,
-        &mut store,
-        &mut entities,
-    )?;
-    out.flush()
+    perform_lines(rt.alloc(), input, &mut out)?;
+    out.flush()?;
+    Ok(())
 }

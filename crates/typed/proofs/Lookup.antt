@@ -1,116 +1,164 @@
--- Laws of the type lookup, definition by definition. Assumes nothing.
-use Prim.Native.Nat.{ℕ, zero, suc, ◌+◌, ◌-◌, ◌*◌, ◌/◌, ◌%◌, ◌≤◌, ◌<◌}
-use mathlib.Core.Path.{◌≡◌, refl, ◌∙◌}
-use mathlib.Core.List.{List, [], ◌∷◌}
-use mathlib.Core.Bool.{Bool, true, false, not, ◌&&◌, cond}
-use native.Mathlib.Omega.{arith}
-use lib.Dec.{eqb}
-use lib.ListN.{length, get_or}
-use borrow.Author.Tests.{eq-eqb, ne_eqb}
+-- Laws of the type lookup, a definition or two at a time. Assumes nothing.
+use Rattle.std.specs.Prelude.{ℕ, zero, suc, ◌+◌, ◌*◌, ◌≤◌, ◌<◌, ◌%◌, ◌/◌, List, [], ◌∷◌, ◌++◌, Option, None, Some, is_some, Bool, true, false, not, ◌&&◌, ◌||◌, cond, eqb, length, get_or, drop}
+use Rattle.std.proofs.Common.{◌≡◌, refl, sym, ◌∙◌, arith, true≢false, ne_eqb, length-append, drop_at}
+use Rattle.std.proofs.lemmas.Bool.{false≢true}
+use Rattle.std.proofs.Math.Nat.{zero-add}
+use Rattle.std.proofs.lemmas.List.{get_or_append_left, get_or-drop, length-drop, drop-append-le}
 use Rattle.definition.specs.declared.Definition.{Definition}
 use Rattle.definition.specs.File.{byte_at, u16_at, records, read_definition}
-use Rattle.definition.specs.Cells.{type_of, lookup, passes}
+use Rattle.definition.specs.Cells.{type_of, lookup, scalar, passes}
 use Rattle.functions.specs.Parts.{definitions_in}
-use Rattle.typed.specs.declared.TypeCheck.TheVariants.{Passed, Failed}
-use Rattle.typed.specs.Typing.{first_in, type_check}
+use Rattle.functions.specs.PartLaws.{Same, records_more, definition_local}
+use Rattle.typed.specs.Typing.{found, first_in, type_check}
 
--- ---- the definitions from number i on
+-- ---- the definitions in bytes: x, then more
 
-abbrev pub rest : List ℕ → ℕ → List Definition
-rest defs i = records (read_definition defs) 8 (length defs / 8 - i) (8 * i)
+pub no_more : (part : List ℕ) → length part < 8 → definitions_in part ≡ []
+unfolding records
+no_more part h = let none : length part / 8 ≡ 0 = omega arith in rw none
 
-pub from_the_first : (defs : List ℕ) → rest defs 0 ≡ definitions_in defs
-from_the_first defs = let all : length defs / 8 - 0 ≡ length defs / 8 = omega arith in rw all
+module _ (x more : List ℕ) where
+  front_same : (i : ℕ) → i + 8 ≤ length x → Same (x ++ more) i x i 8
+  unfolding byte_at
+  front_same i h = record { byte = λ k l. get_or_append_left x more 0 (i + k) (omega arith) }
 
-module _ (defs : List ℕ) (i : ℕ) where
-  pub none_left : i ≡ length defs / 8 → rest defs i ≡ []
-  unfolding records
-  none_left e = let none : length defs / 8 - i ≡ 0 = omega arith in rw none
+  pub one_more : length x ≡ 8 → definitions_in (x ++ more) ≡ read_definition x 0 ∷ definitions_in more
+  one_more h =
+      records_more read_definition 8 definition_local (omega arith) (x ++ more) (omega (arith, length-append x more))
+      ∙ rw (drop_at x more 8 h, definition_local (x ++ more) x 0 0 (front_same 0 (omega arith)))
 
-  pub one_more : i < length defs / 8 → rest defs i ≡ read_definition defs (8 * i) ∷ rest defs (i + 1)
-  unfolding records
-  one_more there =
-      let more : length defs / 8 - i ≡ suc (length defs / 8 - (i + 1)) = omega arith in
-      let next : 8 * i + 8 ≡ 8 * (i + 1) = omega arith in
-      rw (more, next)
+-- whole definitions, then more
+pub some_more : (n : ℕ) (x more : List ℕ) → length x ≡ 8 * n → definitions_in (x ++ more) ≡ definitions_in x ++ definitions_in more
+unfolding records
+some_more zero [] more e = refl
+some_more zero (b ∷ x) more e = absurd (omega (arith, e))
+some_more (suc n) x more e =
+    let here : definitions_in x ≡ read_definition x 0 ∷ definitions_in (drop 8 x) = records_more read_definition 8 definition_local (omega arith) x (omega (arith, e)) in
+    records_more read_definition 8 definition_local (omega arith) (x ++ more) (omega (arith, e, length-append x more))
+    ∙ rw (drop-append-le 8 x more (omega (arith, e)), some_more n (drop 8 x) more (omega (arith, e, length-drop 8 x)), here, definition_local (x ++ more) x 0 0 (front_same x more 0 (omega (arith, e))))
 
 -- ---- the first definition of a cell, void or not
 
-module _ (defs : List ℕ) (cell : ℕ) where
-  pub first_none_left : (i : ℕ) → i ≡ length defs / 8 → 32768 ≡ first_in (rest defs i) cell
+abbrev or : Option ℕ → Option ℕ → Option ℕ
+or None b = b
+or (Some t) b = Some t
+
+module _ (cell : ℕ) where
+  pub first_none : (part : List ℕ) → length part < 8 → first_in (definitions_in part) cell ≡ None
   unfolding first_in
-  first_none_left i e = rw (none_left defs i e)
+  first_none part h = rw (no_more part h)
 
-  module _ (i : ℕ) (there : i < length defs / 8) where
-    -- o and k, as they were read: the cell and the type of definition i
-    pub first_at : (a b o k : ℕ) → a ≡ 8 * i + 2 → b ≡ 8 * i → o ≡ u16_at defs a → k ≡ u16_at defs b → o ≡ cell → k % 32768 ≡ first_in (rest defs i) cell
-    unfolding first_in
-    first_at a b o k ea eb eo ek h = rw (one_more defs i there, ← ea, ← eb, ← eo, ← ek, eq-eqb o cell h)
+  pub first_of_one : (x more : List ℕ) → length x ≡ 8
+      → first_in (definitions_in (x ++ more)) cell ≡ cond (eqb (u16_at x 2) cell) (Some (u16_at x 0 % 32768)) (first_in (definitions_in more) cell)
+  unfolding first_in
+  first_of_one x more h = rw (one_more x more h)
 
-    pub first_passed_over : (a o : ℕ) → a ≡ 8 * i + 2 → o ≡ u16_at defs a → (o ≡ cell → ⊥) → first_in (rest defs (i + 1)) cell ≡ first_in (rest defs i) cell
-    unfolding first_in
-    first_passed_over a o ea eo h = rw (one_more defs i there, ← ea, ← eo, ne_eqb o cell h)
+  first_append : (ds es : List Definition) → first_in (ds ++ es) cell ≡ or (first_in ds cell) (first_in es cell)
+  unfolding first_in
+  first_append [] es = refl
+  first_append (d ∷ ds) es = go (eqb d.offset cell) (first_append ds es)
+    where
+      go : (b : Bool) → first_in (ds ++ es) cell ≡ or (first_in ds cell) (first_in es cell)
+          → cond b (Some (type_of d)) (first_in (ds ++ es) cell) ≡ or (cond b (Some (type_of d)) (first_in ds cell)) (first_in es cell)
+      go true e = refl
+      go false e = e
 
-  -- the first one of an odd number is passed over; of an even number none is
-  pub odd_start : length defs / 8 % 2 ≡ 1 → (o : ℕ) → o ≡ u16_at defs 2 → (o ≡ cell → ⊥) → first_in (rest defs (length defs / 8 % 2)) cell ≡ first_in (definitions_in defs) cell
-  odd_start e o k h = rw (e, ← from_the_first defs) (first_passed_over 0 (omega arith) 2 o refl k h)
+  -- whole definitions x, of which o is the first one's type
+  module _ (x more : List ℕ) (o : Option ℕ) (whole : length x % 8 ≡ 0) (is : o ≡ first_in (definitions_in x) cell) where
+    after : first_in (definitions_in (x ++ more)) cell ≡ or o (first_in (definitions_in more) cell)
+    after = rw (some_more (length x / 8) x more (omega (arith, whole)), first_append (definitions_in x) (definitions_in more), ← is)
 
-  pub even_start : (length defs / 8 % 2 ≡ 1 → ⊥) → first_in (rest defs (length defs / 8 % 2)) cell ≡ first_in (definitions_in defs) cell
-  even_start h = let none : length defs / 8 % 2 ≡ 0 = omega arith in rw (none, from_the_first defs)
+    pub first_kept : is_some o ≡ true → o ≡ first_in (definitions_in (x ++ more)) cell
+    first_kept s = rw after (go o s)
+      where
+        go : (o : Option ℕ) → is_some o ≡ true → o ≡ or o (first_in (definitions_in more) cell)
+        go None s = absurd (false≢true s)
+        go (Some t) s = refl
 
--- where it isn't void it is what a lookup gives
-pub first_binds : (ds : List Definition) (cell t : ℕ) → t ≡ first_in ds cell → (t ≡ 0 → ⊥) → t ≡ lookup ds cell
-unfolding first_in lookup
-first_binds [] cell t e h = e
-first_binds (d ∷ ds) cell t e h = go (eqb d.offset cell) e (λ k. first_binds ds cell t k h)
-  where
-    go : (b : Bool)
-        → t ≡ cond b (type_of d) (first_in ds cell)
-        → (t ≡ first_in ds cell → t ≡ lookup ds cell)
-        → t ≡ cond (b && not (eqb (type_of d) 0)) (type_of d) (lookup ds cell)
-    go true k after = rw (ne_eqb (type_of d) 0 (λ z. h (k ∙ z))) k
-    go false k after = after k
+    passed : is_some o ≡ false → first_in (definitions_in more) cell ≡ first_in (definitions_in (x ++ more)) cell
+    passed s = rw after (go o s)
+      where
+        go : (o : Option ℕ) → is_some o ≡ false → first_in (definitions_in more) cell ≡ or o (first_in (definitions_in more) cell)
+        go None s = refl
+        go (Some t) s = absurd (true≢false s)
 
--- ---- the first definition of a cell that isn't void
+  pub first_passed : (part x more : List ℕ) (o t : Option ℕ) → part ≡ x ++ more → length x % 8 ≡ 0 → o ≡ first_in (definitions_in x) cell → is_some o ≡ false
+      → first_in (definitions_in part) cell ≡ t → first_in (definitions_in more) cell ≡ t
+  first_passed part x more o t e whole is s f = passed x more o whole is s ∙ rw e at f
 
-module _ (defs : List ℕ) (cell : ℕ) where
-  pub lookup_none_left : (i : ℕ) → i ≡ length defs / 8 → 32768 ≡ lookup (rest defs i) cell
+  pub fours_left : (part x more : List ℕ) → part ≡ x ++ more → length x ≡ 32 → length part / 8 % 4 ≡ 0 → length more / 8 % 4 ≡ 0
+  fours_left part x more e n f = omega (arith, rw e at f, n, length-append x more)
+
+  -- ---- the first definition of a cell that isn't void
+
+  pub lookup_none : (part : List ℕ) → length part < 8 → lookup (definitions_in part) cell ≡ 32768
   unfolding lookup
-  lookup_none_left i e = rw (none_left defs i e)
+  lookup_none part h = rw (no_more part h)
 
-  -- o and k, as they were read: the cell and the type of definition i
-  module _ (i : ℕ) (there : i < length defs / 8) (o k : ℕ) (eo : o ≡ u16_at defs (8 * i + 2)) (ek : k ≡ u16_at defs (8 * i)) where
-    pub found_at : (eqb o cell && not (eqb (k % 32768) 0)) ≡ true → k % 32768 ≡ lookup (rest defs i) cell
-    unfolding lookup
-    found_at h = rw (one_more defs i there, ← eo, ← ek, h)
+  pub lookup_one : (x more : List ℕ) → length x ≡ 8
+      → lookup (definitions_in (x ++ more)) cell ≡ cond (eqb (u16_at x 2) cell && not (eqb (u16_at x 0 % 32768) 0)) (u16_at x 0 % 32768) (lookup (definitions_in more) cell)
+  unfolding lookup
+  lookup_one x more h = rw (one_more x more h)
 
-    pub passed_over : (eqb o cell && not (eqb (k % 32768) 0)) ≡ false → lookup (rest defs (i + 1)) cell ≡ lookup (rest defs i) cell
-    unfolding lookup
-    passed_over h = rw (one_more defs i there, ← eo, ← ek, h)
+-- ---- the first definition, where it isn't void, is what a lookup gives
+
+found_type : (d : Definition) → found (type_of d) ≡ Some (type_of d)
+found_type d = rw (ne_eqb (type_of d) 32768 (λ z. omega arith))
+
+module _ (cell : ℕ) where
+  pub first_binds : (ds : List Definition) (t : ℕ) → first_in ds cell ≡ Some t → (t ≡ 0 → ⊥) → found (lookup ds cell) ≡ Some t
+  unfolding first_in lookup
+  first_binds [] t e h = cc
+  first_binds (d ∷ ds) t e h = go (eqb d.offset cell) e (first_binds ds t)
+    where
+      go : (b : Bool) → cond b (Some (type_of d)) (first_in ds cell) ≡ Some t
+          → (first_in ds cell ≡ Some t → (t ≡ 0 → ⊥) → found (lookup ds cell) ≡ Some t)
+          → found (cond (b && not (eqb (type_of d) 0)) (type_of d) (lookup ds cell)) ≡ Some t
+      go true k after = let e : type_of d ≡ t = cc in rw (ne_eqb (type_of d) 0 (λ z. h (sym e ∙ z)), found_type d, e)
+      go false k after = after k h
+
+  pub none_first : (ds : List Definition) → first_in ds cell ≡ None → found (lookup ds cell) ≡ None
+  unfolding first_in lookup
+  none_first [] e = refl
+  none_first (d ∷ ds) e = go (eqb d.offset cell) e (none_first ds)
+    where
+      go : (b : Bool) → cond b (Some (type_of d)) (first_in ds cell) ≡ None → (first_in ds cell ≡ None → found (lookup ds cell) ≡ None)
+          → found (cond (b && not (eqb (type_of d) 0)) (type_of d) (lookup ds cell)) ≡ None
+      go true k after = cc
+      go false k after = after k
 
   -- a definition's cell has 16 bits
-  pub none_so_high : ((k : ℕ) → get_or defs k 0 < 256) → 65536 ≤ cell → 32768 ≡ lookup (definitions_in defs) cell
+  pub none_so_high : (defs : List ℕ) → ((k : ℕ) → get_or defs k 0 < 256) → 65536 ≤ cell → found (lookup (definitions_in defs) cell) ≡ None
   unfolding records lookup u16_at byte_at
-  none_so_high bytes high = go (length defs / 8) 0
+  none_so_high defs bytes high = go (length defs / 8) 0
     where
       short : (at : ℕ) → u16_at defs at < 65536
       short at = omega (arith, bytes at, bytes (at + 1))
 
-      go : (n at : ℕ) → 32768 ≡ lookup (records (read_definition defs) 8 n at) cell
+      go : (n at : ℕ) → found (lookup (records (read_definition defs) 8 n at) cell) ≡ None
       go zero at = refl
       go (suc n) at = rw (ne_eqb (u16_at defs (at + 2)) cell (λ z. omega (arith, short (at + 2)))) (go n (at + 8))
 
 -- ---- the type check
 
-module _ (definitions : List Definition) (want cell : ℕ) where
-  pub type_passed : passes (lookup definitions cell) want ≡ true → Passed ≡ type_check definitions want cell
-  unfolding type_check
-  type_passed h = rw h
+module _ (want cell : ℕ) where
+  pub type_of_none : (defs : List ℕ) → length defs ≡ 0 → type_check (definitions_in defs) want cell ≡ true
+  unfolding type_check passes lookup
+  type_of_none defs h = rw (no_more defs (omega arith))
 
-  pub type_failed : passes (lookup definitions cell) want ≡ false → Failed ≡ type_check definitions want cell
-  unfolding type_check
-  type_failed h = rw h
+  module _ (ds : List Definition) where
+    pub type_of_untyped : found (lookup ds cell) ≡ None → type_check ds want cell ≡ true
+    unfolding type_check passes
+    type_of_untyped e = go (eqb (lookup ds cell) 32768) e
+      where
+        go : (b : Bool) → cond b None (Some (lookup ds cell)) ≡ None → (b || eqb (scalar (lookup ds cell)) (scalar want)) ≡ true
+        go true k = refl
+        go false k = cc
 
-pub type_none : (defs : List ℕ) (want cell : ℕ) → length defs ≡ 0 → Passed ≡ type_check (definitions_in defs) want cell
-unfolding passes records lookup
-type_none defs want cell e = type_passed _ want cell (rw e)
+    pub type_of_typed : (t : ℕ) → found (lookup ds cell) ≡ Some t → type_check ds want cell ≡ eqb (scalar t) (scalar want)
+    unfolding type_check passes
+    type_of_typed t e = go (eqb (lookup ds cell) 32768) e
+      where
+        go : (b : Bool) → cond b None (Some (lookup ds cell)) ≡ Some t → (b || eqb (scalar (lookup ds cell)) (scalar want)) ≡ eqb (scalar t) (scalar want)
+        go true k = cc
+        go false k = cc

@@ -1,17 +1,19 @@
-// Typed access to cells. A refusal is its number here, and 0 stands for none.
+// Typed access to cells.
 #![tactic(auto)]
 
-ghost use Rattle.std.specs.Prelude.{◌≡◌, ◌+◌, ◌*◌, ◌≤◌, length};
+ghost use Rattle.std.specs.Prelude.{◌≡◌, ◌≤◌, length};
 ghost use Rattle.definition.specs.Checks.{judge};
+ghost use Rattle.definition.specs.Refusals.{number, refusal_in};
 ghost use Rattle.functions.specs.Parts.{definitions_in};
-ghost use Rattle.definition.specs.Cells.{lookup, scalar, passes, cell_access, vector_access, access, must_be_natural, read_access, field_cell_access, field_access};
-ghost use Rattle.typed.specs.Typing.{typing, first_in, type_check};
-ghost use Rattle.typed.specs.Checking.{three_refusal, move_refusal};
+ghost use Rattle.definition.specs.Cells.{lookup, scalar, cell_access, access, must_be_natural, read_access, field_access};
+ghost use Rattle.typed.specs.Typing.{typing, found, first_in, type_check};
+ghost use Rattle.typed.specs.Checking.{one_access, each_refusal, three_refusal, move_refusal};
 
+use definition::refusal::Refusal;
 use definition::{DEFINITION_SIZE, SAVE_FLAG};
 use functions::reads;
 
-// The types of definitions and operands.
+// The types of definitions and operands. Numbers and no enum: the file can give a definition any, and each is asked for.
 pub const VOID: u16 = 0;
 
 pub const STRING: u16 = 1;
@@ -28,169 +30,215 @@ pub const FUNCTION: u16 = 6;
 
 pub const POINTER: u16 = 7;
 
-// What `find` gives for a cell without a definition: no type, since bit 15 of a definition's type is its save flag.
-pub const UNTYPED: u16 = SAVE_FLAG;
-
-// What a type check answers.
-#[derive(Clone, Copy)]
-pub enum TypeCheck {
-    Passed,
-    Failed,
-}
-
-// The type of the first definition of a cell, void or not. A turn of the loop looks at two definitions, so that the test for the end is made half as often;
-// the first one of an odd number comes before them.
-fn first_type(defs: &[u8], wanted: u16) -> u16
+// The type of the first definition of a cell, void or not, one definition after the other.
+#[tactic(auto, using(crate::proofs::Lookup::first_of_one, crate::proofs::Lookup::first_none))]
+fn first_type_of_few(defs: &[u8], wanted: u16) -> Option<u16>
     ensures { result ≡ first_in (definitions_in defs.now) wanted }
 {
-    let end = defs.len() / DEFINITION_SIZE;
-    let mut i = end % 2;
-    if i == 1 {
-        if reads::u16_at(defs, 2) == wanted {
-            return reads::u16_at(defs, 0) % SAVE_FLAG;
+    for definition in defs.chunks_exact(DEFINITION_SIZE) {
+        if reads::u16_at(definition, 2) == wanted {
+            return Some(reads::u16_at(definition, 0) % SAVE_FLAG);
         }
     }
-    let found = loop {
-        if i == end {
-            break UNTYPED;
+    None
+}
+
+// The type of the first definition of a cell, void or not. A turn of the loop looks at four definitions, so that the test for the end is made a quarter as
+// often; those that are over come before them.
+#[tactic(auto, using(crate::proofs::Lookup::first_kept, crate::proofs::Lookup::first_passed, crate::proofs::Lookup::fours_left, crate::proofs::Lookup::first_none))]
+fn first_type(defs: &[u8], wanted: u16) -> Option<u16>
+    ensures { result ≡ first_in (definitions_in defs.now) wanted }
+{
+    let (few, fours) = defs.split_at(defs.len() / DEFINITION_SIZE % 4 * DEFINITION_SIZE);
+    let first = first_type_of_few(few, wanted);
+    if first.is_some() {
+        return first;
+    }
+    for four in fours.chunks_exact(4 * DEFINITION_SIZE) {
+        let first = first_type_of_few(four, wanted);
+        if first.is_some() {
+            return first;
         }
-        let at = DEFINITION_SIZE * i;
-        if reads::u16_at(defs, at + 2) == wanted {
-            break reads::u16_at(defs, at) % SAVE_FLAG;
-        }
-        if reads::u16_at(defs, at + 10) == wanted {
-            break reads::u16_at(defs, at + 8) % SAVE_FLAG;
-        }
-        i += 2;
-    };
-    found
+    }
+    None
 }
 
 // The type of the first definition of a cell that isn't void. Cells whose first definition is void are seldom, so this search is a plain one.
-fn find_past_void(defs: &[u8], wanted: u16) -> u16
-    ensures { result ≡ lookup (definitions_in defs.now) wanted }
+#[tactic(auto, using(crate::proofs::Lookup::lookup_one, crate::proofs::Lookup::lookup_none))]
+fn find_past_void(defs: &[u8], wanted: u16) -> Option<u16>
+    ensures { result ≡ found (lookup (definitions_in defs.now) wanted) }
 {
-    let end = defs.len() / DEFINITION_SIZE;
-    let mut i: usize = 0;
-    let found = loop {
-        if i == end {
-            break UNTYPED;
+    for definition in defs.chunks_exact(DEFINITION_SIZE) {
+        let kind = reads::u16_at(definition, 0) % SAVE_FLAG;
+        if (reads::u16_at(definition, 2) == wanted) & (kind != VOID) {
+            return Some(kind);
         }
-        let at = DEFINITION_SIZE * i;
-        let t = reads::u16_at(defs, at) % SAVE_FLAG;
-        if (reads::u16_at(defs, at + 2) == wanted) & (t != VOID) {
-            break t;
-        }
-        i += 1;
-    };
-    found
+    }
+    None
 }
 
 // The type of the first definition of a cell that isn't void. Whether a definition is void is asked after the search, of the one that was found, so that
-// those of other cells cost no more for it.
-pub fn find(defs: &[u8], cell: usize) -> u16
-    ensures { result ≡ lookup (definitions_in defs.now) cell }
+// those of other cells cost no more for it. A call, since the checks that ask are many.
+#[inline(never)]
+#[tactic(auto, using(crate::proofs::Lookup::first_binds, crate::proofs::Lookup::none_first, crate::proofs::Lookup::none_so_high))]
+pub fn find(defs: &[u8], cell: usize) -> Option<u16>
+    ensures { result ≡ found (lookup (definitions_in defs.now) cell) }
 {
-    if 65536 <= cell {
-        return UNTYPED;
-    }
-    let wanted = cell as u16;
-    let t = first_type(defs, wanted);
+    let wanted = u16::try_from(cell).ok()?;
+    let t = first_type(defs, wanted)?;
     if t != VOID {
-        return t;
+        return Some(t);
     }
     find_past_void(defs, wanted)
 }
 
+#[tactic(auto, unfolding(definition::specs::Cells::scalar))]
 fn scalar(t: u16) -> u16
     ensures { result ≡ scalar t }
 {
     if t == VECTOR { FLOAT } else { t }
 }
 
-fn passes(t: u16, want: u16) -> bool
-    ensures { result ≡ passes t want }
-{
-    (t == UNTYPED) | (scalar(t) == scalar(want))
-}
-
 // The type check of a cell by global definitions, of an entity's cell by field definitions. Where there are none nothing is looked up.
-pub fn type_check(defs: &[u8], cell: usize, want: u16) -> TypeCheck
+#[tactic(auto, using(crate::proofs::Lookup::type_of_none, crate::proofs::Lookup::type_of_untyped, crate::proofs::Lookup::type_of_typed))]
+pub fn type_check(defs: &[u8], cell: usize, want: u16) -> bool
     ensures { result ≡ type_check (definitions_in defs.now) want cell }
 {
-    if defs.len() == 0 {
-        return TypeCheck::Passed;
-    }
-    if passes(find(defs, cell), want) {
-        TypeCheck::Passed
-    } else {
-        TypeCheck::Failed
-    }
+    defs.is_empty() || find(defs, cell).is_none_or(|t| scalar(t) == scalar(want))
 }
 
-// A typed access of one cell.
-pub fn check_cell(defs: &[u8], count: usize, want: u16, cell: usize) -> u8
-    ensures { result ≡ judge (cell_access (typing defs.now count) want cell) }
-{
-    let t = type_check(defs, cell, want);
-    match t {
-        TypeCheck::Failed => return 16,
-        TypeCheck::Passed => {
-            if cell < count {
-                return 0;
-            }
-            return 15;
+// What types cells: the definitions, and how many cells there are. Of an entity's cells these are the field definitions, and the cells per entity.
+#[derive(Clone, Copy)]
+pub struct Typing<'a> {
+    pub defs: &'a [u8],
+    pub count: usize,
+}
+
+// The cells that the operands of a statement name.
+#[derive(Clone, Copy)]
+pub struct Operands {
+    pub a: usize,
+    pub b: usize,
+    pub c: usize,
+}
+
+// Inlined: as calls the checks would take the struct through memory.
+impl<'a> Typing<'a> {
+    // An access of one cell; `above` refuses a cell that isn't below the count.
+    #[inline(always)]
+    #[tactic(auto, using(definition::proofs::RefusalLaws::numbered), unfolding(definition::specs::Checks::judge, crate::specs::Typing::type_check, crate::specs::Checking::one_access))]
+    fn check_one(self, above: Refusal, want: u16, cell: usize) -> Result<(), Refusal>
+        ensures { refusal_in result ≡ judge (one_access (number above) (typing self.entry.defs.now self.entry.count) want cell) }
+    {
+        if !type_check(self.defs, cell, want) {
+            return Err(Refusal::Type);
+        }
+        if cell < self.count {
+            Ok(())
+        } else {
+            Err(above)
         }
     }
-}
 
-// The first cell isn't looked up as a vector too: what passes for a float passes for a vector.
-fn check_vector(defs: &[u8], count: usize, cell: usize) -> u8
-    ensures { result ≡ judge (vector_access (typing defs.now count) cell) }
-{
-    let x = check_cell(defs, count, FLOAT, cell);
-    if x != 0 {
-        return x;
+    // An access of what has that type: a vector is three cells, each typed as float. The first cell isn't looked up as a vector too: what passes for a float
+    // passes for a vector.
+    #[inline(always)]
+    #[tactic(auto, using(definition::proofs::RefusalLaws::numbered, crate::proofs::Laws::one_reach), unfolding(crate::specs::Checking::first, crate::specs::Checking::each_refusal))]
+    fn check_each(self, above: Refusal, want: u16, cell: usize) -> Result<(), Refusal>
+        ensures { refusal_in result ≡ each_refusal (number above) (typing self.entry.defs.now self.entry.count) want cell }
+    {
+        if want != VECTOR {
+            return self.check_one(above, want, cell);
+        }
+        self.check_one(above, FLOAT, cell)?;
+        self.check_one(above, FLOAT, cell + 1)?;
+        self.check_one(above, FLOAT, cell + 2)
     }
-    let y = check_cell(defs, count, FLOAT, cell + 1);
-    if y != 0 {
-        return y;
-    }
-    check_cell(defs, count, FLOAT, cell + 2)
-}
 
-// A typed access.
-pub fn check_access(defs: &[u8], count: usize, want: u16, cell: usize) -> u8
-    ensures { result ≡ judge (access (typing defs.now count) want cell) }
-{
-    if want == VECTOR {
-        return check_vector(defs, count, cell);
+    // A typed access of one cell.
+    #[inline(always)]
+    #[tactic(auto, unfolding(definition::specs::Cells::cell_access, crate::specs::Checking::one_access))]
+    pub fn check_cell(self, want: u16, cell: usize) -> Result<(), Refusal>
+        ensures { refusal_in result ≡ judge (cell_access (typing self.entry.defs.now self.entry.count) want cell) }
+    {
+        self.check_one(Refusal::Address, want, cell)
     }
-    check_cell(defs, count, want, cell)
-}
 
-// Three typed accesses in order.
-pub fn check_three(
-    defs: &[u8],
-    count: usize,
-    ta: u16,
-    a: usize,
-    tb: u16,
-    b: usize,
-    tc: u16,
-    c: usize,
-) -> u8
-    ensures { result ≡ three_refusal (typing defs.now count) ta a tb b tc c }
-{
-    let x = check_access(defs, count, ta, a);
-    if x != 0 {
-        return x;
+    // A typed access.
+    #[inline(always)]
+    #[tactic(auto, using(crate::proofs::Laws::access_each))]
+    pub fn check_access(self, want: u16, cell: usize) -> Result<(), Refusal>
+        ensures { refusal_in result ≡ judge (access (typing self.entry.defs.now self.entry.count) want cell) }
+    {
+        self.check_each(Refusal::Address, want, cell)
     }
-    let y = check_access(defs, count, tb, b);
-    if y != 0 {
-        return y;
+
+    // Three typed accesses in order.
+    #[inline(always)]
+    #[tactic(auto, using(definition::proofs::RefusalLaws::numbered), unfolding(crate::specs::Checking::first))]
+    pub fn check_three(
+        self,
+        ta: u16,
+        a: usize,
+        tb: u16,
+        b: usize,
+        tc: u16,
+        c: usize,
+    ) -> Result<(), Refusal>
+        ensures { refusal_in result ≡ three_refusal (typing self.entry.defs.now self.entry.count) ta a tb b tc c }
+    {
+        self.check_access(ta, a)?;
+        self.check_access(tb, b)?;
+        self.check_access(tc, c)
     }
-    check_access(defs, count, tc, c)
+
+    // A read of a value, refused if it is negative and must not be.
+    #[inline(always)]
+    #[tactic(auto, using(definition::proofs::RefusalLaws::numbered, crate::proofs::Laws::access_first, crate::proofs::Laws::read_firsts), unfolding(crate::specs::Checking::first, definition::specs::Checks::judge))]
+    pub fn check_read(
+        self,
+        cells: &[u32],
+        natural: bool,
+        t: u16,
+        cell: usize,
+    ) -> Result<(), Refusal>
+        requires { self.count ≤ length cells.now }
+        ensures { refusal_in result ≡ judge (read_access (typing self.entry.defs.now self.entry.count) natural t cell cells.now) }
+    {
+        self.check_access(t, cell)?;
+        if natural & (0x8000_0000 <= cells[cell]) {
+            return Err(Refusal::NegativeValue);
+        }
+        Ok(())
+    }
+
+    // A read of a value, then an access of the cell that the statement writes.
+    #[inline(always)]
+    #[tactic(auto, using(definition::proofs::RefusalLaws::numbered), unfolding(crate::specs::Checking::first))]
+    pub fn check_move(
+        self,
+        cells: &[u32],
+        natural: bool,
+        ta: u16,
+        a: usize,
+        tb: u16,
+        b: usize,
+    ) -> Result<(), Refusal>
+        requires { self.count ≤ length cells.now }
+        ensures { refusal_in result ≡ move_refusal (typing self.entry.defs.now self.entry.count) natural ta a tb b cells.now }
+    {
+        self.check_read(cells, natural, ta, a)?;
+        self.check_access(tb, b)
+    }
+
+    // An access of a field, by field definitions.
+    #[inline(always)]
+    #[tactic(auto, using(crate::proofs::Laws::field_each))]
+    pub fn check_field(self, want: u16, field: usize) -> Result<(), Refusal>
+        ensures { refusal_in result ≡ judge (field_access (typing self.entry.defs.now self.entry.count) want field) }
+    {
+        self.check_each(Refusal::Field, want, field)
+    }
 }
 
 // Entity and field numbers must not be negative when they are read.
@@ -198,81 +246,4 @@ pub fn must_be_natural(t: u16) -> bool
     ensures { result ≡ must_be_natural t }
 {
     (t == ENTITY) | (t == FIELD)
-}
-
-// A read of a value: refused 17 if it is negative and must not be.
-pub fn check_read(
-    defs: &[u8],
-    count: usize,
-    cells: &[u32],
-    natural: bool,
-    t: u16,
-    cell: usize,
-) -> u8
-    requires { count ≤ length cells.now }
-    ensures { result ≡ judge (read_access (typing defs.now count) natural t cell cells.now) }
-{
-    let r = check_access(defs, count, t, cell);
-    if r != 0 {
-        return r;
-    }
-    if natural & (0x8000_0000 <= cells[cell]) {
-        return 17;
-    }
-    0
-}
-
-// A read of a value, then an access of the cell that the statement writes.
-pub fn check_move(
-    defs: &[u8],
-    count: usize,
-    cells: &[u32],
-    natural: bool,
-    ta: u16,
-    a: usize,
-    tb: u16,
-    b: usize,
-) -> u8
-    requires { count ≤ length cells.now }
-    ensures { result ≡ move_refusal (typing defs.now count) natural ta a tb b cells.now }
-{
-    let r = check_read(defs, count, cells, natural, ta, a);
-    if r != 0 {
-        return r;
-    }
-    check_access(defs, count, tb, b)
-}
-
-// An access of one field cell, by field definitions: 31 if an entity hasn't so many cells.
-fn check_field_cell(fields: &[u8], size: usize, want: u16, field: usize) -> u8
-    ensures { result ≡ judge (field_cell_access (typing fields.now size) want field) }
-{
-    let t = type_check(fields, field, want);
-    match t {
-        TypeCheck::Failed => return 16,
-        TypeCheck::Passed => {
-            if field < size {
-                return 0;
-            }
-            return 31;
-        }
-    }
-}
-
-// An access of a field: a vector is three cells, each typed as float.
-pub fn check_field(fields: &[u8], size: usize, want: u16, field: usize) -> u8
-    ensures { result ≡ judge (field_access (typing fields.now size) want field) }
-{
-    if want != VECTOR {
-        return check_field_cell(fields, size, want, field);
-    }
-    let x = check_field_cell(fields, size, FLOAT, field);
-    if x != 0 {
-        return x;
-    }
-    let y = check_field_cell(fields, size, FLOAT, field + 1);
-    if y != 0 {
-        return y;
-    }
-    check_field_cell(fields, size, FLOAT, field + 2)
 }

@@ -1,14 +1,10 @@
 -- The 16-bit numbers of the part that has the statements are those of the statements; and what an unpacking answers. Assumes nothing.
-use Prim.Native.Nat.{ℕ, zero, suc, ◌+◌, ◌*◌, ◌/◌, ◌≤◌, ◌<◌}
-use mathlib.Core.Path.{◌≡◌, refl, sym, ◌∙◌, ap}
-use mathlib.Core.List.{List, ◌++◌}
-use mathlib.Core.Bool.{true, false}
-use native.Mathlib.Nat.{mul-div_cancel_left}
-use native.Mathlib.Omega.{arith}
-use borrow.Author.Tests.{le-leb, lt-leb}
-use lib.ListN.{length, drop}
+use Rattle.std.proofs.Common.{ℕ, zero, suc, ◌+◌, ◌*◌, ◌/◌, ◌≤◌, ◌<◌, ◌≡◌, refl, sym, ◌∙◌, ap, List, ◌++◌, true, false, length, drop, arith, le-leb}
+use Rattle.std.proofs.lemmas.Bool.{lt-leb}
+use Rattle.std.specs.Prelude.{Ok, Err}
+use Rattle.std.proofs.Math.Nat.{mul-div_cancel_left}
 use Rattle.definition.specs.declared.FileRecord.{FileRecord}
-use Rattle.definition.specs.declared.Answer.TheVariants.{Accepted, Refused}
+use Rattle.definition.specs.declared.refusal.Refusal.TheVariants.{State, UnpackBufferTooShort}
 use Rattle.definition.specs.Checks.{judge, guard}
 use Rattle.definition.specs.File.{records, read_statement, u16_at, numbers_of, file_of, contents_at}
 use Rattle.definition.specs.Machine.{Config}
@@ -16,9 +12,13 @@ use Rattle.definition.specs.Load.{program_with, program_of}
 use Rattle.definition.specs.Operations.{sound}
 use Rattle.definition.specs.Unpacked.{buffer_after, unpack}
 use Rattle.functions.specs.Laws.{AllFit}
-use Rattle.functions.specs.Parts.{part_of}
+use Rattle.functions.specs.Parts.{part_of, records_of}
 use Rattle.functions.specs.PartLaws.{statement_local, length_part, count_part, part_statements}
-use Rattle.unpacked.specs.Numbers.{numbers_in, unpacked_of, unpack_outcome}
+use Rattle.unpacked.specs.Numbers.{unpacked_of, unpack_outcome}
+
+-- the 16-bit numbers of a part
+abbrev numbers_in : List ℕ → List ℕ
+numbers_in part = records_of u16_at 2 part
 
 numbers_of_records : (part : List ℕ) (n at : ℕ) → numbers_of (records (read_statement part) 8 n at) ≡ records (u16_at part) 2 (4 * n) at
 unfolding numbers_of records
@@ -34,7 +34,7 @@ module _ (r : FileRecord) (file : List ℕ) (fit : AllFit (length file) r) where
   abbrev part : List ℕ
   part = part_of 8 r.statements file
 
-  pub count_numbers : length part / 2 ≡ 4 * r.statements.count
+  count_numbers : length part / 2 ≡ 4 * r.statements.count
   count_numbers =
       let bytes : length part ≡ 8 * r.statements.count = length_part read_statement 8 statement_local (omega arith) file r.statements fit.statements in
       let twice : 8 * r.statements.count ≡ 2 * (4 * r.statements.count) = omega arith in
@@ -49,24 +49,24 @@ module _ (r : FileRecord) (file : List ℕ) (fit : AllFit (length file) r) where
       ∙ ap numbers_of (part_statements r file fit)
 
   -- the buffer after the numbers were written
-  pub written : r ≡ file_of file → (buffer b : List ℕ) → b ≡ numbers_in part ++ drop (length part / 2) buffer → b ≡ buffer_after file buffer
+  pub written : r ≡ file_of file → (buffer b p : List ℕ) → p ≡ part → b ≡ numbers_in p ++ drop (length p / 2) buffer → b ≡ buffer_after file buffer
   unfolding buffer_after
-  written same buffer b e =
-      e
+  written same buffer b p here e =
+      rw here at e
       ∙ ap (λ (xs : List ℕ). xs ++ drop (length part / 2) buffer) numbers_here
       ∙ ap (λ (n : ℕ). numbers_of (contents_at r file).statements ++ drop n buffer) count_numbers
       ∙ ap (λ (q : FileRecord). numbers_of (contents_at q file).statements ++ drop (4 * q.statements.count) buffer) same
 
 module _ (file buffer : List ℕ) (c : Config) where
-  pub refused_13 : sound (program_of file) c ≡ false → unpacked_of (Refused 13) buffer ≡ unpack_outcome buffer (unpack file buffer c)
+  pub refused_13 : sound (program_of file) c ≡ false → unpacked_of (Err State) buffer ≡ unpack_outcome buffer (unpack file buffer c)
   unfolding unpack guard judge
   refused_13 e = rw e
 
   module _ (s : sound (program_of file) c ≡ true) (r : FileRecord) (same : r ≡ file_of file) where
-    pub refused_37 : length buffer < 4 * r.statements.count → unpacked_of (Refused 37) buffer ≡ unpack_outcome buffer (unpack file buffer c)
+    pub refused_37 : length buffer < 4 * r.statements.count → unpacked_of (Err UnpackBufferTooShort) buffer ≡ unpack_outcome buffer (unpack file buffer c)
     unfolding unpack guard judge program_with
     refused_37 h = rw (s, lt-leb (4 * (file_of file).statements.count) (length buffer) (rw (← same) h))
 
-    pub accepted : 4 * r.statements.count ≤ length buffer → (b : List ℕ) → b ≡ buffer_after file buffer → unpacked_of Accepted b ≡ unpack_outcome buffer (unpack file buffer c)
+    pub unpacked : 4 * r.statements.count ≤ length buffer → (b : List ℕ) → b ≡ buffer_after file buffer → unpacked_of (Ok tt) b ≡ unpack_outcome buffer (unpack file buffer c)
     unfolding unpack guard judge program_with
-    accepted h b e = rw (s, le-leb (4 * (file_of file).statements.count) (length buffer) (rw (← same) h), e)
+    unpacked h b e = rw (s, le-leb (4 * (file_of file).statements.count) (length buffer) (rw (← same) h), e)

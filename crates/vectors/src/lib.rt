@@ -1,60 +1,86 @@
-// What the programs that run vectors share: hexadecimal numbers at fixed places of a line, changes of
-// lent cells, and the last line that they write.
+// What the programs that run cases from lines share: the words and numbers of a line, and how many of the cases came out otherwise than they say.
 #![tactic(auto)]
 
-ghost use Rattle.std.specs.Prelude.{◌+◌, ◌≤◌, ◌<◌, length};
+use hex::FromHexError;
+use std::alloc::{AllocError, Global};
+use std::fmt;
+use std::num::{ParseIntError, TryFromIntError};
+use std::str::{FromStr, SplitAsciiWhitespace};
+use thiserror::Error;
 
-use std::io;
-use std::io::Write;
-
-// A hexadecimal digit in lower case.
-fn digit(b: u8) -> u32
-    ensures { result < 16 }
-{
-    if b < b'a' {
-        return (b % 16) as u32;
-    }
-    ((b % 16 + 9) % 16) as u32
+// Why a line can't be read.
+#[derive(Debug, Drop, Error)]
+pub enum LineError {
+    #[error("a word is missing")]
+    Missing,
+    #[error("no line says that")]
+    Unknown,
+    #[error("a word that should be a number: {0}")]
+    Number(#[from] ParseIntError),
+    #[error("a number that is too large: {0}")]
+    Large(#[from] TryFromIntError),
+    #[error("a word that should be bytes: {0}")]
+    Bytes(#[from] FromHexError),
+    #[error(transparent)]
+    Memory(#[from(alloc)] AllocError),
 }
 
-// The number that the `n` digits from `at` on spell.
-pub fn number(line: &[u8], at: usize, n: usize) -> u32
-    requires { at + n ≤ length line.now }
-{
-    let mut x: u32 = 0;
-    let mut i: usize = 0;
-    while i < n {
-        x = x % 0x1000_0000 * 16 + digit(line[at + i]);
-        i += 1;
-    }
-    x
+// The words of a line.
+pub type Words<'a> = SplitAsciiWhitespace<'a>;
+
+pub fn next_word<'a>(words: &mut Words<'a>) -> Result<&'a str, LineError> {
+    words.next().ok_or(LineError::Missing)
 }
 
-pub fn put_cell(cells: &mut [u32], i: usize, value: u32) {
-    if i < cells.len() {
-        cells[i] = value;
+// The number that the next word spells in decimal.
+pub fn next_number<T: FromStr<Err = ParseIntError>>(words: &mut Words<'_>) -> Result<T, LineError> {
+    let word = next_word(words)?;
+    Ok(word.parse()?)
+}
+
+// The number that the next word spells in hexadecimal.
+pub fn next_hex(words: &mut Words<'_>) -> Result<u32, LineError> {
+    let word = next_word(words)?;
+    Ok(u32::from_str_radix(word, 16)?)
+}
+
+// The file that the next two words spell: its length, and its first bytes in hexadecimal or `-` for none. Those that aren't given are zeros.
+pub fn next_file(alloc: Global, words: &mut Words<'_>) -> Result<Vec<u8>, LineError> {
+    let length = next_number(words)?;
+    let mut file = match next_word(words)? {
+        "-" => Vec::new(alloc),
+        digits => hex::decode(alloc, digits)?,
+    };
+    file.resize(length, 0)?;
+    Ok(file)
+}
+
+// A value goes to its place, if there is one.
+pub fn put<T: Drop>(items: &mut [T], place: usize, value: T) {
+    if let Some(item) = items.get_mut(place) {
+        *item = value;
     }
 }
 
-pub fn clear_cells(cells: &mut [u32]) {
-    let mut i: usize = 0;
-    while i < cells.len() {
-        cells[i] = 0;
-        i += 1;
-    }
-}
-
-// A proved loop has to end, and nothing says that the input does: a program reads at most so many lines.
-pub const MOST_LINES: u64 = 1_000_000;
-
-#[derive(Clone, Copy)]
+// How many cases were run, and how many of them differ from what is given.
+#[derive(Clone, Copy, Debug, Default, PartialEq, Eq)]
 pub struct Counts {
     pub cases: u64,
     pub differ: u64,
 }
 
-pub fn report<W: Write>(out: &mut W, counts: Counts) -> io::Result<()> {
-    let cases = counts.cases;
-    let differ = counts.differ;
-    writeln!(out, "{cases} cases, {differ} differ")
+impl Counts {
+    pub fn count(&mut self, same: bool) {
+        self.cases = self.cases.saturating_add(1);
+        if !same {
+            self.differ = self.differ.saturating_add(1);
+        }
+    }
+}
+
+impl fmt::Display for Counts {
+    fn fmt<W: fmt::Write>(&self, f: &mut fmt::Formatter<W>) -> fmt::Result {
+        let Counts { cases, differ } = self;
+        write!(f, "{cases} cases, {differ} differ")
+    }
 }

@@ -1,5 +1,4 @@
 -- What the proofs of `writer` share.
-mod Copying
-mod Headers
+mod Numbers
 mod Functions
 pub mod Program

@@ -1,11 +1,7 @@
 -- WHAT A WRITER LEAVES, as the definition's outcome.
 use Rattle.std.specs.Prelude.{ℕ, List, length}
-use Rattle.definition.specs.declared.WriteAnswer.{WriteAnswer}
 use Rattle.definition.specs.Checks.{guard}
 use Rattle.definition.specs.Written.{room_conditions, placed, WriteOutcome, write_outcome}
-
-abbrev pub outcome_of : WriteAnswer → List ℕ → WriteOutcome
-outcome_of a output = record { answer = a; output = output }
 
 -- bytes at the front of an output buffer, or 34
 unfoldable pub writing : List ℕ → List ℕ → WriteOutcome

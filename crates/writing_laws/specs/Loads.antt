@@ -12,7 +12,6 @@ use borrow.Author.Tests.{leb-true, le-leb, lt-leb, eq-eqb}
 use Rattle.definition.specs.declared.Lump.{Lump}
 use Rattle.definition.specs.declared.FileRecord.{FileRecord}
 use Rattle.definition.specs.declared.Settings.{Settings}
-use Rattle.definition.specs.declared.WriteAnswer.TheVariants as write
 use Rattle.definition.specs.Checks.{Conditions, ◌otherwise◌, refused, accepted}
 use Rattle.definition.specs.File.{byte_at, least_cells, longest_file, saved_store, file_of, lump_fits, lumps_fit, records, read_function, Contents, contents_at, contents_of, settings_fit}
 use Rattle.definition.specs.Machine.{Config, entities_fit}
@@ -232,16 +231,16 @@ module _ (file output : List ℕ) (c : Config) where
   -- ---- what is answered, and the output buffer after it: one of these three
 
   pub answers_13 : sound (program_of file) c ≡ false
-      → write_outcome output (write_file file output c) ≡ record { answer = write.Refused 13; output = output }
+      → write_outcome output (write_file file output c) ≡ record { answer = refused 13; output = output }
   answers_13 e = rw (refuses_13 e) refl
 
   pub answers_34 : sound (program_of file) c ≡ true → (leb (length (image held file)) (length output) && leb (length (image held file)) longest_file) ≡ false
-      → write_outcome output (write_file file output c) ≡ record { answer = write.Refused 34; output = output }
+      → write_outcome output (write_file file output c) ≡ record { answer = refused 34; output = output }
   answers_34 e h = rw (refuses_34 e h) refl
 
   pub answers_length : sound (program_of file) c ≡ true → length (image held file) ≤ length output → length (image held file) ≤ longest_file
       → write_outcome output (write_file file output c)
-      ≡ record { answer = write.Length (length (image held file)); output = image held file ++ drop (length (image held file)) output }
+      ≡ record { answer = accepted (length (image held file)); output = image held file ++ drop (length (image held file)) output }
   answers_length e room short = rw (accepts e room short) refl
 
   -- "and nothing is written"

@@ -1,8 +1,9 @@
-use Rattle.arithmetic.proofs.Arithmetic.{untyped_three}
+use Rattle.std.proofs.Common.{arith}
+use Rattle.arithmetic.proofs.Arithmetic.{untyped}
 use Rattle.arithmetic.proofs.check_operands.Goals as goal
 
-pub returns-then-defs-x : goal.returns-then-defs-x
-returns-then-defs-x c = untyped_three _ _ _ _ _ c.requires c.if-defs-x.true
-
-pub returns : goal.returns
-returns c = rw (← c.cell_of.ensures, ← c.cell_of-2.ensures, ← c.cell_of-3.ensures) c.check_floats.ensures
+pub returns-then-is_empty-x : goal.returns-then-is_empty-x
+unfolding Rattle.typed.specs.Checking.first
+returns-then-is_empty-x c =
+    let passes = untyped c.args.globals.defs.now c.args.globals.count in
+    grind (arith, passes c.args.x c.requires, passes c.args.y c.requires, passes c.args.z c.requires)

@@ -17,8 +17,5 @@ invariant-loop-i l =
       store_long : length l.store ≡ length l.initial.store;
       entities_long : length l.entities ≡ length l.initial.entities;
       formed : all_true (records (formed_at l.calls l.numbers) 3 (l.n - l.i) (3 * l.i)) ≡ true;
-      left : Left (program_of l.file) (call_in l.calls l.numbers) l.n (config l.initial.now l.initial.cells l.initial.store l.initial.entities) (config l.now l.cells l.store l.entities) l.initial.answers l.answers l.i;
+      left : Left (program_of l.file) (call_in l.calls l.numbers) l.n (config l.initial.context l.initial.cells l.initial.store l.initial.entities) (config l.context l.cells l.store l.entities) l.initial.answers l.answers l.i;
     }
-
-abbrev pub decreases-loop-i : goal.decreases-loop-i
-decreases-loop-i l = l.n - l.i

@@ -1,23 +1,10 @@
--- `load_files::make_file` meets its contract: 35, then what is written or 34. Assumes nothing.
-use Rattle.std.proofs.Common.{◌≡◌, to_z-of_z, w64, SFits, rules}
-use Rattle.definition.specs.Statements.{place_of}
-use Rattle.load_files.proofs.Making.{no_seed, none, too_many, permitted_made}
+-- `load_files::make_file` meets its contract: what is permitted is written, or refused 34. Assumes nothing.
+use Rattle.std.proofs.Common.{◌≡◌, true, not, ◌&&◌, eqb, rules, to_z-of_z}
+use Rattle.definition.specs.File.{between}
+use Rattle.load_files.proofs.Making.{permitted_made}
 use Rattle.load_files.proofs.make_file.Goals as goal
 
-pub returns-then-seed-eq0 : goal.returns-then-seed-eq0
-returns-then-seed-eq0 c = no_seed _ _ _ c.if-seed-eq0.true
-
-pub returns-then-count-eq0 : goal.returns-then-count-eq0
-returns-then-count-eq0 c =
-    let counted' : c.place_of-count.result ≡ place_of 0 c.args.n = let g : SFits w64 c.args.n = search rules in (rw (to_z-of_z g) at c.place_of-count.ensures) in
-    none _ _ _ c.if-seed-eq0.false _ counted' c.if-count-eq0.true
-
-pub returns-then-count-gt-MOST_STATEMENTS : goal.returns-then-count-gt-MOST_STATEMENTS
-returns-then-count-gt-MOST_STATEMENTS c =
-    let counted' : c.place_of-count.result ≡ place_of 0 c.args.n = let g : SFits w64 c.args.n = search rules in (rw (to_z-of_z g) at c.place_of-count.ensures) in
-    too_many _ _ _ c.if-seed-eq0.false _ counted' c.if-count-gt-MOST_STATEMENTS.true
-
-pub returns : goal.returns
-returns c =
-    let counted' : c.place_of-count.result ≡ place_of 0 c.args.n = let g : SFits w64 c.args.n = search rules in (rw (to_z-of_z g) at c.place_of-count.ensures) in
-    permitted_made _ _ _ c.if-seed-eq0.false _ counted' c.if-count-eq0.false c.if-count-gt-MOST_STATEMENTS.false _ _ c.write_file.ensures
+pub returns-then-contains : goal.returns-then-contains
+returns-then-contains c =
+    let fits : (not (eqb c.args.seed 0) && between 1 1000 c.place_of-count.result) ≡ true = search rules in
+    permitted_made _ _ _ _ (rw (to_z-of_z c.ranges.n) at c.place_of-count.ensures) fits _ _ c.write_file.ensures

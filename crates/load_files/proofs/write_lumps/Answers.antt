@@ -1,55 +1,44 @@
--- `load_files::write_lumps` meets its contract: each call puts the next lump. Assumes nothing.
-use Rattle.std.proofs.Common.{ℕ, List, [], ◌∷◌, ◌++◌, set, replicate, refl}
+-- `load_files::write_lumps` meets its contract: each call writes the next lump. Assumes nothing.
+use Rattle.std.proofs.Common.{ℕ, [], ◌∷◌, ◌++◌, set, replicate, refl, ◌≡◌}
 use Rattle.definition.specs.Written.{u32_bytes, statement_bytes, bytes_of}
-use Rattle.text.specs.Output.{Output, output, Rest, rest_all, rest_room, rest_next, rest_end}
+use Rattle.text.specs.declared.Writer.{Writer}
+use Rattle.text.specs.Writing.{Left, left_all, left_room, next_room, left_next, left_last}
+use Rattle.load_files.specs.Draws.{after}
 use Rattle.load_files.specs.LoadFile.{cells_of, statements_from}
 use Rattle.load_files.specs.Laws.{lumps_for, functions_bytes}
 use Rattle.load_files.proofs.write_lumps.Goals as goal
 
--- the functions as the code has them
-abbrev functions : List ℕ
-functions = set (replicate 72 0) 36 1
+-- what is left at the start is all the lumps, as the code has them
+whole : (seed n : ℕ) {s : ℕ} (w : Writer) → s ≡ after 36 seed
+    → Left (lumps_for seed n)
+    (bytes_of statement_bytes (statements_from n s) ++ (set (replicate 72 0) 36 1 ++ ((0 ∷ []) ++ bytes_of u32_bytes (cells_of seed))))
+    w w
+whole seed n w e = left_all (rw (e, functions_bytes) refl)
 
-pub write_statements-next-requires : goal.write_statements-next-requires
-write_statements-next-requires c =
-    let Left' : List ℕ → Output → Type 0 = λ rest o. Rest (lumps_for c.args.seed c.args.n) rest (output c.args.out.now c.args.at) o in
-    let cells' : List ℕ = bytes_of u32_bytes (cells_of c.args.seed) in
-    let left_0' : Left' (bytes_of statement_bytes (statements_from c.args.n c.skip-s.result) ++ (functions ++ (0 ∷ cells'))) (output c.args.out.now c.args.at) = rest_all c.requires (rw (c.skip-s.ensures, functions_bytes) refl) in
-    rest_room _ _ left_0'
+pub write_statements-requires : goal.write_statements-requires
+write_statements-requires c = next_room _ _ (whole c.args.seed c.args.n c.args.out.now c.skip-s.ensures) c.requires
 
-pub write_bytes-next-requires : goal.write_bytes-next-requires
-write_bytes-next-requires c =
-    let Left' : List ℕ → Output → Type 0 = λ rest o. Rest (lumps_for c.args.seed c.args.n) rest (output c.args.out.now c.args.at) o in
-    let cells' : List ℕ = bytes_of u32_bytes (cells_of c.args.seed) in
-    let left_0' : Left' (bytes_of statement_bytes (statements_from c.args.n c.skip-s.result) ++ (functions ++ (0 ∷ cells'))) (output c.args.out.now c.args.at) = rest_all c.requires (rw (c.skip-s.ensures, functions_bytes) refl) in
-    let left_1' : Left' (functions ++ (0 ∷ cells')) (output c.write_statements-next.new.out c.write_statements-next.result) = rest_next _ _ left_0' c.write_statements-next.ensures in
-    rest_room functions _ left_1'
+pub write_bytes-requires : goal.write_bytes-requires
+write_bytes-requires c = next_room (set (replicate 72 0) 36 1) _ (left_next (whole c.args.seed c.args.n c.args.out.now c.skip-s.ensures) c.write_statements.ensures) c.requires
 
-pub write_byte-next-requires : goal.write_byte-next-requires
-write_byte-next-requires c =
-    let Left' : List ℕ → Output → Type 0 = λ rest o. Rest (lumps_for c.args.seed c.args.n) rest (output c.args.out.now c.args.at) o in
-    let cells' : List ℕ = bytes_of u32_bytes (cells_of c.args.seed) in
-    let left_0' : Left' (bytes_of statement_bytes (statements_from c.args.n c.skip-s.result) ++ (functions ++ (0 ∷ cells'))) (output c.args.out.now c.args.at) = rest_all c.requires (rw (c.skip-s.ensures, functions_bytes) refl) in
-    let left_1' : Left' (functions ++ (0 ∷ cells')) (output c.write_statements-next.new.out c.write_statements-next.result) = rest_next _ _ left_0' c.write_statements-next.ensures in
-    let left_2' : Left' (0 ∷ cells') (output c.write_bytes-next.new.buf c.write_bytes-next.result) = rest_next functions _ left_1' c.write_bytes-next.ensures in
-    rest_room (0 ∷ []) _ left_2'
+pub write_byte-requires : goal.write_byte-requires
+write_byte-requires c =
+    next_room (0 ∷ []) _
+    (left_next {xs = set (replicate 72 0) 36 1} (left_next (whole c.args.seed c.args.n c.args.out.now c.skip-s.ensures) c.write_statements.ensures) c.write_bytes.ensures)
+    c.requires
 
 pub write_cells-requires : goal.write_cells-requires
 write_cells-requires c =
-    let Left' : List ℕ → Output → Type 0 = λ rest o. Rest (lumps_for c.args.seed c.args.n) rest (output c.args.out.now c.args.at) o in
-    let cells' : List ℕ = bytes_of u32_bytes (cells_of c.args.seed) in
-    let left_0' : Left' (bytes_of statement_bytes (statements_from c.args.n c.skip-s.result) ++ (functions ++ (0 ∷ cells'))) (output c.args.out.now c.args.at) = rest_all c.requires (rw (c.skip-s.ensures, functions_bytes) refl) in
-    let left_1' : Left' (functions ++ (0 ∷ cells')) (output c.write_statements-next.new.out c.write_statements-next.result) = rest_next _ _ left_0' c.write_statements-next.ensures in
-    let left_2' : Left' (0 ∷ cells') (output c.write_bytes-next.new.buf c.write_bytes-next.result) = rest_next functions _ left_1' c.write_bytes-next.ensures in
-    let left_3' : Left' cells' (output c.write_byte-next.new.buf c.write_byte-next.result) = rest_next (0 ∷ []) _ left_2' c.write_byte-next.ensures in
-    left_3'.room
+    left_room
+    (left_next {xs = 0 ∷ []}
+    (left_next {xs = set (replicate 72 0) 36 1} (left_next (whole c.args.seed c.args.n c.args.out.now c.skip-s.ensures) c.write_statements.ensures) c.write_bytes.ensures)
+    c.write_byte.ensures)
+    c.requires
 
 pub returns : goal.returns
 returns c =
-    let Left' : List ℕ → Output → Type 0 = λ rest o. Rest (lumps_for c.args.seed c.args.n) rest (output c.args.out.now c.args.at) o in
-    let cells' : List ℕ = bytes_of u32_bytes (cells_of c.args.seed) in
-    let left_0' : Left' (bytes_of statement_bytes (statements_from c.args.n c.skip-s.result) ++ (functions ++ (0 ∷ cells'))) (output c.args.out.now c.args.at) = rest_all c.requires (rw (c.skip-s.ensures, functions_bytes) refl) in
-    let left_1' : Left' (functions ++ (0 ∷ cells')) (output c.write_statements-next.new.out c.write_statements-next.result) = rest_next _ _ left_0' c.write_statements-next.ensures in
-    let left_2' : Left' (0 ∷ cells') (output c.write_bytes-next.new.buf c.write_bytes-next.result) = rest_next functions _ left_1' c.write_bytes-next.ensures in
-    let left_3' : Left' cells' (output c.write_byte-next.new.buf c.write_byte-next.result) = rest_next (0 ∷ []) _ left_2' c.write_byte-next.ensures in
-    rest_end left_3' c.write_cells.ensures
+    left_last
+    (left_next {xs = 0 ∷ []}
+    (left_next {xs = set (replicate 72 0) 36 1} (left_next (whole c.args.seed c.args.n c.args.out.now c.skip-s.ensures) c.write_statements.ensures) c.write_bytes.ensures)
+    c.write_byte.ensures)
+    c.write_cells.ensures

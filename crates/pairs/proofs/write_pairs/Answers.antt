@@ -1,53 +1,50 @@
-use Prim.Native.Nat.{◌+◌, ◌-◌, ◌≤◌}
-use mathlib.Core.Path.{◌≡◌, refl, sym, ◌∙◌}
-use native.Mathlib.Omega.{arith}
-use lib.ListN.{length, drop, length-set}
-use mir.Syntax.{w64}
-use mir.Val.{SFits}
-use mir.Facts.{to_z-of_z}
-use Rattle.definition.specs.CheckLaws.{All}
-use Rattle.definition.specs.Statements.{place_of}
-use Rattle.definition.specs.Operations.{pair_conditions, pairs_written}
-use Rattle.pairs.proofs.PairLaws.{number, cell_there, value_fits, good_left, pair_written, at_end}
-use borrow.Author.Rules.{rules}
+use Rattle.std.proofs.Common.{◌∙◌, sym, rules, arith, length, length-set, pos, FitsSigned, w64, slice_index_or}
+use Rattle.std.proofs.Math.Facts.{to_z-of_z}
+use Rattle.pairs.proofs.PairLaws.{none_left, Good, good}
 use Rattle.pairs.proofs.write_pairs.Goals as goal
+use Rattle.pairs.proofs.write_pairs.Goals.{In-Some}
 
-pub loop-at-init : goal.loop-at-init
-loop-at-init c = ((refl, omega arith), (c.requires, refl))
+-- the pair of this turn
+pair : (c : In-Some) → let part = c.loop-pair.pair-iterator.rest.now in
+    Good part c.in-Some.pair.now c.next.new.self.rest.now c.in-Some.ensures.steps.1.0 (c.in-Some.ensures.steps.1.1 ∙ c.loop-pair.invariant.size) (length c.args.cells.now)
+pair c = good _ _ _ _ _ _ c.loop-pair.invariant.good
 
 pub overflow_cast-cells : goal.overflow_cast-cells
 overflow_cast-cells c =
-    let value' : c.place_of.result ≡ place_of 0 (number c.args.numbers.now (c.loop-at.at + 1)) = let g : SFits w64 (number c.args.numbers.now (c.loop-at.at + 1)) = search rules in
-    (rw (to_z-of_z g) at c.place_of.ensures) in
-    omega (arith, value', value_fits _ _ _ c.loop-at-test.true c.loop-at.invariant.1.0)
+    let g : FitsSigned w64 (slice_index_or c.in-Some.pair.now 1 (pos 0)) = search rules in
+    let p = pair (goal.at.overflow_cast-cells c).In-Some in
+    rw (to_z-of_z g, p.value_is) (tt, record { fits = omega (arith, p.value_fits) })
 
-pub offset_bounds-cells-cell : goal.offset_bounds-cells-cell
-offset_bounds-cells-cell c =
-    let place' : c.place_of-cell.result ≡ place_of 0 (number c.args.numbers.now c.loop-at.at) = let g : SFits w64 (number c.args.numbers.now c.loop-at.at) = search rules in
-    (rw (to_z-of_z g) at c.place_of-cell.ensures) in
-    omega (arith, place', cell_there _ _ _ c.loop-at-test.true c.loop-at.invariant.1.0, c.loop-at.invariant.0.0)
+pub overflow_cast-cells-in-loop-pair : goal.overflow_cast-cells-in-loop-pair
+overflow_cast-cells-in-loop-pair c =
+    let g : FitsSigned w64 (slice_index_or c.in-Some.pair.now 0 (pos 0)) = search rules in
+    let p = pair (goal.at.overflow_cast-cells-in-loop-pair c).In-Some in
+    rw (to_z-of_z g, p.address_is) (tt, record { fits = omega (arith, p.cell_there) })
 
-pub bounds-cells-cell : goal.bounds-cells-cell
-bounds-cells-cell c =
-    let place' : c.place_of-cell.result ≡ place_of 0 (number c.args.numbers.now c.loop-at.at) = let g : SFits w64 (number c.args.numbers.now c.loop-at.at) = search rules in
-    (rw (to_z-of_z g) at c.place_of-cell.ensures) in
-    omega (arith, place', cell_there _ _ _ c.loop-at-test.true c.loop-at.invariant.1.0, c.loop-at.invariant.0.0)
+pub offset_bounds-cells-pair : goal.offset_bounds-cells-pair
+offset_bounds-cells-pair c =
+    let g : FitsSigned w64 (slice_index_or c.in-Some.pair.now 0 (pos 0)) = search rules in
+    let p = pair (goal.at.offset_bounds-cells-pair c).In-Some in
+    rw (to_z-of_z g, p.address_is) (record { fits = omega (arith, p.cell_there) })
 
-pub loop-at-preserved : goal.loop-at-preserved
-loop-at-preserved c =
-    let place' : c.place_of-cell.result ≡ place_of 0 (number c.args.numbers.now c.loop-at.at) = let g : SFits w64 (number c.args.numbers.now c.loop-at.at) = search rules in
-    (rw (to_z-of_z g) at c.place_of-cell.ensures) in
-    let value' : c.place_of.result ≡ place_of 0 (number c.args.numbers.now (c.loop-at.at + 1)) = let g : SFits w64 (number c.args.numbers.now (c.loop-at.at + 1)) = search rules in
-    (rw (to_z-of_z g) at c.place_of.ensures) in (
-      (simp length-set c.loop-at.invariant.0.0, omega (arith, c.loop-at-test.true)),
-      (
-        good_left _ _ _ c.loop-at-test.true c.loop-at.invariant.1.0,
-        rw (place', value') (pair_written _ _ _ c.loop-at-test.true c.loop-at.invariant.1.0 _) ∙ c.loop-at.invariant.1.1,
-      ),
-    )
+pub bounds-cells-pair : goal.bounds-cells-pair
+bounds-cells-pair c =
+    let g : FitsSigned w64 (slice_index_or c.in-Some.pair.now 0 (pos 0)) = search rules in
+    let p = pair (goal.at.bounds-cells-pair c).In-Some in
+    rw (to_z-of_z g, p.address_is) (omega (arith, p.cell_there))
 
-pub shape_of-cells : goal.shape_of-cells
-shape_of-cells c = c.loop-at.invariant.0.0
+pub loop-pair-preserved : goal.loop-pair-preserved
+loop-pair-preserved c =
+    let g : FitsSigned w64 (slice_index_or c.in-Some.pair.now 0 (pos 0)) = search rules in
+    let h : FitsSigned w64 (slice_index_or c.in-Some.pair.now 1 (pos 0)) = search rules in
+    let k = c.loop-pair.invariant in
+    let p = pair (goal.at.loop-pair-preserved c).In-Some in
+    record {
+      size = c.in-Some.ensures.steps.0 ∙ k.size;
+      cells = simp length-set k.cells;
+      good = p.rest_good;
+      rest = rw (to_z-of_z g, to_z-of_z h, p.address_is, p.value_is) (p.written _) ∙ k.rest;
+    }
 
 pub returns : goal.returns
-returns c = sym (at_end _ _ c.loop-at-test.false 0 _).1 ∙ c.loop-at.invariant.1.1
+returns c = let k = c.loop-pair.invariant in sym (none_left _ (rw k.size at c.in-None.ensures.steps.1.0) 0 _).1 ∙ k.rest

@@ -1,14 +1,13 @@
--- The definitions from number i on give what all of them give.
-use Prim.Native.Nat.{◌-◌, ◌/◌, ◌≤◌}
-use mathlib.Core.Path.{◌≡◌}
-use lib.ListN.{length}
+-- The definitions that are left give what all of them give.
+use Rattle.std.specs.Prelude.{◌≡◌}
+use Rattle.std.specs.Slice.Iter.{chunks_exact_rest, chunks_exact_size}
 use Rattle.definition.specs.Cells.{lookup}
 use Rattle.functions.specs.Parts.{definitions_in}
-use Rattle.typed.proofs.Lookup.{rest}
 use Rattle.typed.proofs.find_past_void.Given as goal
 
-abbrev pub invariant-loop-i : goal.invariant-loop-i
-invariant-loop-i l = (l.i ≤ length l.defs / 8) × (lookup (rest l.defs l.i) l.wanted ≡ lookup (definitions_in l.defs) l.wanted)
-
-abbrev pub decreases-loop-i : goal.decreases-loop-i
-decreases-loop-i l = length l.defs / 8 - l.i
+abbrev pub invariant-loop-definition : goal.invariant-loop-definition
+invariant-loop-definition l =
+    (goal.iterator-loop-definition).can_next l.definition-iterator
+    × (goal.iterator-loop-definition).is_finite l.definition-iterator
+    × (chunks_exact_size l.definition-iterator ≡ 8)
+    × (lookup (definitions_in (chunks_exact_rest l.definition-iterator)) l.wanted ≡ lookup (definitions_in l.defs) l.wanted)

@@ -1,19 +1,23 @@
--- `writer::write_functions` meets its contract. The loop's invariant: what is left to be put is the functions from number i on. The measure is how many
--- they are. Assumes nothing.
-use native.Mathlib.Omega.{arith}
-use Rattle.functions.specs.PartLaws.{record_ends}
-use Rattle.text.specs.Output.{rest_all}
-use Rattle.writer.proofs.Functions.{from_first, function_room, function_less, functions_put}
+-- `writer::write_functions` meets its contract: each turn writes the function of the next piece. Assumes nothing.
+use Rattle.std.proofs.Common.{◌∙◌, rules}
+use Rattle.text.specs.Writing.{left_all, next_room, left_next, left_none}
+use Rattle.writer.proofs.Functions.{next_function, no_function}
 use Rattle.writer.proofs.write_functions.Goals as goal
 
-pub loop-i-init : goal.loop-i-init
-loop-i-init c = (omega arith, rest_all c.requires (from_first _ _))
+pub loop-function-init : goal.loop-function-init
+loop-function-init c = record { size = search rules; left = left_all (cc) }
 
-pub write_function-next-requires : goal.write_function-next-requires
-write_function-next-requires c = record { from_in_bounds = record_ends 36 _ _ (omega arith) c.loop-i-test.true; room = function_room _ _ _ c.loop-i-test.true c.loop-i.invariant.1 }
+pub write_function-requires-clause-room : goal.write_function-requires-clause-room
+write_function-requires-clause-room c =
+    let k = c.loop-function.invariant in
+    let step = c.in-Some.ensures.steps in
+    next_room _ _ (next_function _ k.left _ _ step.1.0 (step.1.1 ∙ k.size)) c.requires
 
-pub loop-i-preserved : goal.loop-i-preserved
-loop-i-preserved c = (omega arith, function_less _ _ _ c.loop-i-test.true c.loop-i.invariant.1 c.write_function-next.ensures)
+pub loop-function-preserved : goal.loop-function-preserved
+loop-function-preserved c =
+    let k = c.loop-function.invariant in
+    let step = c.in-Some.ensures.steps in
+    record { size = step.0 ∙ k.size; left = left_next (next_function _ k.left _ _ step.1.0 (step.1.1 ∙ k.size)) c.write_function.ensures }
 
 pub returns : goal.returns
-returns c = functions_put _ _ _ _ _ c.loop-i-test.false c.loop-i.invariant.1
+returns c = let k = c.loop-function.invariant in left_none (no_function _ k.left (rw k.size at c.in-None.ensures.steps.1.0))

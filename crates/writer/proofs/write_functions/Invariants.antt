@@ -1,16 +1,14 @@
--- `writer::write_functions` meets its contract. The loop's invariant: what is left to be put is the functions from number i on. The measure is how many
--- they are. Assumes nothing.
-use Prim.Native.Nat.{◌/◌, ◌-◌, ◌≤◌}
-use mathlib.Core.Path.{◌≡◌}
-use lib.ListN.{length}
+-- `writer::write_functions` meets its contract. The loop's invariant: what is left to be written is the functions in what is left of the part. Assumes nothing.
+use Rattle.std.specs.Slice.Iter.{chunks_exact_rest, chunks_exact_size}
+use Rattle.std.proofs.Common.{◌≡◌}
 use Rattle.definition.specs.Written.{function_bytes, bytes_of}
 use Rattle.functions.specs.Parts.{functions_in}
-use Rattle.text.specs.Output.{output, Rest}
-use Rattle.writer.proofs.Functions.{from_on}
+use Rattle.text.specs.Writing.{Left}
 use Rattle.writer.proofs.write_functions.Given as goal
 
-abbrev pub invariant-loop-i : goal.invariant-loop-i
-invariant-loop-i l = ((l.i ≤ length l.functions / 36) × (length l.out ≡ length l.initial.out)) × Rest (bytes_of function_bytes (functions_in l.functions)) (from_on l.functions (length l.functions / 36) l.i) (output l.initial.out l.at) (output l.out l.next)
-
-abbrev pub decreases-loop-i : goal.decreases-loop-i
-decreases-loop-i l = length l.functions / 36 - l.i
+abbrev pub invariant-loop-function : goal.invariant-loop-function
+invariant-loop-function l =
+    record {
+      size : chunks_exact_size l.function-iterator ≡ 36;
+      left : Left (bytes_of function_bytes (functions_in l.functions)) (bytes_of function_bytes (functions_in (chunks_exact_rest l.function-iterator))) l.initial.out l.out;
+    }

@@ -1,41 +1,22 @@
--- `writer::write_header` meets its contract: each call puts the next two numbers. Assumes nothing.
-use native.Mathlib.Omega.{arith}
+-- `writer::write_header` meets its contract: each turn writes the next number. Assumes nothing.
+use Rattle.std.proofs.Common.{arith}
 use Rattle.definition.specs.Written.{header_numbers}
-use Rattle.writer.proofs.Headers.{all_left, two_room, two_less, one_room, one_put}
+use Rattle.text.specs.Writing.{next_room, left_next, left_none}
+use Rattle.writer.proofs.Numbers.{next_number, no_number, small_number}
 use Rattle.writer.proofs.write_header.Goals as goal
 
-pub write_two-at-requires : goal.write_two-at-requires
+pub overflow_cast-number : goal.overflow_cast-number
 unfolding header_numbers
-write_two-at-requires c = record { room = two_room _ _ _ (all_left c.args.check c.args.r c.args.out.now c.requires.in_bounds); a_bound = omega arith }
-
-pub write_two-at-requires-2 : goal.write_two-at-requires-2
-unfolding header_numbers
-write_two-at-requires-2 c = record { room = two_room _ _ _ (two_less _ _ _ (all_left c.args.check c.args.r c.args.out.now c.requires.in_bounds) c.write_two-at.ensures); a_bound = c.requires.small.statements }
-
-pub write_two-at-requires-3 : goal.write_two-at-requires-3
-unfolding header_numbers
-write_two-at-requires-3 c = record { room = two_room _ _ _ (two_less _ _ _ (two_less _ _ _ (all_left c.args.check c.args.r c.args.out.now c.requires.in_bounds) c.write_two-at.ensures) c.write_two-at-2.ensures); a_bound = c.requires.small.globaldefs }
-
-pub write_two-at-requires-4 : goal.write_two-at-requires-4
-unfolding header_numbers
-write_two-at-requires-4 c = record { room = two_room _ _ _ (two_less _ _ _ (two_less _ _ _ (two_less _ _ _ (all_left c.args.check c.args.r c.args.out.now c.requires.in_bounds) c.write_two-at.ensures) c.write_two-at-2.ensures) c.write_two-at-3.ensures); a_bound = c.requires.small.fielddefs }
-
-pub write_two-at-requires-5 : goal.write_two-at-requires-5
-unfolding header_numbers
-write_two-at-requires-5 c = record { room = two_room _ _ _ (two_less _ _ _ (two_less _ _ _ (two_less _ _ _ (two_less _ _ _ (all_left c.args.check c.args.r c.args.out.now c.requires.in_bounds) c.write_two-at.ensures) c.write_two-at-2.ensures) c.write_two-at-3.ensures) c.write_two-at-4.ensures); a_bound = c.requires.small.functions }
-
-pub write_two-at-requires-6 : goal.write_two-at-requires-6
-unfolding header_numbers
-write_two-at-requires-6 c = record { room = two_room _ _ _ (two_less _ _ _ (two_less _ _ _ (two_less _ _ _ (two_less _ _ _ (two_less _ _ _ (all_left c.args.check c.args.r c.args.out.now c.requires.in_bounds) c.write_two-at.ensures) c.write_two-at-2.ensures) c.write_two-at-3.ensures) c.write_two-at-4.ensures) c.write_two-at-5.ensures); a_bound = c.requires.small.strings }
-
-pub write_two-at-requires-7 : goal.write_two-at-requires-7
-unfolding header_numbers
-write_two-at-requires-7 c = record { room = two_room _ _ _ (two_less _ _ _ (two_less _ _ _ (two_less _ _ _ (two_less _ _ _ (two_less _ _ _ (two_less _ _ _ (all_left c.args.check c.args.r c.args.out.now c.requires.in_bounds) c.write_two-at.ensures) c.write_two-at-2.ensures) c.write_two-at-3.ensures) c.write_two-at-4.ensures) c.write_two-at-5.ensures) c.write_two-at-6.ensures); a_bound = c.requires.small.globals }
+overflow_cast-number c = small_number c.args.check c.args.r (omega arith) c.requires.small c.loop-number.number-index
 
 pub write_u32-requires : goal.write_u32-requires
 unfolding header_numbers
-write_u32-requires c = one_room _ (two_less _ _ _ (two_less _ _ _ (two_less _ _ _ (two_less _ _ _ (two_less _ _ _ (two_less _ _ _ (two_less _ _ _ (all_left c.args.check c.args.r c.args.out.now c.requires.in_bounds) c.write_two-at.ensures) c.write_two-at-2.ensures) c.write_two-at-3.ensures) c.write_two-at-4.ensures) c.write_two-at-5.ensures) c.write_two-at-6.ensures) c.write_two-at-7.ensures)
+write_u32-requires c = next_room _ _ (next_number c.args.check c.args.r _ c.loop-number.invariant c.loop-number-test.true) c.requires.room
+
+pub loop-number-preserved : goal.loop-number-preserved
+unfolding header_numbers
+loop-number-preserved c = left_next (next_number c.args.check c.args.r _ c.loop-number.invariant c.loop-number-test.true) c.write_u32.ensures
 
 pub returns : goal.returns
 unfolding header_numbers
-returns c = one_put _ (two_less _ _ _ (two_less _ _ _ (two_less _ _ _ (two_less _ _ _ (two_less _ _ _ (two_less _ _ _ (two_less _ _ _ (all_left c.args.check c.args.r c.args.out.now c.requires.in_bounds) c.write_two-at.ensures) c.write_two-at-2.ensures) c.write_two-at-3.ensures) c.write_two-at-4.ensures) c.write_two-at-5.ensures) c.write_two-at-6.ensures) c.write_two-at-7.ensures) c.write_u32.ensures
+returns c = left_none (no_number c.args.check c.args.r _ c.loop-number.invariant c.loop-number-test.false)

@@ -1,27 +1,28 @@
-use Rattle.progs.proofs.NumberLaws.{by_count, refused_entry, entry_room, accepted_entry}
-use Rattle.progs.proofs.FileLaws.{functions_here}
-use Rattle.progs.specs.Numbers.{entry_of, entering}
+use Rattle.std.proofs.Common.{◌≡◌, Err, rules, refl}
+use Rattle.definition.specs.declared.refusal.Refusal.TheVariants as refusal
+use Rattle.definition.specs.Machine.{entry_conditions}
 use Rattle.definition.specs.Load.{program_of}
-use mir.Facts.{to_z-of_z}
-use mir.Val.{SFits}
-use mir.Syntax.{w64}
-use mathlib.Core.Path.{◌≡◌, ◌∙◌}
-use borrow.Author.Rules.{rules}
+use Rattle.progs.proofs.CallLaws.{entered_config}
+use Rattle.progs.proofs.CopyLaws.{present_more}
+use Rattle.progs.proofs.FileLaws.{function_there, entry_20}
+use Rattle.progs.proofs.OutcomeLaws.{refused_outcome, accepted_outcome}
 use Rattle.progs.proofs.ExecutionContext.enter_function.Goals as goal
 
-pub returns-then-entry-ne0 : goal.returns-then-entry-ne0
-returns-then-entry-ne0 c =
-    let did' : entry_of c.enter_cells-entry.result c.enter_cells-entry.new.cells c.enter_cells-entry.new.store ≡ entering (program_of c.args.file.now) c.args.f c.args.self c.args.cells.now c.args.store.now = c.enter_cells-entry.ensures (program_of c.args.file.now) (functions_here _ _ c.requires.loaded _ c.functions-functions.ensures) ∙ by_count _ _ _ _ _ _ c.cell_count-count.ensures in
-    λ entities. refused_entry _ _ _ _ _ _ _ _ did' c.if-entry-ne0.true entities _ _ c.refused.ensures
+pub returns-then-self-f-clause-outcome : goal.returns-then-self-f-clause-outcome
+returns-then-self-f-clause-outcome c = λ entities. refused_outcome _ _ _ entities _ _ refusal.NoFunction (entry_20 _ _ c.requires.loaded _ _ c.if-self-f.true)
 
-pub push_frame-requires : goal.push_frame-requires
-push_frame-requires c =
-    let did' : entry_of c.enter_cells-entry.result c.enter_cells-entry.new.cells c.enter_cells-entry.new.store ≡ entering (program_of c.args.file.now) c.args.f c.args.self c.args.cells.now c.args.store.now = c.enter_cells-entry.ensures (program_of c.args.file.now) (functions_here _ _ c.requires.loaded _ c.functions-functions.ensures) ∙ by_count _ _ _ _ _ _ c.cell_count-count.ensures in
-    entry_room _ _ _ _ _ _ _ _ did' c.if-entry-ne0.false c.requires.range
+pub returns-in_err-check_entry-clause-outcome : goal.returns-in_err-check_entry-clause-outcome
+unfolding entry_conditions
+returns-in_err-check_entry-clause-outcome c =
+    let r : c.from_residual.result ≡ Err c.in_err-check_entry.field-0.0 = search rules in
+    λ entities. rw r (refused_outcome _ _ _ entities _ _ _ (c.in_err-check_entry.ensures.refusal (program_of c.args.file.now) _ (function_there _ _ c.requires.loaded _ c.if-self-f.false) c.get_def-def.ensures))
 
-pub returns : goal.returns
-returns c =
-    let did' : entry_of c.enter_cells-entry.result c.enter_cells-entry.new.cells c.enter_cells-entry.new.store ≡ entering (program_of c.args.file.now) c.args.f c.args.self c.args.cells.now c.args.store.now = c.enter_cells-entry.ensures (program_of c.args.file.now) (functions_here _ _ c.requires.loaded _ c.functions-functions.ensures) ∙ by_count _ _ _ _ _ _ c.cell_count-count.ensures in
-    let g : SFits w64 c.args.back = search rules in
-    let k : SFits w64 c.enter_cells-entry.result.first = search rules in
-    λ entities. accepted_entry _ _ _ _ _ _ _ _ did' c.if-entry-ne0.false entities _ _ (rw (to_z-of_z g, to_z-of_z k) at c.push_frame.ensures)
+pub move_cells-requires-clause-src_value : goal.move_cells-requires-clause-src_value
+move_cells-requires-clause-src_value c = present_more _ _ _ _ c.requires.lent (c.in_ok-check_entry.ensures.cells refl).0
+
+pub returns-clause-outcome : goal.returns-clause-outcome
+unfolding entry_conditions
+returns-clause-outcome c =
+    λ entities.
+    accepted_outcome _ _ _ entities _ _ (c.in_ok-check_entry.ensures.refusal (program_of c.args.file.now) _ (function_there _ _ c.requires.loaded _ c.if-self-f.false) c.get_def-def.ensures) _ _ _
+    (entered_config _ _ _ _ _ c.get_def-def.ensures _ _ entities _ _ _ (search rules) c.copy_arguments.ensures c.move_cells.ensures)

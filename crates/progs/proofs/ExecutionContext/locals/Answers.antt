@@ -1,6 +1,7 @@
-use Rattle.definition.specs.Load.{program_of}
-use Rattle.progs.proofs.FileLaws.{functions_here}
+use Rattle.std.proofs.Common.{ap}
+use Rattle.progs.specs.Contexts.{range_of}
+use Rattle.progs.proofs.FileLaws.{no_function_there}
 use Rattle.progs.proofs.ExecutionContext.locals.Goals as goal
 
-pub returns : goal.returns
-returns c = c.locals_of.ensures (program_of c.args.file.now) (functions_here _ _ c.requires _ c.functions.ensures)
+pub returns-then-self : goal.returns-then-self
+returns-then-self c = ap range_of (no_function_there _ _ c.requires _ c.if-self.true)

@@ -1,40 +1,30 @@
--- The entered functions that are left, with the sum of the others' local counts, give what all of them give.
-use mathlib.Core.Path.{◌∙◌}
-use native.Mathlib.Omega.{arith}
-use borrow.Author.Rules.{rules}
-use Rattle.progs.proofs.FileLaws.{function_there, function_absent}
-use Rattle.progs.proofs.StateLaws.{add_start, add_absent, add_negative, add_on, add_none}
+use Rattle.std.proofs.Common.{[], ◌∷◌, ◌∙◌, rules, arith, length-append}
+use Rattle.definition.specs.Load.{program_of}
+use Rattle.progs.proofs.FileLaws.{function_absent, function_there}
+use Rattle.progs.proofs.StateLaws.{next_frame, no_frame, add_absent, add_negative, add_on, add_none, add_start}
 use Rattle.progs.proofs.ExecutionContext.locals_add_up.Goals as goal
 
-pub loop-k-init : goal.loop-k-init
-loop-k-init c = (omega arith, add_start _ _)
-
-pub returns-then-count-f : goal.returns-then-count-f
-returns-then-count-f c = add_absent _ _ _ _ _ _ c.loop-k-test.true (function_absent _ _ c.requires.loaded _ (omega arith)) ∙ c.loop-k.invariant.1
-
-pub get_def-def-requires : goal.get_def-def-requires
-get_def-def-requires c = record { loaded = c.requires.loaded; f_lt_count = omega arith }
+pub returns-then-self-f : goal.returns-then-self-f
+returns-then-self-f c =
+    let t = next_frame c.args.self.now.depth c.args.self.now.frames (search rules) _ (search rules) c.loop-frame.yielded _ c.loop-frame.yielded_by _ _ c.next.ensures.steps _ c.in-Some.is in
+    add_absent _ _ _ _ _ _ t.0 (function_absent _ _ c.requires.loaded _ c.if-self-f.true) ∙ c.loop-frame.invariant.1 ∙ add_start (program_of c.args.file.now) c.args.self.now
 
 pub returns-then-def-ge2147483648 : goal.returns-then-def-ge2147483648
-returns-then-def-ge2147483648 c = add_negative _ _ _ _ _ _ c.loop-k-test.true _ (function_there _ _ c.requires.loaded _ (omega arith)) c.get_def-def.ensures (search rules) ∙ c.loop-k.invariant.1
+returns-then-def-ge2147483648 c =
+    let t = next_frame c.args.self.now.depth c.args.self.now.frames (search rules) _ (search rules) c.loop-frame.yielded _ c.loop-frame.yielded_by _ _ c.next.ensures.steps _ c.in-Some.is in
+    add_negative _ _ _ _ _ _ t.0 _ (function_there _ _ c.requires.loaded _ c.if-self-f.false) c.get_def-def.ensures c.if-def-ge2147483648.true
+    ∙ c.loop-frame.invariant.1
+    ∙ add_start (program_of c.args.file.now) c.args.self.now
 
-pub overflow_add-sum : goal.overflow_add-sum
-overflow_add-sum c = omega arith
-
-pub overflow_sub-k : goal.overflow_sub-k
-overflow_sub-k c = omega arith
-
-pub offset_bounds-self-k : goal.offset_bounds-self-k
-offset_bounds-self-k c = omega arith
-
-pub bounds-self-k : goal.bounds-self-k
-bounds-self-k c = omega arith
-
-pub loop-k-smaller : goal.loop-k-smaller
-loop-k-smaller c = omega arith
-
-pub loop-k-preserved : goal.loop-k-preserved
-loop-k-preserved c = (omega arith, add_on _ _ _ _ _ _ c.loop-k-test.true _ (function_there _ _ c.requires.loaded _ (omega arith)) c.get_def-def.ensures (omega arith) ∙ c.loop-k.invariant.1)
+pub loop-frame-preserved : goal.loop-frame-preserved
+loop-frame-preserved c =
+    let t = next_frame c.args.self.now.depth c.args.self.now.frames (search rules) _ (search rules) c.loop-frame.yielded _ c.loop-frame.yielded_by _ _ c.next.ensures.steps _ c.in-Some.is in
+    let n = length-append c.loop-frame.yielded (c.in-Some.frame ∷ []) in (
+      omega (arith, n, c.loop-frame.invariant.0),
+      add_on _ _ _ _ _ _ t.0 _ (function_there _ _ c.requires.loaded _ c.if-self-f.false) c.get_def-def.ensures c.if-def-ge2147483648.false _ _ (omega (arith, n)) t.1 ∙ c.loop-frame.invariant.1,
+    )
 
 pub returns : goal.returns
-returns c = add_none _ _ _ _ _ _ c.loop-k-test.false ∙ c.loop-k.invariant.1
+returns c =
+    let e = no_frame c.args.self.now.depth c.args.self.now.frames (search rules) _ (search rules) c.loop-frame.yielded _ c.loop-frame.yielded_by _ _ c.next.ensures.steps c.in-None.is in
+    add_none (program_of c.args.file.now) _ _ _ _ _ e ∙ c.loop-frame.invariant.1 ∙ add_start (program_of c.args.file.now) c.args.self.now

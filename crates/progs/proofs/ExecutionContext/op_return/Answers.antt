@@ -1,21 +1,22 @@
-use Rattle.progs.proofs.ReturnLaws.{return_by_count, refused_return, return_room, accepted_return}
-use Rattle.progs.proofs.FileLaws.{functions_here}
-use Rattle.progs.specs.Numbers.{leaving_of, returning}
+use Rattle.std.proofs.Common.{◌≡◌, Err, rules, sym, ◌∙◌}
+use Rattle.definition.specs.declared.refusal.Refusal.TheVariants as refusal
+use Rattle.definition.specs.Checks.{judge}
+use Rattle.definition.specs.Machine.{leave_conditions}
 use Rattle.definition.specs.Load.{program_of}
-use mathlib.Core.Path.{◌≡◌, ◌∙◌}
+use Rattle.progs.proofs.OutcomeLaws.{refused_outcome, accepted_outcome}
 use Rattle.progs.proofs.ExecutionContext.op_return.Goals as goal
 
-pub returns-then-leaving-ne0 : goal.returns-then-leaving-ne0
-returns-then-leaving-ne0 c =
-    let did' : leaving_of c.return_cells-leaving.result c.return_cells-leaving.new.cells ≡ returning (program_of c.args.file.now) c.args.a c.args.self c.args.cells.now c.args.store.now = c.return_cells-leaving.ensures (program_of c.args.file.now) (functions_here _ _ c.requires.loaded _ c.functions-functions.ensures) ∙ return_by_count _ _ _ _ _ _ c.cell_count-count.ensures in
-    λ entities. refused_return _ _ _ _ _ _ _ did' c.if-leaving-ne0.true entities _ c.refused.ensures
+pub returns-then-not-in_range-clause-outcome : goal.returns-then-not-in_range-clause-outcome
+unfolding judge
+returns-then-not-in_range-clause-outcome c = λ entities. refused_outcome _ _ _ entities _ _ refusal.Address (rw (sym c.in_range.ensures ∙ c.if-not-in_range.true))
 
-pub pop_frame-requires : goal.pop_frame-requires
-pop_frame-requires c =
-    let did' : leaving_of c.return_cells-leaving.result c.return_cells-leaving.new.cells ≡ returning (program_of c.args.file.now) c.args.a c.args.self c.args.cells.now c.args.store.now = c.return_cells-leaving.ensures (program_of c.args.file.now) (functions_here _ _ c.requires.loaded _ c.functions-functions.ensures) ∙ return_by_count _ _ _ _ _ _ c.cell_count-count.ensures in
-    let r = return_room _ _ _ _ _ _ _ did' c.if-leaving-ne0.false in (r.0, (c.requires.depth, r.1))
+pub returns-in_err-check_leaving-clause-outcome : goal.returns-in_err-check_leaving-clause-outcome
+unfolding judge leave_conditions
+returns-in_err-check_leaving-clause-outcome c =
+    let r : c.from_residual.result ≡ Err c.in_err-check_leaving.field-0.0 = search rules in
+    λ entities. rw r (refused_outcome _ _ _ entities _ _ _ (rw (sym c.in_range.ensures ∙ c.if-not-in_range.false) (c.in_err-check_leaving.ensures.refusal (program_of c.args.file.now) c.locals-locals.ensures)))
 
-pub returns : goal.returns
-returns c =
-    let did' : leaving_of c.return_cells-leaving.result c.return_cells-leaving.new.cells ≡ returning (program_of c.args.file.now) c.args.a c.args.self c.args.cells.now c.args.store.now = c.return_cells-leaving.ensures (program_of c.args.file.now) (functions_here _ _ c.requires.loaded _ c.functions-functions.ensures) ∙ return_by_count _ _ _ _ _ _ c.cell_count-count.ensures in
-    λ entities. accepted_return _ _ _ _ _ _ _ did' c.if-leaving-ne0.false entities _ c.pop_frame.ensures
+pub returns-clause-outcome : goal.returns-clause-outcome
+unfolding judge leave_conditions
+returns-clause-outcome c =
+    λ entities. accepted_outcome _ _ _ entities _ _ (rw (sym c.in_range.ensures ∙ c.if-not-in_range.false) (c.in_ok-check_leaving.ensures.refusal (program_of c.args.file.now) c.locals-locals.ensures)) _ _ _ (rw c.copy_cells.ensures at (c.leave_function.ensures.outcome (program_of c.args.file.now) entities c.locals-locals.ensures))

@@ -1,4 +1,0 @@
-use Rattle.comparisons.proofs.apply_not_v.Goals as goal
-
-pub returns : goal.returns
-returns c = cc

@@ -1,4 +1,0 @@
-use Rattle.comparisons.proofs.apply_nots.Goals as goal
-
-pub returns : goal.returns
-returns c = cc

@@ -1,9 +1,0 @@
-use Rattle.std.proofs.Common.{rules}
-use Rattle.floats.proofs.Whole.{moved_up}
-use Rattle.floats.proofs.scaled_up.Goals as goal
-
-pub wide-requires : goal.wide-requires
-wide-requires c = tt
-
-pub returns : goal.returns
-returns c = moved_up c.args.x c.requires.0 c.requires.1 c.wide.result c.wide.ensures

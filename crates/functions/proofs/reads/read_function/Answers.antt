@@ -1,5 +1,0 @@
-use borrow.Author.Rules.{rules}
-use Rattle.functions.proofs.reads.read_function.Goals as goal
-
-pub returns : goal.returns
-returns c = cc
