@@ -93,6 +93,7 @@ pub fn reply_read(context: ExecutionContext, answer: Result<u32, Refusal>) -> Re
     }
 }
 
+// By a `match`, here and below: what an answer holds differs from case to case.
 fn reply_handover(context: ExecutionContext, handed: Handover, count: u32) -> Replied
     ensures { result ≡ answering context (handover_reply handed count) }
 {

@@ -156,6 +156,7 @@ fn callee_of(functions: &[u8], value: u32) -> Result<Callee, Refusal>
     Ok(Callee::Function(f))
 }
 
+// Whichever number the file has there.
 #[tactic(auto, using(crate::proofs::Transfers::does_builtin))]
 fn builtin(n: u32) -> Callee
     ensures { (g : Types) (p : ℤ) (cells : List ℕ) → called_does result g p cells ≡ builtin_does (rounding_of n) n g p cells }
@@ -213,7 +214,8 @@ fn operands(s: Statement) -> Operands
     }
 }
 
-// The statement k, beside so many entities. The bytes and what the state records of them come apart, as in the C interface.
+// The statement k, beside so many entities. The bytes and what the state records of them come apart, as in the C interface, and
+// `Usable`, which each function that takes them asks for, is what relates them.
 #[inline(always)]
 #[tactic(auto, using(crate::proofs::ByShape::by_shape))]
 pub fn execute(

@@ -49,7 +49,8 @@ pub enum Shape {
 // Bit k is that of opcode k: whether it makes a float of two floats.
 const FLOATS: u64 = 0xc000_0000_00f0_8562;
 
-// The commonest shape, by a test of one bit: a jump by opcode costs twice as much, and the operation needs one of its own.
+// The commonest shape, by a test of one bit: a jump by opcode costs twice as much, and the operation needs one of its own. A load lets no opcode through that isn't
+// below 66, and so this and the next two ask for no other.
 #[tactic(auto, using(crate::proofs::Opcodes::bit_and_is, crate::proofs::Opcodes::other_bit_is))]
 pub fn is_floats(op: u16) -> bool
     requires { op < 66 }

@@ -198,7 +198,7 @@ pub fn not_n(a: u32) -> u32
     flag(a == 0)
 }
 
-// ---- by opcode, which may be any number and so is no enum: 0 where it is none of those here
+// ---- by opcode, which may be any number and so is no enum: 0 where it is none of those here. By a `match`: a table would hand functions out
 
 // Two floats: the result of MulF, Div, AddF, SubF, the comparisons, And, Or, BitAnd, BitOr.
 #[tactic(auto, using(crate::proofs::Opcodes::float_by_number, std::proofs::lemmas::Bool::Decides::nat_tests))]

@@ -67,7 +67,7 @@ pub fn signed(bits: u16) -> i64
     i64::from(bits.cast_signed())
 }
 
-// The position after statement k: no lump has more records than the bound.
+// The position after statement k: no lump has more records than the bound, which is asked here and of each branch; a type for so small a number would say no more.
 pub fn after(k: usize) -> i64
     requires { k < 2147483648 }
     ensures { result ≡ pos k +ℤ pos 1 }

@@ -8,7 +8,8 @@ use definition::{
     DEFINITION_SIZE, Definition, FUNCTION_SIZE, FunctionDef, STATEMENT_SIZE, Statement,
 };
 
-// A number or a record of the file: how many bytes it takes, and what they say, which no other byte changes.
+// A number or a record of the file: how many bytes it takes, and what they say, which no other byte changes. That the bytes are there is asked of each read, here
+// and in the header: cutting an array out first would ask the same.
 pub trait FromBytes: Copy {
     const SIZE: usize;
 
@@ -144,6 +145,7 @@ pub fn read_definition(file: &[u8], at: usize) -> Definition
     }
 }
 
+// The sizes stand in the record as an array.
 fn read_argsz(file: &[u8], at: usize) -> [u8; 8]
     requires { at + 8 ≤ length file.now }
     ensures { result ≡ records (byte_at file.now) 1 8 at }

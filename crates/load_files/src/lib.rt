@@ -59,6 +59,7 @@ fn write_lumps(out: &mut Writer<'_>, seed: u32, n: usize)
     requires { Room (lumps_for seed n) (at_place out.old) }
     ensures { Wrote (lumps_for seed n) out.old out.new }
 {
+    // The lump of both, whose length is fixed.
     let mut functions = [0u8; 2 * FUNCTION_SIZE];
     functions[FUNCTION_SIZE] = 1;
     let s = draws::skip(seed, DRAWN_COUNT);

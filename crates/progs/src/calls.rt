@@ -19,7 +19,8 @@ pub struct Locals {
 }
 
 impl ExecutionContext {
-    // The record of a function that is there.
+    // The record of a function that is there. That the bytes are those that the context records, which come apart as in the C interface, is asked by each method
+    // that reads them.
     pub(crate) fn get_def(&self, file: &[u8], f: usize) -> FunctionDef
         requires loaded { Loaded file.now self.now.file }
         requires f_lt_count { f < self.now.file.functions.count }

@@ -36,7 +36,7 @@ fn untyped_cells(recorded: FileRecord) -> usize
     }
 }
 
-// What the statement at a position does; one that writes cells or entity cells has done so.
+// What the statement at a position does; one that writes cells or entity cells has done so. By a `match` on two opcodes: a table would hand functions out.
 #[tactic(auto, using(crate::proofs::StepLaws::statements))]
 fn does(
     file: &[u8],

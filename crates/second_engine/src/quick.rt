@@ -16,7 +16,7 @@ pub struct Turns {
     pub count: u32,
 }
 
-// What arithmetic and comparisons make of two floats. `floats::float_op` in its place would be a call in the loop, which misses the bars of speed.
+// What arithmetic and comparisons make of two floats, if the opcode, any that the buffer has, is one of them. `floats::float_op` in its place would be a call in the loop, which misses the bars of speed.
 #[tactic(auto, unfolding(definition::specs::Statements::opcodes, definition::specs::Statements::shape_of, floats::specs::Opcodes::float_op))]
 fn common_op(op: u16, a: u32, b: u32) -> Option<u32>
     ensures { IfSome result (λ v. (is_floats (shape_of op) ≡ true) × (v ≡ float_op op a b)) }
@@ -36,7 +36,7 @@ fn common_op(op: u16, a: u32, b: u32) -> Option<u32>
     })
 }
 
-// Does the statement at a position, if it is a common one and its operands are below `untyped`, the cells that pass as floats. Its result is the position
+// The buffer may be longer than the statements, whose number is the file's. Does the statement at a position, if it is a common one and its operands are below `untyped`, the cells that pass as floats. Its result is the position
 // after it.
 #[tactic(auto, using(crate::proofs::QuickLaws::index_below))]
 fn do_one(buffer: &[u16], count: usize, untyped: usize, cells: &mut [u32], pc: i64) -> Option<i64>

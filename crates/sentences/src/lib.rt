@@ -68,7 +68,7 @@ pub fn compose(
     compose_five(display, answer, detail, count, position, function)
 }
 
-// An outcome that has the word of this number, by which an exported function has it. Its own number is 0.
+// An outcome that has the word of this number, of which each makes another, and by which an exported function has it. Its own number is 0.
 #[tactic(auto, unfolding(crate::specs::Sentence::word_numbered))]
 fn outcome_worded(word: u32) -> RunAnswer
     ensures { outcome_word result ≡ word_numbered word }

@@ -33,7 +33,7 @@ enum Line {
     Run(Answer),
 }
 
-// An answer by its kind and number.
+// An answer by its kind and number, as the line has them: each kind makes something else of the number.
 fn answer(kind: u32, n: u32) -> Result<Answer, LineError> {
     match kind {
         0 => Ok(Ok(Executed::Next(fetch::signed(u16::try_from(n)?)))),

@@ -35,7 +35,8 @@ pub fn fetch(buffer: &[u16], count: usize, pc: i64) -> Result<(usize, Statement)
     fetch::fetch_by(count, pc, |k| read_statement(buffer, UNPACKED_SIZE * k))
 }
 
-// Unpacks the file's statements. The lent cells, store and entity cells are looked at by check 13 alone.
+// Unpacks the file's statements. The lent cells, store and entity cells are looked at by check 13 alone. They
+// come as plain slices, as in the C interface.
 #[tactic(auto, using(progs::proofs::StateLaws::passed, functions::specs::Laws::lump_fitting, crate::proofs::Unpacking::written, crate::proofs::Unpacking::refused_13, crate::proofs::Unpacking::refused_37, crate::proofs::Unpacking::unpacked))]
 pub fn unpack(
     context: &ExecutionContext,
