@@ -1,5 +1,5 @@
-// The functions of a file (functions.rs, Functions) as a view that holds the lent bytes. Its readers take it apart and call a covered function on the
-// slice and the numbers, which callers that hold no view call too.
+// The functions of a file (functions.rs, Functions) as a view that holds the lent bytes. Each of its readers stands a second time with plain parameters,
+// for callers that hold no view: these make one and read through it.
 // The bytes and what a state records of them come apart, as in the C interface.
 #![tactic(auto)]
 
@@ -7,7 +7,7 @@ ghost use Rattle.std.specs.Prelude.{◌≡◌, ◌≤◌, true, false, length, M
 ghost use Rattle.definition.specs.File.{lump_fits};
 ghost use Rattle.definition.specs.Refusals.{checked};
 ghost use Rattle.functions.specs.Parts.{part_of};
-ghost use Rattle.view.specs.Records.{statement_in, function_in, definition_at, definition_in, field_in};
+ghost use Rattle.view.specs.Records.{statement_in, function_in, definition_in, field_in};
 
 use definition::refusal::Refusal;
 use definition::{
@@ -23,26 +23,6 @@ pub struct Functions<'a> {
     pub recorded: FileRecord,
 }
 
-impl<'a> Functions<'a> {
-    pub fn statement(self, pc: i64) -> Result<(usize, Statement), Refusal>
-        ensures { checked result ≡ statement_in self.entry.file.now self.entry.recorded pc }
-    {
-        read_statement(self.file, self.recorded, pc)
-    }
-
-    pub fn function(self, id: i64) -> Result<FunctionDef, Refusal>
-        ensures { checked result ≡ function_in self.entry.file.now self.entry.recorded id }
-    {
-        read_function(self.file, self.recorded, id)
-    }
-
-    pub fn definition(self, index: i64) -> Result<Option<Definition>, Refusal>
-        ensures { checked result ≡ definition_in self.entry.file.now self.entry.recorded index }
-    {
-        read_definition(self.file, self.recorded, index)
-    }
-}
-
 // The records of a lump, which the state may record otherwise than these bytes have it.
 fn lent(file: &[u8], size: usize, lump: Lump) -> Result<&[u8], Refusal>
     requires { size ≤ 36 }
@@ -55,7 +35,43 @@ fn lent(file: &[u8], size: usize, lump: Lump) -> Result<&[u8], Refusal>
     }
 }
 
-// The statement at a position, and its index.
+impl<'a> Functions<'a> {
+    // The statement at a position, and its index.
+    pub fn statement(self, pc: i64) -> Result<(usize, Statement), Refusal>
+        ensures { checked result ≡ statement_in self.entry.file.now self.entry.recorded pc }
+    {
+        let lump = self.recorded.statements;
+        fetch::fetch(lent(self.file, STATEMENT_SIZE, lump)?, pc)
+    }
+
+    pub fn function(self, id: i64) -> Result<FunctionDef, Refusal>
+        ensures { checked result ≡ function_in self.entry.file.now self.entry.recorded id }
+    {
+        let lump = self.recorded.functions;
+        let functions = lent(self.file, FUNCTION_SIZE, lump)?;
+        let f = fetch::place_of(lump.count, id);
+        if f < lump.count {
+            Ok(functions::get_def(functions, f))
+        } else {
+            Err(Refusal::NoFunction)
+        }
+    }
+
+    // A global definition, by its index.
+    pub fn definition(self, index: i64) -> Result<Option<Definition>, Refusal>
+        ensures { checked result ≡ definition_in self.entry.file.now self.entry.recorded index }
+    {
+        let lump = self.recorded.globaldefs;
+        let defs = lent(self.file, DEFINITION_SIZE, lump)?;
+        let i = fetch::place_of(lump.count, index);
+        if i < lump.count {
+            Ok(Some(reads::read_definition(defs, DEFINITION_SIZE * i)))
+        } else {
+            Ok(None)
+        }
+    }
+}
+
 pub fn read_statement(
     file: &[u8],
     recorded: FileRecord,
@@ -63,37 +79,17 @@ pub fn read_statement(
 ) -> Result<(usize, Statement), Refusal>
     ensures { checked result ≡ statement_in file.now recorded pc }
 {
-    let lump = recorded.statements;
-    fetch::fetch(lent(file, STATEMENT_SIZE, lump)?, pc)
+    let view = Functions { file, recorded };
+    view.statement(pc)
 }
 
 pub fn read_function(file: &[u8], recorded: FileRecord, id: i64) -> Result<FunctionDef, Refusal>
     ensures { checked result ≡ function_in file.now recorded id }
 {
-    let lump = recorded.functions;
-    let functions = lent(file, FUNCTION_SIZE, lump)?;
-    let f = fetch::place_of(lump.count, id);
-    if f < lump.count {
-        Ok(functions::get_def(functions, f))
-    } else {
-        Err(Refusal::NoFunction)
-    }
+    let view = Functions { file, recorded };
+    view.function(id)
 }
 
-// A definition of a lump, by its index.
-fn definition_at(file: &[u8], lump: Lump, index: i64) -> Result<Option<Definition>, Refusal>
-    ensures { checked result ≡ definition_at file.now lump index }
-{
-    let defs = lent(file, DEFINITION_SIZE, lump)?;
-    let i = fetch::place_of(lump.count, index);
-    if i < lump.count {
-        Ok(Some(reads::read_definition(defs, DEFINITION_SIZE * i)))
-    } else {
-        Ok(None)
-    }
-}
-
-// A global definition.
 pub fn read_definition(
     file: &[u8],
     recorded: FileRecord,
@@ -101,9 +97,11 @@ pub fn read_definition(
 ) -> Result<Option<Definition>, Refusal>
     ensures { checked result ≡ definition_in file.now recorded index }
 {
-    definition_at(file, recorded.globaldefs, index)
+    let view = Functions { file, recorded };
+    view.definition(index)
 }
 
+// A field definition, by its index: a global one of a record that has the field definitions in the place of the global ones.
 pub fn read_field(
     file: &[u8],
     recorded: FileRecord,
@@ -111,5 +109,8 @@ pub fn read_field(
 ) -> Result<Option<Definition>, Refusal>
     ensures { checked result ≡ field_in file.now recorded index }
 {
-    definition_at(file, recorded.fielddefs, index)
+    let defs = recorded.fielddefs;
+    let mut fields = recorded;
+    fields.globaldefs = defs;
+    read_definition(file, fields, index)
 }

@@ -2,7 +2,7 @@ use Rattle.std.proofs.Common.{◌≡◌, rules, ◌∙◌, to_z-of_z}
 use Rattle.definition.specs.Checks.{refused}
 use Rattle.definition.specs.Refusals.{checked}
 use Rattle.view.proofs.Finding.{definition_outside, definition_absent_law, definition_there, definition_ends}
-use Rattle.view.proofs.definition_at.Goals as goal
+use Rattle.view.proofs.Functions.definition.Goals as goal
 
 pub returns-in_err-defs : goal.returns-in_err-defs
 returns-in_err-defs c = let h : checked c.from_residual.result ≡ refused 4 = search rules in h ∙ definition_outside _ _ _ c.in_err-defs.ensures.0
