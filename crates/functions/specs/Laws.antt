@@ -1,7 +1,7 @@
 -- LAWS of the definition's records, header and fetch, for this crate and those above. Assumes nothing.
-use Rattle.std.specs.Prelude.{ℕ, zero, suc, ◌+◌, ◌*◌, ◌≤◌, ◌<◌, ◌≡◌, List, ◌∷◌, Some, None, Bool, true, false, not, ◌&&◌, ◌||◌, cond, length, get_or, leb, ltb, ℤ, pos, negsuc}
+use Rattle.std.specs.Prelude.{ℕ, zero, suc, ◌+◌, ◌*◌, ◌≤◌, ◌<◌, ◌≡◌, List, ◌∷◌, Some, None, Bool, true, false, not, ◌&&◌, ◌||◌, length, get_or, leb, ltb, ℤ, pos, negsuc}
 use Rattle.std.proofs.Math.Path.{refl}
-use Rattle.std.proofs.Common.{sym, ap, true≢false, mul-le-mul_left, arith, ltb-true, ltb-false, leb-true, leb-false, eqb-true, ne_eqb}
+use Rattle.std.proofs.Common.{sym, ap, true≢false, mul-le-mul_left, arith, ltb-true, leb-true, leb-false, eqb-true, ne_eqb}
 use Rattle.std.proofs.lemmas.Bool.{lt-leb, not-true, and_parts}
 use Rattle.definition.specs.declared.Lump.{Lump}
 use Rattle.definition.specs.declared.FileRecord.{FileRecord}
@@ -14,10 +14,14 @@ use Rattle.definition.specs.Load.{same_lump, same_file, recorded_in, program_wit
 use Rattle.definition.specs.Machine.{function_of, entities_fit}
 use Rattle.definition.specs.Statements.{Does, Entities, refuses, or_refused, place_of, statement_at, fetch_conditions, execute, does_at}
 use Rattle.functions.specs.Answers.{function_id, found, fetched}
+use Rattle.functions.specs.Numbers as numbers
 
 -- ---- tests
 
-either : (a b : Bool) → (a || b) ≡ true → a ≡ false → b ≡ true
+pub both : (a b : Bool) → (a && b) ≡ true → (a ≡ true) × (b ≡ true)
+both a b e = and_parts a b e
+
+pub either : (a b : Bool) → (a || b) ≡ true → a ≡ false → b ≡ true
 either true b e f = absurd (true≢false f)
 either false b e f = e
 
@@ -203,19 +207,18 @@ module _ (file : List ℕ) where
 
 pub function_found : (value count f : ℕ) → Some f ≡ function_id value count → (f ≡ value) × (f < count)
 unfolding function_id
-function_found value count f e = by (ltb value count) refl e
-  where
-    by : (t : Bool) → ltb value count ≡ t → Some f ≡ cond t (Some value) None → (f ≡ value) × (f < count)
-    by true q e = let h : f ≡ value = cc in (h, rw h (ltb-true _ _ q))
-    by false q e = let z : ◌≡◌ {A = ℕ} 0 1 = cc in absurd (omega arith)
+function_found value count f e = numbers.found Some None (λ i j h. cc) (λ i h. numbers.no_equation (cc)) value count f (ltb value count) refl e
 
 pub function_missing : (value count : ℕ) → None ≡ function_id value count → count ≤ value
 unfolding function_id
-function_missing value count e = by (ltb value count) refl e
-  where
-    by : (t : Bool) → ltb value count ≡ t → None ≡ cond t (Some value) None → count ≤ value
-    by true q e = let z : ◌≡◌ {A = ℕ} 0 1 = cc in absurd (omega arith)
-    by false q e = ltb-false _ _ q
+function_missing value count e = numbers.missing Some None (λ i j h. cc) (λ i h. numbers.no_equation (cc)) value count (ltb value count) refl e
+
+-- a string's number is told from none by the same test, at the length of the strings
+pub string_found : (value length s : ℕ) → Some s ≡ function_id value length → (s ≡ value) × (s < length)
+string_found value length s e = function_found value length s e
+
+pub string_missing : (value length : ℕ) → None ≡ function_id value length → length ≤ value
+string_missing value length e = function_missing value length e
 
 -- ---- the fetch
 
