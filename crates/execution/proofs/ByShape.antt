@@ -1,14 +1,14 @@
 -- Laws of execution by shape. Assumes nothing.
 use Rattle.std.specs.Prelude.{ℕ, List, length, Bool, true, Result, Ok, Err, ℤ, pos, ◌+ℤ◌}
-use Rattle.std.proofs.Common.{◌≡◌, refl, sym, ap, ◌∙◌}
+use Rattle.std.proofs.Common.{◌≡◌, refl, ap, ◌∙◌}
 use Rattle.definition.specs.declared.refusal.Refusal.{Refusal}
 use Rattle.definition.specs.declared.FileRecord.{FileRecord}
 use Rattle.definition.specs.declared.Statement.{Statement}
 use Rattle.definition.specs.declared.Handover.TheVariants.{Opcode}
 use Rattle.definition.specs.File.{Contents, contents_at}
 use Rattle.definition.specs.Refusals.{number}
-use Rattle.definition.specs.Cells.{cell_of, signed, Typing, typing_of, fields_of}
-use Rattle.definition.specs.Statements.{Entities, Does, refuses, Effect, effect_does, Shape, shape_of, Tables, tables_of, execute_as, execute, branches_do, call_does, floats_effect}
+use Rattle.definition.specs.Cells.{cell_of, signed, typing_of, fields_of}
+use Rattle.definition.specs.Statements.{Entities, Does, refuses, Effect, effect_does, Shape, shape_of, tables_of, execute_as, execute, branches_do, call_does, floats_effect}
 use Rattle.floats.specs.Opcodes.{float_op}
 use Rattle.functions.specs.Laws.{AllFit}
 use Rattle.functions.specs.Parts.{part_of, functions_in}
@@ -29,7 +29,7 @@ use Rattle.execution.specs.declared.shapes.FieldOp.TheVariants.{Loads, Address, 
 use Rattle.execution.specs.declared.shapes.Shape as code
 use Rattle.execution.specs.declared.shapes.Shape.TheVariants.{Cells, Strings, Fields, Branch, Goto, Call, Return, Host}
 use Rattle.execution.specs.Shapes.{is_floats, cell_shape, string_shape, field_shape, shape_as, effect_as, string_effect, field_does}
-use Rattle.execution.specs.Execution.{operands_of, typing_here, fields_here, completed_as, does_of, callee_does, called_does, executed, execution}
+use Rattle.execution.specs.Execution.{operands_of, typing_here, fields_here, completed_as, does_of, called_does, executed, execution}
 use Rattle.execution.proofs.Opcodes.{floats_are}
 use Rattle.execution.proofs.Transfers.{completed_is, kept}
 

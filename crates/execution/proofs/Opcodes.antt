@@ -1,20 +1,19 @@
 -- Laws of the opcodes' shapes: the arms of a match on an opcode are rows of the definition's table. Assumes nothing.
 use Prim.Native.Nat.{ℕ, ◌/◌, ◌%◌, ◌^◌, ◌<◌, ◌≤◌}
-use mathlib.Core.Path.{◌≡◌, refl, sym, ◌∙◌, ap}
-use mathlib.Core.Logic.{◌⊎◌, inl, inr}
+use mathlib.Core.Path.{◌≡◌, refl, sym}
+use mathlib.Core.Logic.{◌⊎◌}
 use mathlib.Core.List.{List}
 use mathlib.Core.Option.{get_or}
-use mathlib.Core.Bool.{Bool, true, false, true≢false, not, ◌&&◌, ◌||◌, beq}
+use mathlib.Core.Bool.{Bool, true, false, not, ◌&&◌, ◌||◌, beq}
 use lib.Dec.{eqb, leb, ltb}
 use native.Mathlib.Omega.{arith}
 use borrow.Author.Tests.{eq-eqb, ne_eqb, le-leb, lt-leb, lt-ltb}
 use native.Mathlib.Nat.{zero-add}
-use Rattle.definition.specs.Statements.{Shape, floats, values, vectors, vectors_to_float, strings, negates, negates_v, negates_s, stores, stores_v, loads, addresses, stores_p, branches, jumps, call, return, host, opcodes, shape_of}
+use Rattle.definition.specs.Statements.{Shape, floats, call, host, opcodes, shape_of}
 use Rattle.definition.specs.StatementLaws.{every}
 use Rattle.definition.proofs.StatementLaws.{every_at}
 use Rattle.floats.specs.Opcodes.{floats_of, float_op}
 use Rattle.floats.proofs.Opcodes.{among, Missed, missed}
-use Rattle.execution.specs.declared.shapes.Shape as code
 use Rattle.execution.specs.declared.shapes.Shape.TheVariants.{Call, Host}
 use Rattle.execution.specs.Shapes.{is_floats, is_call, is_host, shape_as}
 
@@ -57,6 +56,10 @@ floats_are op e = go (shape_of op) e
 
 abbrev pub is_call_number : ℕ → Bool
 is_call_number op = leb 51 op && leb op 59
+
+-- a shape is a Call's, or what goes to the host, or another
+transfers : (s : Shape) → (call ≡ s) ⊎ ((host ≡ s) ⊎ ((is_call s ≡ false) × (is_host s ≡ false)))
+transfers s = grind arith
 
 pub call_shape : (s : Shape) → is_call s ≡ true → call ≡ s
 call_shape s e = grind arith

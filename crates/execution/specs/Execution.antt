@@ -38,11 +38,18 @@ pub record UsableFields (r : FileRecord) (number lent : ℕ) : Type 0 where
   pub number_most : number ≤ 600
   pub lends_fields : number * r.entityfields ≤ lent
 
+abbrev pub statement : ℕ → ℕ → ℕ → ℕ → Statement
+statement opcode arg1 arg2 arg3 = record { opcode = opcode; arg1 = arg1; arg2 = arg2; arg3 = arg3 }
+
 -- the cells that the operands of a statement name
 abbrev pub operands_of : Statement → Operands
 operands_of s = record { a = cell_of s.arg1; b = cell_of s.arg2; c = cell_of s.arg3 }
 
--- ---- what types the cells and the fields, by the parts of a file
+-- ---- what execution looks up, on the parts of a file: the functions, the global definitions, the field definitions, the strings
+
+abbrev pub tables_in : List ℕ → List ℕ → ℕ → List ℕ → ℕ → List ℕ → Tables
+tables_in functions defs count fields size strings =
+    record { functions = functions_in functions; globals = typing defs count; fields = typing fields size; strings = strings }
 
 module _ (r : FileRecord) (file : List ℕ) (fit : AllFit (length file) r) where
   pub typing_here : typing (part_of 8 r.globaldefs file) r.globals.count ≡ typing_of (contents_at r file)
@@ -55,6 +62,10 @@ module _ (r : FileRecord) (file : List ℕ) (fit : AllFit (length file) r) where
   pub fields_here : typing (part_of 8 r.fielddefs file) r.entityfields ≡ fields_of (contents_at r file)
   unfolding contents_at
   fields_here = ap (λ (ds : List Definition). record { definitions = ds; count = r.entityfields }) (part_fielddefs r file fit)
+
+  tables_here : tables_in (part_of 36 r.functions file) (part_of 8 r.globaldefs file) r.globals.count (part_of 8 r.fielddefs file) r.entityfields (part_of 1 r.strings file)
+      ≡ tables_of (contents_at r file)
+  tables_here = rw (part_functions r file fit, typing_here, fields_here, part_strings r file fit)
 
 -- ---- what it answers
 
@@ -103,6 +114,19 @@ execution (calls f) cells entities = answering (accepted (Calls f)) cells entiti
 execution (returns a) cells entities = answering (accepted (Returns a)) cells entities
 execution (refuses n) cells entities = answering (refused n) cells entities
 execution (hands_over h) cells entities = answering (accepted (HandedOver h)) cells entities
+
+-- what was found on the parts of a file holds of its contents
+module _ (r : FileRecord) (file : List ℕ) (fit : AllFit (length file) r) (functions defs fields strings : List ℕ) (f : functions ≡ part_of 36 r.functions file) (d : defs ≡ part_of 8 r.globaldefs file) (h : fields ≡ part_of 8 r.fielddefs file) (t : strings ≡ part_of 1 r.strings file) (p : ℤ) (st : Statement) (e : Entities) (cells : List ℕ) where
+  abbrev tables : Tables
+  tables = tables_in functions defs r.globals.count fields r.entityfields strings
+
+  pub on_parts : execute_in tables p st e cells ≡ execute (contents_at r file) p st e cells
+  unfolding execute
+  on_parts = rw (f, d, h, t) (ap (λ (k : Tables). execute_in k p st e cells) (tables_here r file fit))
+
+  pub executed_here : (x : Execution) → x ≡ execution (execute_in tables p st e cells) cells e.cells
+      → x ≡ execution (execute (contents_at r file) p st e cells) cells e.cells
+  executed_here x q = q ∙ ap (λ (d : Does). execution d cells e.cells) on_parts
 
 -- what a statement that writes answers, at the position p
 abbrev pub completed_as : ℤ → Result Unit Refusal → Result Executed Refusal

@@ -1,4 +1,4 @@
-use Rattle.std.proofs.Common.{rules, ap}
+use Rattle.std.proofs.Common.{rules}
 use Rattle.execution.proofs.ByShape.{fielded, call_stopped}
 use Rattle.execution.proofs.execute.Goals as goal
 
