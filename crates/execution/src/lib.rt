@@ -60,6 +60,7 @@ fn write(
 }
 
 // A statement that goes by the texts of strings (document 02, R-4).
+#[inline(always)]
 #[tactic(auto, unfolding(crate::specs::Shapes::string_effect))]
 fn string(
     globals: Typing,
@@ -78,6 +79,7 @@ fn string(
 }
 
 // A statement of entity fields (document 02, R-3).
+#[inline(always)]
 #[tactic(auto, using(crate::proofs::Transfers::writes_field))]
 fn field(
     globals: Typing,
@@ -111,6 +113,7 @@ pub fn branched(k: usize, when: bool, value: u32, by: u16) -> i64
 }
 
 // If and IfNot.
+#[inline(always)]
 #[tactic(auto, using(crate::proofs::Transfers::branches_as))]
 fn branch(
     globals: Typing,
@@ -188,6 +191,7 @@ fn next(k: usize) -> Executed
 }
 
 // A Call, by what it calls.
+#[inline(always)]
 #[tactic(auto, using(crate::proofs::Transfers::calls_as))]
 fn call(globals: Typing, cells: &mut [u32], k: usize, callee: Callee) -> Result<Executed, Refusal>
     requires { (globals.count ≤ length cells.old) × (k < 2147483648) }
