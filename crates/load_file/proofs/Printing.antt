@@ -1,5 +1,5 @@
 -- What is printed, by what was answered. Assumes nothing.
-use Rattle.std.specs.Prelude.{Option, Some, None, Result, Ok, Err}
+use Rattle.std.specs.Prelude.{Result, Ok, Err}
 use Rattle.std.proofs.Common.{◌≡◌, ℕ, ◌≤◌, List, ◌++◌, Bool, true, false, cond, not, ◌&&◌, leb, eqb, length, drop, pos, refl, ap, ◌∙◌, arith, le-leb, leb-true}
 use Rattle.definition.specs.declared.refusal.Refusal.{Refusal}
 use Rattle.definition.specs.Checks.{Checked, refused, accepted, judge, guard}
@@ -73,10 +73,6 @@ module _ (out out' : List ℕ) where
           by true h = rw h (all_made bytes (short h) r (e ∙ accepted_made h))
           by false h = rw h (none_made r (e ∙ refused_made h))
 
-    by_numbers : (a : Option Numbers) (r : Result ℕ Refusal) → outcome_of r out' ≡ made_for a out → Prints (printed_for a) r
-    unfolding printed_for
-    by_numbers None r e = none_made r e
-    by_numbers (Some a) r e = made a r e
-
     pub printed_as : (line : List ℕ) (r : Result ℕ Refusal) → outcome_of r out' ≡ made_for (numbers_of line) out → Prints (printed line) r
-    printed_as line r e = by_numbers (numbers_of line) r e
+    unfolding printed_for
+    printed_as line r e = made (numbers_of line) r e

@@ -1,32 +1,42 @@
 -- A number is read digit by digit. Assumes nothing.
-use Rattle.std.specs.Prelude.{Option, Some, None}
-use Rattle.std.proofs.Common.{◌≡◌, ℕ, ◌+◌, ◌*◌, ◌-◌, ◌<◌, ◌≤◌, List, [], ◌∷◌, Bool, true, false, cond, length, get_or, drop, refl, ◌∙◌, arith, add-one, drop-cons, lt-ltb, le-ltb}
-use Rattle.std.proofs.Math.ListN.{drop_of_length-le}
-use Rattle.load_file.specs.Numbers.{is_digit, number_from}
+use Rattle.std.proofs.Common.{◌≡◌, ℕ, ◌+◌, ◌<◌, ◌≤◌, ◌-◌, List, Bool, true, false, ltb, leb, length, get_or, take, drop, refl, arith, length-drop, get_or-drop, add-one, drop-cons, leb-true, ltb-true, ltb-false}
+use Rattle.std.proofs.lemmas.List.{take_all}
+use Rattle.std.proofs.Math.ListN.{drop_of_length-le, get_or-eq_default}
+use Rattle.definition.proofs.CheckLaws.{and_left}
+use Rattle.load_file.specs.Numbers.{is_digit, with_digit, in32_bits, number_from}
 
--- it grows no smaller
-too_large : (v : ℕ) (xs : List ℕ) → 4294967296 ≤ v → None ≡ number_from v xs
-unfolding number_from
-too_large v [] h = rw (le-ltb v 4294967296 h) refl
-too_large v (x ∷ xs) h = by (is_digit x) (too_large (v * 10 + (x - 48)) xs (omega arith))
+pub least_digit : (x : ℕ) → is_digit x ≡ true → 48 ≤ x
+least_digit x h = leb-true 48 x (and_left (leb 48 x) (leb x 57) h)
+
+-- a byte that isn't 0 stands before the end
+pub inside : (line : List ℕ) (i : ℕ) → (get_or line i 0 ≡ 0 → ⊥) → i < length line
+inside line i some = go (ltb i (length line)) refl
   where
-    by : (t : Bool) → None ≡ number_from (v * 10 + (x - 48)) xs → None ≡ cond t (number_from (v * 10 + (x - 48)) xs) None
-    by true e = e
-    by false e = refl
+    go : (t : Bool) → ltb i (length line) ≡ t → i < length line
+    go true e = ltb-true i (length line) e
+    go false e = absurd (some (get_or-eq_default line 0 (ltb-false i (length line) e)))
+
+-- the rest of a line from a place on
+module _ (line : List ℕ) (from : ℕ) where
+  rest : take (length line - from) (drop from line) ≡ drop from line
+  rest = take_all _ (drop from line) (omega (arith, length-drop from line))
+
+  pub rest_length : length (take (length line - from) (drop from line)) ≡ length line - from
+  rest_length = rw rest (length-drop from line)
+
+  pub rest_byte : {i : ℕ} (k : ℕ) → i ≡ from + k → get_or (take (length line - from) (drop from line)) k 0 ≡ get_or line i 0
+  rest_byte k e = rw (rest, e) (get_or-drop from line k 0)
 
 module _ (line : List ℕ) (v i : ℕ) where
-  pub one_digit : i < length line → is_digit (get_or line i 0) ≡ true → number_from (v * 10 + (get_or line i 0 - 48)) (drop (i + 1) line) ≡ number_from v (drop i line)
+  pub one_digit : i < length line → is_digit (get_or line i 0) ≡ true
+      → number_from (with_digit v (get_or line i 0)) (i + 1) (drop (i + 1) line) ≡ number_from v i (drop i line)
   unfolding number_from
   one_digit h d = rw (drop-cons line i 0 h, d, add-one i) refl
 
-  pub past_32_bits : {r : Option ℕ} → i < length line → is_digit (get_or line i 0) ≡ true → 4294967296 ≤ v * 10 + (get_or line i 0 - 48) → r ≡ None
-      → r ≡ number_from v (drop i line)
-  past_32_bits h d large e = e ∙ too_large _ _ large ∙ one_digit h d
-
-  pub no_digit : i < length line → is_digit (get_or line i 0) ≡ false → None ≡ number_from v (drop i line)
+  pub no_digit : i < length line → is_digit (get_or line i 0) ≡ false → number_from v i (drop i line) ≡ record { value = in32_bits v; next = i }
   unfolding number_from
   no_digit h d = rw (drop-cons line i 0 h, d) refl
 
-  pub all_read : length line ≤ i → v < 4294967296 → Some v ≡ number_from v (drop i line)
+  pub all_read : length line ≤ i → number_from v i (drop i line) ≡ record { value = in32_bits v; next = i }
   unfolding number_from
-  all_read h small = rw (drop_of_length-le line {i = i} h, lt-ltb v 4294967296 small) refl
+  all_read h = rw (drop_of_length-le line {i = i} h) refl

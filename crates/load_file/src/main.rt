@@ -12,15 +12,15 @@ use definition::refusal::Refusal;
 use load_files::LONGEST;
 use numbers::LONGEST_LINE;
 use std::io;
-use std::io::{Read, Write};
+use std::io::Write;
 
 mod numbers;
 
-// The file that a line asks for. A line without two numbers is refused as a load file that isn't permitted is.
+// The file that a line asks for. A line without two numbers asks for seed 0, which is refused.
 fn make_file(line: &[u8], out: &mut [u8]) -> Result<usize, Refusal>
     ensures { outcome_of result out.new ≡ made_for (numbers_of line.now) out.old }
 {
-    let asked = numbers::read_numbers(line).ok_or(Refusal::LoadFile)?;
+    let asked = numbers::read_numbers(line);
     load_files::make_file(asked.seed, i64::from(asked.n), out)
 }
 
@@ -36,13 +36,11 @@ fn print_file(line: &[u8], out: &mut [u8]) -> usize
     }
 }
 
-// An array, since the longest file is known and the contract says that there is room.
+// Arrays, since the longest line and the longest file are known and the contracts say that there is room. A byte more is read, so that a longer line is refused.
 fn main(rt: HostRuntime) -> io::Result<()> {
-    let mut line = Vec::new(rt.alloc());
+    let mut line = [0u8; LONGEST_LINE + 1];
     let mut out = [0u8; LONGEST];
-    rt.stdin()
-        .take(LONGEST_LINE as u64 + 1)
-        .read_to_end(&mut line)?;
-    let end = print_file(&line, &mut out);
+    let n = streams::read_full(&mut rt.stdin(), &mut line)?;
+    let end = print_file(&line[..n], &mut out);
     rt.stdout().write_all(&out[..end])
 }
