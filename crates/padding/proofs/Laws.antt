@@ -13,7 +13,7 @@ use Rattle.definition.specs.Written.{written, padded, padded_file, room_conditio
 use Rattle.definition.proofs.CheckLaws.{judge_passed, all_back}
 use Rattle.definition.proofs.RecordLaws.{length_globals}
 use Rattle.definition.proofs.RefusalLaws.{numbered}
-use Rattle.text.specs.Output.{output, at_front}
+use Rattle.text.specs.Output.{Output, output, at_front}
 use Rattle.text.specs.Text.{refused_line}
 use Rattle.loader.proofs.Each.{holds, judge_stop, judge_next}
 use Rattle.padding.specs.Padding.{pad_conditions, pad_text}
@@ -108,3 +108,7 @@ module _ (file out : List ℕ) where
 pub padded_as : (file : List ℕ) (r : FileRecord) (added : ℕ) → r ≡ file_of file → added ≡ 64 - r.globals.count
     → written check_number (padded added (contents_at r file)) ≡ padded_file file
 padded_as file r added same e = rw (e, same, length_globals file)
+
+-- a text at the front of the buffer, by another name
+pub at_front_law : {o : Output} {t s : List ℕ} (b : List ℕ) → o ≡ at_front t b → t ≡ s → o ≡ at_front s b
+at_front_law b e h = rw (e, h)
