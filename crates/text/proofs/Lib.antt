@@ -2,4 +2,5 @@
 pub mod Copying
 mod Decimal
 mod Hexadecimal
+mod Signed
 pub mod ReadBack

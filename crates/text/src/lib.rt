@@ -12,6 +12,17 @@ use definition::{Handover, RunAnswer};
 // A line of the show program has room in so many bytes.
 pub const LINE_ROOM: usize = 160;
 
+// All of the bytes, into a part of a buffer that is as long. `copy_from_slice` would call `memmove`, and the archives for C are to need no more than `memcpy` and
+// `memset`.
+fn copy(part: &mut [u8], xs: &[u8])
+    requires { length part.old ≡ length xs.now }
+    ensures { part.new ≡ xs.now }
+{
+    for (i, x) in xs.iter().enumerate() {
+        part[i] = *x;
+    }
+}
+
 // A lent buffer, and the place in it where the next byte is stored. A method asks for room for its whole text, stores it from the place on and leaves the other
 // bytes. (`write!` doesn't say that it succeeds where there is room, so numbers are written by methods too.)
 #[derive(Drop)]
@@ -36,7 +47,7 @@ impl Writer<'_> {
         ensures { Wrote xs.now self.old self.new }
     {
         let end = self.at + xs.len();
-        self.buf[self.at..end].copy_from_slice(xs);
+        copy(&mut self.buf[self.at..end], xs);
         self.at = end;
     }
 
