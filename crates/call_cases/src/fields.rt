@@ -1,7 +1,6 @@
 // A state is the host's to make up: a number of it is changed, by the numbering of tests/model/README.md. So each number has an arm.
-use definition::{FileRecord, Settings};
+use definition::{FileRecord, GREATEST_DEPTH, Settings};
 use progs::ExecutionContext;
-use vectors::LineError;
 
 // For a number below 0, which a state can't hold, another than the file's.
 fn natural(v: i64) -> usize {
@@ -38,25 +37,25 @@ fn set_setting(settings: &mut Settings, i: usize, v: usize) {
     }
 }
 
-pub fn set(context: &mut ExecutionContext, i: usize, v: i64) -> Result<(), LineError> {
+// Position and function of each frame, the lowest first. After the last they begin anew.
+fn set_frame(context: &mut ExecutionContext, i: usize, v: i64) {
+    let frame = &mut context.frames[i / 2 % GREATEST_DEPTH];
+    if i % 2 == 0 {
+        frame.instr_id = v;
+    } else {
+        frame.func_id = natural(v);
+    }
+}
+
+pub fn set(context: &mut ExecutionContext, i: usize, v: i64) {
     match i {
         0..=13 => set_number(&mut context.file, i, natural(v)),
         14 => context.pc = v,
         15 => context.current_function = natural(v),
         16 => context.depth = natural(v),
         17 => context.saved = natural(v),
-        // Position and function of a frame, the lowest first.
-        18..=79 => {
-            let frame = &mut context.frames[(i - 18) / 2];
-            if i % 2 == 0 {
-                frame.instr_id = v;
-            } else {
-                frame.func_id = natural(v);
-            }
-        }
         80 => context.entity_count = natural(v),
         81..=84 => set_setting(&mut context.settings, i, natural(v)),
-        _ => return Err(LineError::Unknown),
+        _ => set_frame(context, i - 18, v),
     }
-    Ok(())
 }

@@ -30,10 +30,17 @@ impl Machine {
 
     // Where it is refused, the context is of zeros again.
     pub fn load(&mut self, number: i64) -> Said {
+        let length = self.file.len();
+        self.load_first(length, number)
+    }
+
+    // The same of the file's first bytes alone, so many of them as there are.
+    pub fn load_first(&mut self, length: usize, number: i64) -> Said {
         let settings = header::standard();
+        let length = length.min(self.file.len());
         match load::load(
             settings,
-            &self.file,
+            &self.file[..length],
             number,
             &mut self.cells,
             &self.store,

@@ -2,35 +2,40 @@
 // The lines, and what must be printed, come from tests/model by tools/cases.py.
 #![tactic(auto)]
 
-use anyhow::Result;
 use definition::{MOST_CELLS, SAVED_STORE};
+use shown::LONGEST_INPUT;
 use std::alloc::Global;
-use std::io::{BufRead, BufReader, BufWriter, Write};
+use std::io;
+use std::io::{BufWriter, Read, Write};
 use text::LINE_ROOM;
+use vectors::lines::Lines;
 
-// A line's texts are written into a lent buffer of a fixed length, by which the contracts say that there is room.
-fn show_cases<R: BufRead + Drop, W: Write>(alloc: Global, input: R, out: &mut W) -> Result<()> {
+// The most of the input that is read.
+const MOST_INPUT: u64 = 524_288;
+
+// A file has at most one byte more than show accepts. A line's texts are written into a lent buffer of a fixed length, by which the contracts say that there
+// is room.
+fn show_cases<W: Write>(alloc: Global, text: &[u8], out: &mut W) -> io::Result<()> {
+    let mut file = vec![in alloc; 0u8; LONGEST_INPUT + 1]?;
     let mut cells = vec![in alloc; 0u32; MOST_CELLS]?;
     let mut store = vec![in alloc; 0u32; SAVED_STORE]?;
     let mut shown = [0u8; LINE_ROOM];
-    for line in input.lines(alloc) {
-        let line = line?;
-        let mut words = line.as_str().split_ascii_whitespace();
-        let name = vectors::next_word(&mut words)?;
-        let file = vectors::next_file(alloc, &mut words)?;
+    for line in Lines::of(text) {
+        let (name, length) = line.split_word();
+        let n = length.file(&mut file);
         // Show has no entities, so that none is lent.
-        let end = shown::show(&file, &mut cells, &mut store, &mut [], &mut shown);
-        write!(out, "{name} ")?;
+        let end = shown::show(&file[..n], &mut cells, &mut store, &mut [], &mut shown);
+        out.write_all(name)?;
         out.write_all(&shown[..end])?;
     }
     Ok(())
 }
 
 // One function with the work as a parameter would take what these lines take.
-fn main(rt: HostRuntime) -> Result<()> {
-    let input = BufReader::new(rt.alloc(), rt.stdin())?;
+fn main(rt: HostRuntime) -> io::Result<()> {
     let mut out = BufWriter::new(rt.alloc(), rt.stdout())?;
-    show_cases(rt.alloc(), input, &mut out)?;
-    out.flush()?;
-    Ok(())
+    let mut text = Vec::new(rt.alloc());
+    rt.stdin().take(MOST_INPUT).read_to_end(&mut text)?;
+    show_cases(rt.alloc(), &text, &mut out)?;
+    out.flush()
 }

@@ -4,12 +4,13 @@
 // tools/float_vectors.py writes them, from a model of its own.
 #![tactic(auto)]
 
-use anyhow::Result;
 use functions::ops;
-use std::alloc::Global;
-use std::io::{BufRead, BufReader, BufWriter, Write};
-use std::str::FromStr;
-use vectors::{Counts, LineError, next_hex};
+use std::io;
+use std::io::{BufReader, BufWriter, Read, Write};
+use vectors::{Counts, MOST_LINES, number};
+
+// A case with the end of its line. What ends the line isn't looked at.
+const RECORD: usize = 66;
 
 const ROUNDINGS: u16 = 128;
 
@@ -21,33 +22,24 @@ struct Case {
     wanted: u32,
 }
 
-impl FromStr for Case {
-    type Err = LineError;
-
-    fn from_str(line: &str) -> Result<Case, LineError> {
-        let mut words = line.split_ascii_whitespace();
-        let op = next_hex(&mut words)?;
-        let a = [
-            next_hex(&mut words)?,
-            next_hex(&mut words)?,
-            next_hex(&mut words)?,
-        ];
-        let b = [
-            next_hex(&mut words)?,
-            next_hex(&mut words)?,
-            next_hex(&mut words)?,
-        ];
-        let wanted = next_hex(&mut words)?;
-        Ok(Case {
-            op: u16::try_from(op)?,
-            a,
-            b,
-            wanted,
-        })
-    }
-}
-
 impl Case {
+    fn of(record: &[u8; RECORD]) -> Case {
+        Case {
+            op: (number(record, 0, 2) % 65536) as u16,
+            a: [
+                number(record, 3, 8),
+                number(record, 12, 8),
+                number(record, 21, 8),
+            ],
+            b: [
+                number(record, 30, 8),
+                number(record, 39, 8),
+                number(record, 48, 8),
+            ],
+            wanted: number(record, 57, 8),
+        }
+    }
+
     // Each function by opcode gives 0 for the opcodes of the others. NotV is in none of them.
     fn result(&self) -> u32 {
         let op = self.op;
@@ -66,31 +58,35 @@ impl Case {
     }
 }
 
-fn run_case<W: Write>(out: &mut W, line: &str) -> Result<bool> {
-    let case: Case = line.parse()?;
+fn run_case<W: Write>(out: &mut W, record: &[u8; RECORD]) -> io::Result<bool> {
+    let case = Case::of(record);
     let got = case.result();
     let same = got == case.wanted;
     if !same {
-        writeln!(out, "{got:08x} is the result of {line}")?;
+        write!(out, "{got:08x} is the result of ")?;
+        out.write_all(record)?;
     }
     Ok(same)
 }
 
-fn run_cases<R: BufRead + Drop, W: Write>(alloc: Global, input: R, out: &mut W) -> Result<Counts> {
+// A last record that isn't whole is none.
+fn run_cases<R: Read, W: Write>(input: &mut R, out: &mut W) -> io::Result<Counts> {
     let mut counts = Counts::default();
-    for line in input.lines(alloc) {
-        let same = run_case(out, line?.as_str())?;
+    let mut record = [0u8; RECORD];
+    for _ in 0..MOST_LINES {
+        if streams::read_full(input, &mut record)? < RECORD {
+            break;
+        }
+        let same = run_case(out, &record)?;
         counts.count(same);
     }
     Ok(counts)
 }
 
-// One function with the work as a parameter would take what these lines take.
-fn main(rt: HostRuntime) -> Result<()> {
-    let input = BufReader::new(rt.alloc(), rt.stdin())?;
+fn main(rt: HostRuntime) -> io::Result<()> {
+    let mut input = BufReader::new(rt.alloc(), rt.stdin())?;
     let mut out = BufWriter::new(rt.alloc(), rt.stdout())?;
-    let counts = run_cases(rt.alloc(), input, &mut out)?;
+    let counts = run_cases(&mut input, &mut out)?;
     writeln!(out, "{counts}")?;
-    out.flush()?;
-    Ok(())
+    out.flush()
 }

@@ -3,118 +3,131 @@
 // tools/statement_vectors.py writes the lines, of a letter and two hexadecimal numbers, and says what they mean.
 #![tactic(auto)]
 
-use anyhow::Result;
 use definition::refusal::Refusal;
 use definition::{HEADER_LENGTH, Handover, MOST_CELLS};
 use execution::Executed;
 use functions::{fetch, header};
 use std::alloc::{AllocError, Global};
-use std::io::{BufRead, BufReader, BufWriter, Write};
-use std::str::FromStr;
-use vectors::{Counts, LineError, next_hex, next_word};
+use std::io;
+use std::io::{BufReader, BufWriter, Read, Write};
+use vectors::{Counts, MOST_LINES, number, put};
+
+// The longest file of the cases has 131,945 bytes.
+const BYTES: usize = 140_000;
+
+// The most entity cells that a case lends.
+const ENTITY_CELLS: usize = 65_540;
+
+// A line with its end, which isn't looked at.
+const RECORD: usize = 20;
 
 // What a statement answers: what it does, or the number of its refusal.
 type Answer = Result<Executed, u8>;
 
 #[derive(Clone, Copy)]
 enum Line {
-    // A file of so many bytes, all zeros.
+    // So many bytes of the file are lent, all zeros.
     File(usize),
     // Four bytes of the file, the lowest first.
     Word(usize, u32),
-    // So many entities, and so many lent entity cells, all zeros.
+    // So many entities, and so many lent entity cells.
     Entities(usize, usize),
     Cell(usize, u32),
     EntityCell(usize, u32),
     // What a cell is to hold after the statement.
     Wanted(usize, u32),
     WantedOfEntities(usize, u32),
-    // The statement at position 0 is to answer so.
-    Run(Answer),
+    // The statement at position 0 is to answer so; nothing that a statement can answer, where there is none.
+    Run(Option<Answer>),
 }
 
 // An answer by its kind and number, as the line has them: each kind makes something else of the number.
-fn answer(kind: u32, n: u32) -> Result<Answer, LineError> {
+fn answer(kind: u32, n: u32) -> Option<Answer> {
     match kind {
-        0 => Ok(Ok(Executed::Next(fetch::signed(u16::try_from(n)?)))),
-        1 => Ok(Ok(Executed::Calls(n as usize))),
-        2 => Ok(Ok(Executed::Returns(n as usize))),
-        3 => Ok(Err(u8::try_from(n)?)),
-        4 => Ok(Ok(Executed::HandedOver(Handover::Builtin(n)))),
-        5 => Ok(Ok(Executed::HandedOver(Handover::Opcode(n)))),
-        _ => Err(LineError::Unknown),
+        0 => Some(Ok(Executed::Next(fetch::signed((n % 65536) as u16)))),
+        1 => Some(Ok(Executed::Calls(n as usize))),
+        2 => Some(Ok(Executed::Returns(n as usize))),
+        3 => u8::try_from(n).ok().map(Err),
+        4 => Some(Ok(Executed::HandedOver(Handover::Builtin(n)))),
+        5 => Some(Ok(Executed::HandedOver(Handover::Opcode(n)))),
+        _ => None,
     }
 }
 
-impl FromStr for Line {
-    type Err = LineError;
-
-    fn from_str(line: &str) -> Result<Line, LineError> {
-        let mut words = line.split_ascii_whitespace();
-        let letter = next_word(&mut words)?;
-        let x = next_hex(&mut words)?;
-        let y = next_hex(&mut words)?;
+impl Line {
+    // By its letter; any other than those known runs the case.
+    fn of(record: &[u8; RECORD]) -> Line {
+        let x = number(record, 2, 8);
+        let y = number(record, 11, 8);
         let place = x as usize;
-        match letter {
-            "f" => Ok(Line::File(place)),
-            "b" => Ok(Line::Word(place, y)),
-            "n" => Ok(Line::Entities(place, y as usize)),
-            "c" => Ok(Line::Cell(place, y)),
-            "e" => Ok(Line::EntityCell(place, y)),
-            "w" => Ok(Line::Wanted(place, y)),
-            "x" => Ok(Line::WantedOfEntities(place, y)),
-            "r" => Ok(Line::Run(answer(x, y)?)),
-            _ => Err(LineError::Unknown),
+        match record[0] {
+            b'f' => Line::File(place),
+            b'b' => Line::Word(place, y),
+            b'n' => Line::Entities(place, y as usize),
+            b'c' => Line::Cell(place, y),
+            b'e' => Line::EntityCell(place, y),
+            b'w' => Line::Wanted(place, y),
+            b'x' => Line::WantedOfEntities(place, y),
+            _ => Line::Run(answer(x, y)),
         }
     }
 }
 
-// Lent cells, and what they are to hold after the statement.
+// Cells of which some are lent, and what these are to hold after the statement.
 #[derive(Drop)]
 struct Cells {
     given: Vec<u32>,
     wanted: Vec<u32>,
 }
 
-impl Cells {
-    fn new(alloc: Global) -> Cells {
-        Cells {
-            given: Vec::new(alloc),
-            wanted: Vec::new(alloc),
-        }
+fn clear_first(cells: &mut [u32], count: usize) {
+    if let Some(lent) = cells.get_mut(..count) {
+        lent.fill(0);
     }
+}
 
+impl Cells {
     // So many of them, all zeros.
-    fn reset(&mut self, count: usize) -> Result<(), AllocError> {
-        self.given.resize(count, 0)?;
-        self.wanted.resize(count, 0)?;
-        self.given.fill(0);
-        self.wanted.fill(0);
-        Ok(())
+    fn new(alloc: Global, count: usize) -> Result<Cells, AllocError> {
+        Ok(Cells {
+            given: vec![in alloc; 0; count]?,
+            wanted: vec![in alloc; 0; count]?,
+        })
     }
 
     fn give(&mut self, i: usize, value: u32) {
-        vectors::put(&mut self.given, i, value);
+        put(&mut self.given, i, value);
         self.want(i, value);
     }
 
     fn want(&mut self, i: usize, value: u32) {
-        vectors::put(&mut self.wanted, i, value);
+        put(&mut self.wanted, i, value);
     }
 
-    fn agree(&self) -> bool {
-        self.given == self.wanted
+    // Whether the first `count` are as wanted.
+    fn agree(&self, count: usize) -> bool {
+        let given = self.given.as_slice().get(..count);
+        given.is_some() && given == self.wanted.as_slice().get(..count)
+    }
+
+    // The first `count` are zeros again.
+    fn clear(&mut self, count: usize) {
+        clear_first(&mut self.given, count);
+        clear_first(&mut self.wanted, count);
     }
 }
 
-// What the lines have given of a case.
+// What the lines have given of a case. All of the file and of the cells is there from the first; a line says how much of the file and of the entity cells is
+// lent, before or after it says what is in them.
 #[derive(Drop)]
 struct Case {
     file: Vec<u8>,
+    length: usize,
     cells: Cells,
-    // How many entities there are, and their cells.
+    // How many entities there are, their cells, and how many of these are lent.
     number: usize,
     entities: Cells,
+    lent: usize,
 }
 
 // What the statement at position 0 does: refused 13 where the lumps don't lie in the file, or the cells are too few or the file's too many, or so many
@@ -143,70 +156,82 @@ fn executed(
 
 impl Case {
     fn new(alloc: Global) -> Result<Case, AllocError> {
-        let mut cells = Cells::new(alloc);
-        cells.reset(MOST_CELLS)?;
         Ok(Case {
-            file: Vec::new(alloc),
-            cells,
+            file: vec![in alloc; 0; BYTES]?,
+            length: 0,
+            cells: Cells::new(alloc, MOST_CELLS)?,
             number: 0,
-            entities: Cells::new(alloc),
+            entities: Cells::new(alloc, ENTITY_CELLS)?,
+            lent: 0,
         })
     }
 
-    fn resize_file(&mut self, length: usize) -> Result<(), AllocError> {
-        self.file.clear();
-        self.file.resize(length, 0)
-    }
-
     fn put_word(&mut self, place: usize, word: u32) {
-        for (byte, b) in self.file.iter_mut().skip(place).zip(word.to_le_bytes()) {
-            *byte = b;
+        let bytes = word.to_le_bytes();
+        if let Some(file) = self.file.as_mut_slice().get_mut(place..) {
+            for (byte, b) in file.iter_mut().zip(&bytes) {
+                *byte = *b;
+            }
         }
     }
 
-    fn lend_entities(&mut self, number: usize, lent: usize) -> Result<(), AllocError> {
-        self.number = number;
-        self.entities.reset(lent)
-    }
-
-    // Whether the statement at position 0 does what is wanted. Afterwards all is zeros again, but the file.
-    fn run(&mut self, wanted: Answer) -> Result<bool, AllocError> {
+    // Whether the statement at position 0 does what is wanted. All that was lent is zeros afterwards, but the file. Where more is to be lent than there is,
+    // nothing is run, and all stays.
+    fn run(&mut self, wanted: Option<Answer>) -> bool {
+        if self.file.len() < self.length || self.entities.given.len() < self.lent {
+            return false;
+        }
         let answer = executed(
-            &self.file,
+            &self.file[..self.length],
             self.number,
             &mut self.cells.given,
-            &mut self.entities.given,
+            &mut self.entities.given[..self.lent],
         );
-        let same = answer.map_err(Refusal::number) == wanted
-            && self.cells.agree()
-            && self.entities.agree();
-        self.cells.reset(MOST_CELLS)?;
-        self.lend_entities(0, 0)?;
-        Ok(same)
+        let same = Some(answer.map_err(Refusal::number)) == wanted
+            && self.cells.agree(MOST_CELLS)
+            && self.entities.agree(self.lent);
+        self.cells.clear(MOST_CELLS);
+        self.entities.clear(self.lent);
+        same
     }
 
-    // What a line says is done. If that is to run the case, the result is whether all came out as wanted.
-    fn take(&mut self, line: Line) -> Result<Option<bool>, AllocError> {
+    // What a line says is done. If that is to run the case, the result is whether all came out as wanted, and there are no entities afterwards.
+    fn take(&mut self, line: Line) -> Option<bool> {
         match line {
-            Line::File(length) => self.resize_file(length)?,
+            Line::File(length) => {
+                self.file.fill(0);
+                self.length = length;
+            }
             Line::Word(place, word) => self.put_word(place, word),
-            Line::Entities(number, lent) => self.lend_entities(number, lent)?,
+            Line::Entities(number, lent) => {
+                self.number = number;
+                self.lent = lent;
+            }
             Line::Cell(i, value) => self.cells.give(i, value),
             Line::EntityCell(i, value) => self.entities.give(i, value),
             Line::Wanted(i, value) => self.cells.want(i, value),
             Line::WantedOfEntities(i, value) => self.entities.want(i, value),
-            Line::Run(wanted) => return Ok(Some(self.run(wanted)?)),
+            Line::Run(wanted) => {
+                let same = self.run(wanted);
+                self.number = 0;
+                self.lent = 0;
+                return Some(same);
+            }
         }
-        Ok(None)
+        None
     }
 }
 
-fn run_lines<R: BufRead + Drop, W: Write>(alloc: Global, input: R, out: &mut W) -> Result<Counts> {
+// A last line that isn't whole is none.
+fn run_lines<R: Read, W: Write>(alloc: Global, input: &mut R, out: &mut W) -> io::Result<Counts> {
     let mut counts = Counts::default();
     let mut case = Case::new(alloc)?;
-    for line in input.lines(alloc) {
-        let line: Line = line?.as_str().parse()?;
-        if let Some(same) = case.take(line)? {
+    let mut record = [0u8; RECORD];
+    for _ in 0..MOST_LINES {
+        if streams::read_full(input, &mut record)? < RECORD {
+            break;
+        }
+        if let Some(same) = case.take(Line::of(&record)) {
             counts.count(same);
             if !same {
                 writeln!(out, "case {} differs", counts.cases)?;
@@ -216,12 +241,10 @@ fn run_lines<R: BufRead + Drop, W: Write>(alloc: Global, input: R, out: &mut W) 
     Ok(counts)
 }
 
-// One function with the work as a parameter would take what these lines take.
-fn main(rt: HostRuntime) -> Result<()> {
-    let input = BufReader::new(rt.alloc(), rt.stdin())?;
+fn main(rt: HostRuntime) -> io::Result<()> {
+    let mut input = BufReader::new(rt.alloc(), rt.stdin())?;
     let mut out = BufWriter::new(rt.alloc(), rt.stdout())?;
-    let counts = run_lines(rt.alloc(), input, &mut out)?;
+    let counts = run_lines(rt.alloc(), &mut input, &mut out)?;
     writeln!(out, "{counts}")?;
-    out.flush()?;
-    Ok(())
+    out.flush()
 }

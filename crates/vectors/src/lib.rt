@@ -1,58 +1,32 @@
-// What the programs that run cases from lines share: the words and numbers of a line, and how many of the cases came out otherwise than they say.
+// What the programs that run cases share: the numbers of records of a fixed length, the lines of a text, and how many of the cases came out otherwise than
+// they say.
 #![tactic(auto)]
 
-use hex::FromHexError;
-use std::alloc::{AllocError, Global};
+ghost use Rattle.std.specs.Prelude.{◌+◌, ◌≤◌, ◌<◌, length};
+
 use std::fmt;
-use std::num::{ParseIntError, TryFromIntError};
-use std::str::{FromStr, SplitAsciiWhitespace};
-use thiserror::Error;
 
-// Why a line can't be read.
-#[derive(Debug, Drop, Error)]
-pub enum LineError {
-    #[error("a word is missing")]
-    Missing,
-    #[error("no line says that")]
-    Unknown,
-    #[error("a word that should be a number: {0}")]
-    Number(#[from] ParseIntError),
-    #[error("a number that is too large: {0}")]
-    Large(#[from] TryFromIntError),
-    #[error("a word that should be bytes: {0}")]
-    Bytes(#[from] FromHexError),
-    #[error(transparent)]
-    Memory(#[from(alloc)] AllocError),
+pub mod lines;
+
+// A program reads at most so many records.
+pub const MOST_LINES: u64 = 1_000_000;
+
+// A hexadecimal digit in lower case. What another byte gives is not stated.
+fn digit(b: u8) -> u8
+    ensures { result < 16 }
+{
+    if b < b'a' { b % 16 } else { (b % 16 + 9) % 16 }
 }
 
-// The words of a line.
-pub type Words<'a> = SplitAsciiWhitespace<'a>;
-
-pub fn next_word<'a>(words: &mut Words<'a>) -> Result<&'a str, LineError> {
-    words.next().ok_or(LineError::Missing)
-}
-
-// The number that the next word spells in decimal.
-pub fn next_number<T: FromStr<Err = ParseIntError>>(words: &mut Words<'_>) -> Result<T, LineError> {
-    let word = next_word(words)?;
-    Ok(word.parse()?)
-}
-
-// The number that the next word spells in hexadecimal.
-pub fn next_hex(words: &mut Words<'_>) -> Result<u32, LineError> {
-    let word = next_word(words)?;
-    Ok(u32::from_str_radix(word, 16)?)
-}
-
-// The file that the next two words spell: its length, and its first bytes in hexadecimal or `-` for none. Those that aren't given are zeros.
-pub fn next_file(alloc: Global, words: &mut Words<'_>) -> Result<Vec<u8>, LineError> {
-    let length = next_number(words)?;
-    let mut file = match next_word(words)? {
-        "-" => Vec::new(alloc),
-        digits => hex::decode(alloc, digits)?,
-    };
-    file.resize(length, 0)?;
-    Ok(file)
+// The number that the `n` digits from `at` on spell.
+pub fn number(line: &[u8], at: usize, n: usize) -> u32
+    requires { at + n ≤ length line.now }
+{
+    let mut x: u32 = 0;
+    for b in &line[at..at + n] {
+        x = x % 0x1000_0000 * 16 + u32::from(digit(*b));
+    }
+    x
 }
 
 // A value goes to its place, if there is one.
