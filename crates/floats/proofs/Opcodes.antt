@@ -45,6 +45,11 @@ module _ {A : Type 0} (read : Shape → Option A) where
   rows listed (s ∷ ss) t zero e = one (read s) (listed 0) (and_yes (is_none (read s) || listed 0) (only_listed (λ n. listed (suc n)) ss) t).0 e
   rows listed (s ∷ ss) t (suc n) e = rows (λ i. listed (suc i)) ss (and_yes (is_none (read s) || listed 0) (only_listed (λ i. listed (suc i)) ss) t).1 n e
 
+  -- z stands for no row: what is made of it is what is made of the opcode's row
+  pub last : (z : A) (g : A → ℕ) (ks : List ℕ) (op : ℕ) → T (only_listed (among ks) opcodes) → Missed op (Unit {0}) ks → g z ≡ g (Option.get_or (read (shape_of op)) z)
+  unfolding shape_of
+  last z g ks op t h = ap (λ (o : Option A). g (Option.get_or o z)) (sym (rows (among ks) opcodes t op (missed op (Unit {0}) ks h).1))
+
   -- what an operation makes of an opcode, as a choice among the rows of its shape
   module _ (z : A) (g : A → ℕ) where
     abbrev pub at : ℕ → ℕ

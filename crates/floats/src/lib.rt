@@ -1,9 +1,10 @@
 // Floats on cells. A cell is a `u32`, the bit pattern of an `f32`; each function here equals the definition's of the same name.
 #![tactic(auto)]
 
-ghost use Rattle.std.specs.Prelude.{◌≡◌};
+ghost use Rattle.std.specs.Prelude.{◌≡◌, ◌/◌, ◌%◌, ◌<◌, ◌≤◌};
 ghost use Rattle.definition.specs.Floats.{value, cell, add_f, sub_f, mul_f, div_f, flag, is_zero, eq_f, ne_f, le_f, ge_f, lt_f, gt_f, and_f, or_f, not_f, whole, bit_and_f, bit_or_f};
 ghost use Rattle.definition.specs.Floats.{mul_v, same_v, eq_v, ne_v, not_v, eq_n, ne_n, not_n};
+ghost use Rattle.floats.specs.Scaled.{scaled};
 ghost use Rattle.floats.specs.Vectors.{on_vector, on_vectors};
 ghost use Rattle.floats.specs.Opcodes.{float_op, component_op, vectors_to_float_op, value_op, not_op};
 
@@ -120,11 +121,29 @@ pub fn not_f(a: u32) -> u32
     flag(is_zero(a))
 }
 
-// The Rust's `as i32`: toward zero, to the ends of the range, 0 for a NaN.
+// The magnitude of a cell's float in units of 2^-23. The exponent's field is that of a number from 1 to below 2^31.
+fn scaled_up(x: u32) -> u64
+    requires { (127 ≤ x % 2147483648 / 8388608) × (x % 2147483648 / 8388608 < 158) }
+    ensures { result ≡ scaled x }
+{
+    let e = x % 0x8000_0000 / 0x80_0000;
+    u64::from(0x80_0000 + x % 0x80_0000) << (e - 127)
+}
+
+// The Rust's `as i32`: toward zero, to the ends of the range, 0 for a NaN. `e` is the exponent's field. Only what lies beyond the range is left to std,
+// whose way goes over `f64` and takes twice the instructions.
 pub fn to_i32(x: u32) -> i32
     ensures { result ≡ whole x }
 {
-    std::num::saturating_f32_to_i32(of_cell(x))
+    let e = x % 0x8000_0000 / 0x80_0000;
+    if e < 127 {
+        return 0;
+    }
+    if e >= 158 {
+        return std::num::saturating_f32_to_i32(of_cell(x));
+    }
+    let n = (scaled_up(x) >> 23) as i32;
+    if x >= 0x8000_0000 { 0 - n } else { n }
 }
 
 pub fn bit_and_f(a: u32, b: u32) -> u32
