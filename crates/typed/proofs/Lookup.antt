@@ -2,8 +2,7 @@
 use Rattle.std.specs.Prelude.{ℕ, zero, suc, ◌+◌, ◌*◌, ◌≤◌, ◌<◌, ◌%◌, ◌/◌, List, [], ◌∷◌, ◌++◌, Option, None, Some, is_some, Bool, true, false, not, ◌&&◌, ◌||◌, cond, eqb, length, get_or, drop}
 use Rattle.std.proofs.Common.{◌≡◌, refl, sym, ◌∙◌, arith, true≢false, ne_eqb, length-append, drop_at}
 use Rattle.std.proofs.lemmas.Bool.{false≢true}
-use Rattle.std.proofs.Math.Nat.{zero-add}
-use Rattle.std.proofs.lemmas.List.{get_or_append_left, get_or-drop, length-drop, drop-append-le}
+use Rattle.std.proofs.lemmas.List.{get_or_append_left, length-drop, drop-append-le}
 use Rattle.definition.specs.declared.Definition.{Definition}
 use Rattle.definition.specs.File.{byte_at, u16_at, records, read_definition}
 use Rattle.definition.specs.Cells.{type_of, lookup, scalar, passes}
@@ -37,13 +36,46 @@ some_more (suc n) x more e =
     records_more read_definition 8 definition_local (omega arith) (x ++ more) (omega (arith, e, length-append x more))
     ∙ rw (drop-append-le 8 x more (omega (arith, e)), some_more n (drop 8 x) more (omega (arith, e, length-drop 8 x)), here, definition_local (x ++ more) x 0 0 (front_same x more 0 (omega (arith, e))))
 
--- ---- the first definition of a cell, void or not
+-- ---- a search f that gives what it finds first
 
 abbrev or : Option ℕ → Option ℕ → Option ℕ
 or None b = b
 or (Some t) b = Some t
 
+module _ (f : List Definition → Option ℕ) (append : (ds es : List Definition) → f (ds ++ es) ≡ or (f ds) (f es)) where
+  -- whole definitions x, of which it gives o
+  module _ (x more : List ℕ) (o : Option ℕ) (whole : length x % 8 ≡ 0) (is : o ≡ f (definitions_in x)) where
+    after : f (definitions_in (x ++ more)) ≡ or o (f (definitions_in more))
+    after = rw (some_more (length x / 8) x more (omega (arith, whole)), append (definitions_in x) (definitions_in more), ← is)
+
+    kept : is_some o ≡ true → o ≡ f (definitions_in (x ++ more))
+    kept s = rw after (go o s)
+      where
+        go : (o : Option ℕ) → is_some o ≡ true → o ≡ or o (f (definitions_in more))
+        go None s = absurd (false≢true s)
+        go (Some t) s = refl
+
+    over : is_some o ≡ false → f (definitions_in more) ≡ f (definitions_in (x ++ more))
+    over s = rw after (go o s)
+      where
+        go : (o : Option ℕ) → is_some o ≡ false → f (definitions_in more) ≡ or o (f (definitions_in more))
+        go None s = refl
+        go (Some t) s = absurd (true≢false s)
+
+  passed : (part x more : List ℕ) (o t : Option ℕ) → part ≡ x ++ more → length x % 8 ≡ 0 → o ≡ f (definitions_in x) → is_some o ≡ false
+      → f (definitions_in part) ≡ t → f (definitions_in more) ≡ t
+  passed part x more o t e whole is s h = over x more o whole is s ∙ rw e at h
+
+pub twos_left : (part x more : List ℕ) → part ≡ x ++ more → length x ≡ 16 → length part / 8 % 2 ≡ 0 → length more / 8 % 2 ≡ 0
+twos_left part x more e n f = omega (arith, rw e at f, n, length-append x more)
+
+-- what is found has a type
+found_type : (d : Definition) → found (type_of d) ≡ Some (type_of d)
+found_type d = rw (ne_eqb (type_of d) 32768 (λ z. omega arith))
+
 module _ (cell : ℕ) where
+  -- ---- the first definition of a cell, void or not
+
   pub first_none : (part : List ℕ) → length part < 8 → first_in (definitions_in part) cell ≡ None
   unfolding first_in
   first_none part h = rw (no_more part h)
@@ -63,31 +95,12 @@ module _ (cell : ℕ) where
       go true e = refl
       go false e = e
 
-  -- whole definitions x, of which o is the first one's type
-  module _ (x more : List ℕ) (o : Option ℕ) (whole : length x % 8 ≡ 0) (is : o ≡ first_in (definitions_in x) cell) where
-    after : first_in (definitions_in (x ++ more)) cell ≡ or o (first_in (definitions_in more) cell)
-    after = rw (some_more (length x / 8) x more (omega (arith, whole)), first_append (definitions_in x) (definitions_in more), ← is)
-
-    pub first_kept : is_some o ≡ true → o ≡ first_in (definitions_in (x ++ more)) cell
-    first_kept s = rw after (go o s)
-      where
-        go : (o : Option ℕ) → is_some o ≡ true → o ≡ or o (first_in (definitions_in more) cell)
-        go None s = absurd (false≢true s)
-        go (Some t) s = refl
-
-    passed : is_some o ≡ false → first_in (definitions_in more) cell ≡ first_in (definitions_in (x ++ more)) cell
-    passed s = rw after (go o s)
-      where
-        go : (o : Option ℕ) → is_some o ≡ false → first_in (definitions_in more) cell ≡ or o (first_in (definitions_in more) cell)
-        go None s = refl
-        go (Some t) s = absurd (true≢false s)
+  pub first_kept : (x more : List ℕ) (o : Option ℕ) → length x % 8 ≡ 0 → o ≡ first_in (definitions_in x) cell → is_some o ≡ true → o ≡ first_in (definitions_in (x ++ more)) cell
+  first_kept = kept (λ ds. first_in ds cell) first_append
 
   pub first_passed : (part x more : List ℕ) (o t : Option ℕ) → part ≡ x ++ more → length x % 8 ≡ 0 → o ≡ first_in (definitions_in x) cell → is_some o ≡ false
       → first_in (definitions_in part) cell ≡ t → first_in (definitions_in more) cell ≡ t
-  first_passed part x more o t e whole is s f = passed x more o whole is s ∙ rw e at f
-
-  pub fours_left : (part x more : List ℕ) → part ≡ x ++ more → length x ≡ 32 → length part / 8 % 4 ≡ 0 → length more / 8 % 4 ≡ 0
-  fours_left part x more e n f = omega (arith, rw e at f, n, length-append x more)
+  first_passed = passed (λ ds. first_in ds cell) first_append
 
   -- ---- the first definition of a cell that isn't void
 
@@ -100,10 +113,25 @@ module _ (cell : ℕ) where
   unfolding lookup
   lookup_one x more h = rw (one_more x more h)
 
--- ---- the first definition, where it isn't void, is what a lookup gives
+  found_append : (ds es : List Definition) → found (lookup (ds ++ es) cell) ≡ or (found (lookup ds cell)) (found (lookup es cell))
+  unfolding lookup
+  found_append [] es = refl
+  found_append (d ∷ ds) es = go (eqb d.offset cell && not (eqb (type_of d) 0)) (found_append ds es)
+    where
+      go : (b : Bool) → found (lookup (ds ++ es) cell) ≡ or (found (lookup ds cell)) (found (lookup es cell))
+          → found (cond b (type_of d) (lookup (ds ++ es) cell)) ≡ or (found (cond b (type_of d) (lookup ds cell))) (found (lookup es cell))
+      go true e = rw (found_type d)
+      go false e = e
 
-found_type : (d : Definition) → found (type_of d) ≡ Some (type_of d)
-found_type d = rw (ne_eqb (type_of d) 32768 (λ z. omega arith))
+  pub found_kept : (x more : List ℕ) (o : Option ℕ) → length x % 8 ≡ 0 → o ≡ found (lookup (definitions_in x) cell) → is_some o ≡ true
+      → o ≡ found (lookup (definitions_in (x ++ more)) cell)
+  found_kept = kept (λ ds. found (lookup ds cell)) found_append
+
+  pub found_passed : (part x more : List ℕ) (o t : Option ℕ) → part ≡ x ++ more → length x % 8 ≡ 0 → o ≡ found (lookup (definitions_in x) cell) → is_some o ≡ false
+      → found (lookup (definitions_in part) cell) ≡ t → found (lookup (definitions_in more) cell) ≡ t
+  found_passed = passed (λ ds. found (lookup ds cell)) found_append
+
+-- ---- the first definition, where it isn't void, is what a lookup gives
 
 module _ (cell : ℕ) where
   pub first_binds : (ds : List Definition) (t : ℕ) → first_in ds cell ≡ Some t → (t ≡ 0 → ⊥) → found (lookup ds cell) ≡ Some t

@@ -31,6 +31,7 @@ pub const FUNCTION: u16 = 6;
 pub const POINTER: u16 = 7;
 
 // The type of the first definition of a cell, void or not, one definition after the other.
+#[inline(always)]
 #[tactic(auto, using(crate::proofs::Lookup::first_of_one, crate::proofs::Lookup::first_none))]
 fn first_type_of_few(defs: &[u8], wanted: u16) -> Option<u16>
     ensures { result ≡ first_in (definitions_in defs.now) wanted }
@@ -43,19 +44,20 @@ fn first_type_of_few(defs: &[u8], wanted: u16) -> Option<u16>
     None
 }
 
-// The type of the first definition of a cell, void or not. A turn of the loop looks at four definitions, so that the test for the end is made a quarter as
-// often; those that are over come before them.
-#[tactic(auto, using(crate::proofs::Lookup::first_kept, crate::proofs::Lookup::first_passed, crate::proofs::Lookup::fours_left, crate::proofs::Lookup::first_none))]
+// The type of the first definition of a cell, void or not. A turn of the loop looks at two definitions, so that the test for the end is made half as often;
+// the first one of an odd number comes before them.
+#[inline(always)]
+#[tactic(auto, using(crate::proofs::Lookup::first_kept, crate::proofs::Lookup::first_passed, crate::proofs::Lookup::twos_left, crate::proofs::Lookup::first_none))]
 fn first_type(defs: &[u8], wanted: u16) -> Option<u16>
     ensures { result ≡ first_in (definitions_in defs.now) wanted }
 {
-    let (few, fours) = defs.split_at(defs.len() / DEFINITION_SIZE % 4 * DEFINITION_SIZE);
-    let first = first_type_of_few(few, wanted);
+    let (odd, twos) = defs.split_at(defs.len() / DEFINITION_SIZE % 2 * DEFINITION_SIZE);
+    let first = first_type_of_few(odd, wanted);
     if first.is_some() {
         return first;
     }
-    for four in fours.chunks_exact(4 * DEFINITION_SIZE) {
-        let first = first_type_of_few(four, wanted);
+    for two in twos.chunks_exact(2 * DEFINITION_SIZE) {
+        let first = first_type_of_few(two, wanted);
         if first.is_some() {
             return first;
         }
@@ -63,28 +65,55 @@ fn first_type(defs: &[u8], wanted: u16) -> Option<u16>
     None
 }
 
-// The type of the first definition of a cell that isn't void. Cells whose first definition is void are seldom, so this search is a plain one.
+// The type of the first definition of a cell that isn't void, one definition after the other.
+#[inline(always)]
 #[tactic(auto, using(crate::proofs::Lookup::lookup_one, crate::proofs::Lookup::lookup_none))]
-fn find_past_void(defs: &[u8], wanted: u16) -> Option<u16>
+fn past_void_of_few(defs: &[u8], wanted: u16) -> Option<u16>
     ensures { result ≡ found (lookup (definitions_in defs.now) wanted) }
 {
     for definition in defs.chunks_exact(DEFINITION_SIZE) {
-        let kind = reads::u16_at(definition, 0) % SAVE_FLAG;
-        if (reads::u16_at(definition, 2) == wanted) & (kind != VOID) {
-            return Some(kind);
+        if reads::u16_at(definition, 2) == wanted {
+            let kind = reads::u16_at(definition, 0) % SAVE_FLAG;
+            if kind != VOID {
+                return Some(kind);
+            }
+        }
+    }
+    None
+}
+
+// The type of the first definition of a cell that isn't void, two definitions a turn as above. A call: cells whose first definition is void are seldom.
+#[inline(never)]
+#[tactic(auto, using(crate::proofs::Lookup::found_kept, crate::proofs::Lookup::found_passed, crate::proofs::Lookup::twos_left, crate::proofs::Lookup::lookup_none))]
+fn find_past_void(defs: &[u8], wanted: u16) -> Option<u16>
+    ensures { result ≡ found (lookup (definitions_in defs.now) wanted) }
+{
+    let (odd, twos) = defs.split_at(defs.len() / DEFINITION_SIZE % 2 * DEFINITION_SIZE);
+    let bound = past_void_of_few(odd, wanted);
+    if bound.is_some() {
+        return bound;
+    }
+    for two in twos.chunks_exact(2 * DEFINITION_SIZE) {
+        let bound = past_void_of_few(two, wanted);
+        if bound.is_some() {
+            return bound;
         }
     }
     None
 }
 
 // The type of the first definition of a cell that isn't void. Whether a definition is void is asked after the search, of the one that was found, so that
-// those of other cells cost no more for it. A call, since the checks that ask are many.
-#[inline(never)]
+// those of other cells cost no more for it.
+#[inline(always)]
 #[tactic(auto, using(crate::proofs::Lookup::first_binds, crate::proofs::Lookup::none_first, crate::proofs::Lookup::none_so_high))]
 pub fn find(defs: &[u8], cell: usize) -> Option<u16>
     ensures { result ≡ found (lookup (definitions_in defs.now) cell) }
 {
-    let wanted = u16::try_from(cell).ok()?;
+    // No `try_from`, which takes three instructions more.
+    if cell > u16::MAX as usize {
+        return None;
+    }
+    let wanted = cell as u16;
     let t = first_type(defs, wanted)?;
     if t != VOID {
         return Some(t);
@@ -99,12 +128,22 @@ fn scalar(t: u16) -> u16
     if t == VECTOR { FLOAT } else { t }
 }
 
-// The type check of a cell by global definitions, of an entity's cell by field definitions. Where there are none nothing is looked up.
+// The type check of a cell by global definitions, of an entity's cell by field definitions. Where there are none nothing is looked up. Not marked as
+// inlined: marked, beside the search, a float statement with definitions takes up to two fifths more.
 #[tactic(auto, using(crate::proofs::Lookup::type_of_none, crate::proofs::Lookup::type_of_untyped, crate::proofs::Lookup::type_of_typed))]
 pub fn type_check(defs: &[u8], cell: usize, want: u16) -> bool
     ensures { result ≡ type_check (definitions_in defs.now) want cell }
 {
     defs.is_empty() || find(defs, cell).is_none_or(|t| scalar(t) == scalar(want))
+}
+
+// A refusal of a check. A seldom made call, so that what passes is told by jumps alone: in place the compiler works out at each check what would refuse it.
+#[cold]
+#[inline(never)]
+fn refused(refusal: Refusal) -> Result<(), Refusal>
+    ensures { result ≡ Err refusal }
+{
+    Err(refusal)
 }
 
 // What types cells: the definitions, and how many cells there are. Of an entity's cells these are the field definitions, and the cells per entity.
@@ -131,12 +170,12 @@ impl<'a> Typing<'a> {
         ensures { refusal_in result ≡ judge (one_access (number above) (typing self.entry.defs.now self.entry.count) want cell) }
     {
         if !type_check(self.defs, cell, want) {
-            return Err(Refusal::Type);
+            return refused(Refusal::Type);
         }
         if cell < self.count {
             Ok(())
         } else {
-            Err(above)
+            refused(above)
         }
     }
 
