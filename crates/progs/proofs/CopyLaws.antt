@@ -1,5 +1,7 @@
 -- Laws of ranges and of copying one at a time: what a turn of each loop does, and what is left.
-use Rattle.std.proofs.Common.{◌≡◌, ℕ, zero, suc, ◌+◌, ◌*◌, ◌-◌, ◌^◌, ◌≤◌, ◌<◌, ◌⊎◌, inl, inr, ⊎_elim, List, [], ◌∷◌, ◌++◌, Bool, true, false, ◌&&◌, length, get_or, set, drop, leb, ltb, eqb, refl, sym, arith, add-one, add-zero, drop-cons, leb-true, le-leb, lt-ltb, ltb-true, eqb-true}
+use Rattle.std.proofs.Common.{◌≡◌, ℕ, zero, suc, ◌+◌, ◌*◌, ◌-◌, ◌^◌, ◌≤◌, ◌<◌, ◌⊎◌, inl, inr, ⊎_elim, List, [], ◌∷◌, ◌++◌, Bool, true, false, ◌&&◌, length, get_or, set, drop, leb, ltb, eqb, refl, sym, arith, add-one, add-zero, drop-cons, leb-true, le-leb, lt-ltb, ltb-true, eqb-true, length-drop}
+use lib.Seq.{paste-suc, get_or-drop}
+use Rattle.std.proofs.Math.Seq.{paste}
 use Rattle.definition.specs.Machine.{present, Copy, copied, successive, arguments, copies_present}
 use Rattle.definition.proofs.CheckLaws.{and_left, and_right, and_both, or_cases}
 
@@ -28,6 +30,17 @@ present_more first n size more h e =
 -- a range that starts below the top of the numbers ends there
 pub present_ends : (to n size : ℕ) → present to n size ≡ true → to < 2 ^ 64 → size < 2 ^ 64 → to + n < 2 ^ 64
 present_ends to n size h a b = ⊎_elim (λ e. omega arith) (λ e. omega arith) (present_cases to n size h)
+
+-- ---- pasting
+
+-- one cell more
+pub pasted_on : (src dst₀ dst : List ℕ) (first at n i : ℕ) → present first n (length src) ≡ true → present at n (length dst₀) ≡ true → i < n
+    → dst ≡ paste dst₀ at (drop first src) i
+    → set dst (at + i) (get_or src (first + i) 0) ≡ paste dst₀ at (drop first src) (i + 1)
+pasted_on src dst₀ dst first at n i hs hd k e =
+    let a = present_at first n (length src) i hs k in
+    rw (e, add-one i, ← get_or-drop first src i 0)
+    (paste-suc dst₀ at (drop first src) i 0 (present_at at n (length dst₀) i hd k) (omega (arith, length-drop first src)))
 
 -- ---- successive cells
 

@@ -18,9 +18,8 @@ pub fn move_cells(src: &[u32], dst: &mut [u32], first: usize, at: usize, count: 
     requires dst_value { present at count (length dst.old) ≡ true }
     ensures { dst.new ≡ paste dst.old at (drop first src.now) count }
 {
-    // An empty range starts anywhere, a slice doesn't.
-    if count != 0 {
-        dst[at..at + count].copy_from_slice(&src[first..first + count]);
+    for i in 0..count {
+        dst[at + i] = src[first + i];
     }
 }
 
