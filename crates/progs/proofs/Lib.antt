@@ -4,6 +4,8 @@ pub mod OutcomeLaws
 pub mod AbandonLaws
 pub mod DoesLaws
 pub mod CallLaws
+pub mod NumberLaws
+pub mod ReturnLaws
 pub mod StateLaws
 pub mod HostLaws
 pub mod LoadLaws

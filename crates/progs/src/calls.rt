@@ -4,11 +4,13 @@ ghost use Rattle.definition.specs.Checks.{judge};
 ghost use Rattle.definition.specs.Refusals.{refusal_in};
 ghost use Rattle.definition.specs.Machine.{Program, function_of, present, arguments_of, copies_present, entry_conditions, enter, leave_conditions, left};
 ghost use Rattle.definition.specs.Load.{program_of};
+ghost use Rattle.functions.specs.Parts.{functions_in};
 ghost use Rattle.progs.specs.Contexts.{config, outcome_of, after, return, bare, range_of, entered_context, left_context, Loaded, Lent, Kept};
+ghost use Rattle.progs.specs.Numbers.{numbered, numbered_in, entry_of, entering, leaving_of, returning};
 
 use crate::{ExecutionContext, copies};
 use definition::refusal::Refusal;
-use definition::{FUNCTION_SIZE, FunctionDef, MOST_ARGUMENTS, StackFrame};
+use definition::{FUNCTION_SIZE, FunctionDef, MOST_ARGUMENTS, Settings, StackFrame};
 use functions::parts;
 
 // The local range of a function.
@@ -16,6 +18,186 @@ use functions::parts;
 pub struct Locals {
     pub start: usize,
     pub count: usize,
+}
+
+// What the context takes over of an entry.
+#[derive(Clone, Copy)]
+pub struct Entry {
+    pub first: i64,
+    pub locals: usize,
+}
+
+// What the context takes over of a Return: the local count of the function left.
+#[derive(Clone, Copy)]
+pub struct Leaving {
+    pub locals: usize,
+}
+
+// The conditions of an entry into a function that is there.
+#[tactic(auto, unfolding(definition::specs::Machine::entry_conditions, definition::specs::Checks::judge))]
+fn check_entry(
+    def: FunctionDef,
+    settings: Settings,
+    depth: usize,
+    held: usize,
+    count: usize,
+) -> Result<(), Refusal>
+    requires { (held ≤ 2048) × (settings.saved ≤ 2048) }
+    ensures refusal { (P : Program) (f : ℕ) → f < length P.functions → def ≡ function_of P f → refusal_in result ≡ judge (entry_conditions P f (bare (numbered settings depth held count))) }
+    ensures room { IsOk result → (depth < settings.depth) × (held + def.locals ≤ settings.saved) × (def.argc ≤ 8) }
+    ensures cells { IsOk result → (present def.start def.locals count ≡ true) × (copies_present count (arguments_of def) ≡ true) }
+{
+    let start = def.start as usize;
+    let locals = def.locals as usize;
+    let argc = def.argc as usize;
+    if settings.depth <= depth {
+        return Err(Refusal::CallStackOverflow);
+    }
+    // A negative count's bits are over any saved count.
+    if settings.saved < held + locals {
+        return Err(Refusal::LocalStackOverflow);
+    }
+    if !copies::in_range(start, locals, count) {
+        return Err(Refusal::Address);
+    }
+    if MOST_ARGUMENTS < argc {
+        return Err(Refusal::ArgumentCount);
+    }
+    if !copies::arguments_in_range(def.argsz, start, argc, count) {
+        return Err(Refusal::Address);
+    }
+    if functions::is_builtin(def) {
+        return Err(Refusal::EntersBuiltin);
+    }
+    Ok(())
+}
+
+// An entry into a function that is there, as far as cells go: saves the local range and copies the arguments.
+#[inline(always)]
+fn enter_found(
+    def: FunctionDef,
+    settings: Settings,
+    depth: usize,
+    held: usize,
+    count: usize,
+    cells: &mut [u32],
+    store: &mut [u32],
+) -> Result<Entry, Refusal>
+    requires { (held ≤ 2048) × (settings.saved ≤ 2048) × (2048 ≤ length store.old) × (count ≤ length cells.old) }
+    ensures { (P : Program) (f : ℕ) → f < length P.functions → def ≡ function_of P f → entry_of result cells.new store.new ≡ entering P f (numbered settings depth held count) cells.old store.old }
+{
+    check_entry(def, settings, depth, held, count)?;
+    let start = def.start as usize;
+    let locals = def.locals as usize;
+    copies::move_cells(cells, store, start, held, locals);
+    copies::copy_arguments(cells, def.argsz, start, def.argc as usize);
+    Ok(Entry {
+        first: def.first as i64,
+        locals,
+    })
+}
+
+// An entry as far as cells go, by the part of the file that has the functions. What else an entry does is to the context, which takes its numbers from here.
+pub fn enter_cells(
+    functions: &[u8],
+    f: usize,
+    settings: Settings,
+    depth: usize,
+    held: usize,
+    count: usize,
+    cells: &mut [u32],
+    store: &mut [u32],
+) -> Result<Entry, Refusal>
+    requires { (held ≤ 2048) × (settings.saved ≤ 2048) × (2048 ≤ length store.old) × (count ≤ length cells.old) }
+    ensures { (P : Program) → functions_in functions.now ≡ P.functions → entry_of result cells.new store.new ≡ entering P f (numbered settings depth held count) cells.old store.old }
+{
+    if functions.len() / FUNCTION_SIZE <= f {
+        return Err(Refusal::NoFunction);
+    }
+    let def = functions::get_def(functions, f);
+    enter_found(def, settings, depth, held, count, cells, store)
+}
+
+// The local range of a function that is there.
+fn local_range(def: FunctionDef) -> Locals
+    ensures { result ≡ range_of def }
+{
+    Locals {
+        start: def.start as usize,
+        count: def.locals as usize,
+    }
+}
+
+// The same by the part of the file that has the functions. One that isn't there has no locals.
+fn locals_of(functions: &[u8], f: usize) -> Locals
+    ensures { (P : Program) → functions_in functions.now ≡ P.functions → result ≡ range_of (function_of P f) }
+{
+    if functions.len() / FUNCTION_SIZE <= f {
+        return Locals { start: 0, count: 0 };
+    }
+    local_range(functions::get_def(functions, f))
+}
+
+// The conditions of leaving a function, whose local range is `locals`.
+#[tactic(auto, unfolding(definition::specs::Machine::leave_conditions, definition::specs::Checks::judge))]
+fn check_leaving(locals: Locals, depth: usize, held: usize, count: usize) -> Result<(), Refusal>
+    ensures refusal { (P : Program) (f : ℕ) → locals ≡ range_of (function_of P f) → refusal_in result ≡ judge (leave_conditions P (bare (numbered_in f depth held count))) }
+    ensures room { IsOk result → (0 < depth) × (locals.count ≤ held) × (present locals.start locals.count count ≡ true) }
+{
+    if depth == 0 {
+        return Err(Refusal::CallStackUnderflow);
+    }
+    if held < locals.count {
+        return Err(Refusal::LocalStackUnderflow);
+    }
+    if !copies::in_range(locals.start, locals.count, count) {
+        return Err(Refusal::Address);
+    }
+    Ok(())
+}
+
+// A Return or Done of the three cells from a on, as far as cells go, of a function whose local range is `locals`: copies the three cells and restores the range.
+#[inline(always)]
+fn return_found(
+    locals: Locals,
+    depth: usize,
+    held: usize,
+    count: usize,
+    a: usize,
+    cells: &mut [u32],
+    store: &[u32],
+) -> Result<Leaving, Refusal>
+    requires { (held ≤ 2048) × (2048 ≤ length store.now) × (64 ≤ count) × (count ≤ length cells.old) }
+    ensures { (P : Program) (f : ℕ) → locals ≡ range_of (function_of P f) → leaving_of result cells.new ≡ returning P a (numbered_in f depth held count) cells.old store.now }
+{
+    if !copies::in_range(a, 3, count) {
+        return Err(Refusal::Address);
+    }
+    check_leaving(locals, depth, held, count)?;
+    copies::copy_cells(cells, a, 1, 3);
+    let first = held - locals.count;
+    copies::move_cells(store, cells, first, locals.start, locals.count);
+    Ok(Leaving {
+        locals: locals.count,
+    })
+}
+
+// The same by the part of the file that has the functions.
+pub fn return_cells(
+    functions: &[u8],
+    f: usize,
+    depth: usize,
+    held: usize,
+    count: usize,
+    a: usize,
+    cells: &mut [u32],
+    store: &[u32],
+) -> Result<Leaving, Refusal>
+    requires { (held ≤ 2048) × (2048 ≤ length store.now) × (64 ≤ count) × (count ≤ length cells.old) }
+    ensures { (P : Program) → functions_in functions.now ≡ P.functions → leaving_of result cells.new ≡ returning P a (numbered_in f depth held count) cells.old store.now }
+{
+    let locals = locals_of(functions, f);
+    return_found(locals, depth, held, count, a, cells, store)
 }
 
 impl ExecutionContext {
@@ -37,45 +219,7 @@ impl ExecutionContext {
         if self.file.functions.count <= self.current_function {
             return Locals { start: 0, count: 0 };
         }
-        let def = self.get_def(file, self.current_function);
-        Locals {
-            start: def.start as usize,
-            count: def.locals as usize,
-        }
-    }
-
-    // An entry into a function that is there.
-    #[tactic(auto, unfolding(definition::specs::Machine::entry_conditions, definition::specs::Checks::judge))]
-    fn check_entry(&self, def: FunctionDef) -> Result<(), Refusal>
-        requires { (self.now.saved ≤ 2048) × (self.now.settings.saved ≤ 2048) }
-        ensures refusal { (P : Program) (f : ℕ) → f < length P.functions → def ≡ function_of P f → refusal_in result ≡ judge (entry_conditions P f (bare self.now)) }
-        ensures room { IsOk result → (self.now.depth < self.now.settings.depth) × (self.now.saved + def.locals ≤ self.now.settings.saved) × (def.argc ≤ 8) }
-        ensures cells { IsOk result → (present def.start def.locals self.now.file.globals.count ≡ true) × (copies_present self.now.file.globals.count (arguments_of def) ≡ true) }
-    {
-        let start = def.start as usize;
-        let locals = def.locals as usize;
-        let argc = def.argc as usize;
-        let count = self.file.globals.count;
-        if self.settings.depth <= self.depth {
-            return Err(Refusal::CallStackOverflow);
-        }
-        // A negative count's bits are over any saved count.
-        if self.settings.saved < self.saved + locals {
-            return Err(Refusal::LocalStackOverflow);
-        }
-        if !copies::in_range(start, locals, count) {
-            return Err(Refusal::Address);
-        }
-        if MOST_ARGUMENTS < argc {
-            return Err(Refusal::ArgumentCount);
-        }
-        if !copies::arguments_in_range(def.argsz, start, argc, count) {
-            return Err(Refusal::Address);
-        }
-        if functions::is_builtin(def) {
-            return Err(Refusal::EntersBuiltin);
-        }
-        Ok(())
+        local_range(self.get_def(file, self.current_function))
     }
 
     // The context in function f, which is to go back to the position `back`.
@@ -93,9 +237,8 @@ impl ExecutionContext {
         self.pc = first;
     }
 
-    // Enters function f, which is to go back to the position `back`: saves its local range and copies its arguments.
+    // Enters function f, which is to go back to the position `back`.
     #[inline(always)]
-    #[tactic(auto, using(crate::proofs::CopyLaws::present_more, crate::proofs::CopyLaws::present_of, crate::proofs::CopyLaws::copies_more))]
     pub fn enter_function(
         &mut self,
         file: &[u8],
@@ -112,31 +255,21 @@ impl ExecutionContext {
             return Err(Refusal::NoFunction);
         }
         let def = self.get_def(file, f);
-        self.check_entry(def)?;
-        let start = def.start as usize;
-        let locals = def.locals as usize;
-        copies::move_cells(cells, store, start, self.saved, locals);
-        copies::copy_arguments(cells, def.argsz, start, def.argc as usize);
-        self.push_frame(f, def.first as i64, locals, back);
+        let settings = self.settings;
+        let depth = self.depth;
+        let held = self.saved;
+        let count = self.file.globals.count;
+        let entry = enter_found(def, settings, depth, held, count, cells, store)?;
+        self.push_frame(f, entry.first, entry.locals, back);
         Ok(())
     }
 
     // The leaving of the current function, whose local range is `locals`.
-    #[tactic(auto, unfolding(definition::specs::Machine::leave_conditions, definition::specs::Checks::judge))]
     pub(crate) fn check_leaving(&self, locals: Locals) -> Result<(), Refusal>
         ensures refusal { (P : Program) → locals ≡ range_of (function_of P self.now.current_function) → refusal_in result ≡ judge (leave_conditions P (bare self.now)) }
         ensures room { IsOk result → (0 < self.now.depth) × (locals.count ≤ self.now.saved) × (present locals.start locals.count self.now.file.globals.count ≡ true) }
     {
-        if self.depth == 0 {
-            return Err(Refusal::CallStackUnderflow);
-        }
-        if self.saved < locals.count {
-            return Err(Refusal::LocalStackUnderflow);
-        }
-        if !copies::in_range(locals.start, locals.count, self.file.globals.count) {
-            return Err(Refusal::Address);
-        }
-        Ok(())
+        check_leaving(locals, self.depth, self.saved, self.file.globals.count)
     }
 
     // The context after the current function, with so many locals, is left: its frame becomes zeros again.
@@ -168,7 +301,6 @@ impl ExecutionContext {
 
     // Return and Done of the three cells from a on.
     #[inline(always)]
-    #[tactic(auto, using(crate::proofs::CopyLaws::present_more, crate::proofs::CopyLaws::present_of))]
     pub fn op_return(
         &mut self,
         file: &[u8],
@@ -180,13 +312,12 @@ impl ExecutionContext {
         ensures outcome { (entities : List ℕ) → outcome_of result self.new cells.new store.now entities ≡ after (config self.old cells.old store.now entities) (return (program_of file.now) a) }
         ensures kept { Kept self.old self.new }
     {
-        if !copies::in_range(a, 3, self.file.globals.count) {
-            return Err(Refusal::Address);
-        }
         let locals = self.locals(file);
-        self.check_leaving(locals)?;
-        copies::copy_cells(cells, a, 1, 3);
-        self.leave_function(locals, cells, store);
+        let depth = self.depth;
+        let held = self.saved;
+        let count = self.file.globals.count;
+        let leaving = return_found(locals, depth, held, count, a, cells, store)?;
+        self.pop_frame(leaving.locals);
         Ok(())
     }
 }

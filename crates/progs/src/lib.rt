@@ -11,7 +11,7 @@ use definition::{FileRecord, GREATEST_DEPTH, Settings, StackFrame};
 use functions::fetch;
 
 mod abandon;
-mod calls;
+pub mod calls;
 mod carry_on;
 mod cell_pairs;
 mod copies;

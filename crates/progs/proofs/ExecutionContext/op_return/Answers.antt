@@ -1,22 +1,23 @@
-use Rattle.std.proofs.Common.{◌≡◌, Err, rules, sym, ◌∙◌}
-use Rattle.definition.specs.declared.refusal.Refusal.TheVariants as refusal
-use Rattle.definition.specs.Checks.{judge}
-use Rattle.definition.specs.Machine.{leave_conditions}
+use Rattle.std.proofs.Common.{◌≡◌, Ok, Err, rules, refl, ◌∙◌}
 use Rattle.definition.specs.Load.{program_of}
-use Rattle.progs.proofs.OutcomeLaws.{refused_outcome, accepted_outcome}
+use Rattle.progs.specs.Numbers.{leaving_of, returning}
+use Rattle.progs.proofs.ReturnLaws.{return_by_count, refused_return, return_room, accepted_return}
 use Rattle.progs.proofs.ExecutionContext.op_return.Goals as goal
+use Rattle.progs.proofs.ExecutionContext.op_return.Goals.{In_ok-leaving}
 
-pub returns-then-not-in_range-clause-outcome : goal.returns-then-not-in_range-clause-outcome
-unfolding judge
-returns-then-not-in_range-clause-outcome c = λ entities. refused_outcome _ _ _ entities _ _ refusal.Address (rw (sym c.in_range.ensures ∙ c.if-not-in_range.true))
+done : (c : In_ok-leaving)
+    → leaving_of (Ok c.in_ok-leaving.leaving) c.return_found.new.cells ≡ returning (program_of c.args.file.now) c.args.a c.args.self.now c.args.cells.now c.args.store.now
+done c = c.in_ok-leaving.ensures (program_of c.args.file.now) _ c.locals-locals.ensures ∙ return_by_count _ _ c.args.self.now _ _ _ refl
 
-pub returns-in_err-check_leaving-clause-outcome : goal.returns-in_err-check_leaving-clause-outcome
-unfolding judge leave_conditions
-returns-in_err-check_leaving-clause-outcome c =
-    let r : c.from_residual.result ≡ Err c.in_err-check_leaving.field-0.0 = search rules in
-    λ entities. rw r (refused_outcome _ _ _ entities _ _ _ (rw (sym c.in_range.ensures ∙ c.if-not-in_range.false) (c.in_err-check_leaving.ensures.refusal (program_of c.args.file.now) c.locals-locals.ensures)))
+pub returns-in_err-leaving-clause-outcome : goal.returns-in_err-leaving-clause-outcome
+returns-in_err-leaving-clause-outcome c =
+    let r : c.from_residual.result ≡ Err c.in_err-leaving.field-0.0 = search rules in
+    let none : leaving_of (Err c.in_err-leaving.field-0.0) c.return_found.new.cells ≡ returning (program_of c.args.file.now) c.args.a c.args.self.now c.args.cells.now c.args.store.now =
+    c.in_err-leaving.ensures (program_of c.args.file.now) _ c.locals-locals.ensures ∙ return_by_count _ _ c.args.self.now _ _ _ refl in
+    λ entities. rw r (refused_return _ _ _ _ _ _ _ none entities)
+
+pub pop_frame-requires : goal.pop_frame-requires
+pop_frame-requires c = let room = return_room _ _ _ _ _ _ _ (done (goal.at.pop_frame-requires c).In_ok-leaving) in (room.0, (c.requires.depth, room.1))
 
 pub returns-clause-outcome : goal.returns-clause-outcome
-unfolding judge leave_conditions
-returns-clause-outcome c =
-    λ entities. accepted_outcome _ _ _ entities _ _ (rw (sym c.in_range.ensures ∙ c.if-not-in_range.false) (c.in_ok-check_leaving.ensures.refusal (program_of c.args.file.now) c.locals-locals.ensures)) _ _ _ (rw c.copy_cells.ensures at (c.leave_function.ensures.outcome (program_of c.args.file.now) entities c.locals-locals.ensures))
+returns-clause-outcome c = λ entities. accepted_return _ _ _ _ _ _ _ (done (goal.at.returns-clause-outcome c).In_ok-leaving) entities _ c.pop_frame.ensures
