@@ -8,7 +8,7 @@ use Rattle.definition.specs.Calls.{Call, after}
 use Rattle.progs.specs.Contexts.{config}
 use Rattle.call_list.specs.declared.Replied.{Replied}
 use Rattle.call_list.specs.declared.Call as code
-use Rattle.call_list.specs.Encoding.{call_in, call_of, formed_numbered, formed_at, all_true, Reply, reply, after_all, numbers, replies, AfterCall, replied_of, after_call}
+use Rattle.call_list.specs.Encoding.{call_in, call_of, formed_numbered, all_true, Reply, reply, after_all, numbers, replies, AfterCall, replied_of, after_call}
 
 -- ---- one call
 

@@ -14,7 +14,7 @@ use Rattle.server.specs.declared.Stepped.{Stepped}
 use Rattle.server.specs.declared.Ran.{Ran}
 use Rattle.server.specs.Stepping.{stepped_of, ran_of}
 use Rattle.call_list.specs.declared.Replied.{Replied}
-use Rattle.call_list.specs.Encoding.{Reply, reply_of, refused_reply, answer_reply, value_reply, checked_reply, read_reply, statement_reply, run_reply, reply, answering, AfterCall, replied_of, after_call}
+use Rattle.call_list.specs.Encoding.{Reply, reply_of, refused_reply, answer_reply, checked_reply, read_reply, statement_reply, run_reply, reply, answering, replied_of, after_call}
 
 abbrev answered_reply : Answer → Reply
 answered_reply Answer.Accepted = reply_of completed_word 0 0

@@ -166,6 +166,15 @@ after_call P k c = record { reply = reply P k c; config = after P k c }
 abbrev pub outcome_of : Result (Unit {0}) Malformed → ExecutionContext → List ℕ → List ℕ → List ℕ → List ℕ → Outcome
 outcome_of r x answers cells saved entities = record { answer = r; config = config x cells saved entities; answers = answers }
 
+-- an answer whose refusal is a number, whichever number it is
+abbrev pub numbered_reply : Result (Unit {0}) ℕ → Reply
+numbered_reply (Ok done) = reply_of completed_word 0 0
+numbered_reply (Err n) = refused_reply n
+
+abbrev pub numbered_read : Result ℕ ℕ → Reply
+numbered_read (Ok v) = reply_of completed_word v 0
+numbered_read (Err n) = refused_reply n
+
 abbrev pub checked_reply : Result (Unit {0}) Refusal → Reply
 checked_reply r = answer_reply (checked r)
 

@@ -8,7 +8,7 @@ ghost use Rattle.std.proofs.lemmas.List.Edits.{sets};
 ghost use Rattle.definition.specs.File.{records};
 ghost use Rattle.definition.specs.Load.{program_of};
 ghost use Rattle.progs.specs.Contexts.{config};
-ghost use Rattle.call_list.specs.Encoding.{write_numbered, call_numbered, write_formed, formed_numbered, call_of, IsWithin, formed_at, all_true, well_formed, call_in, refused_reply, checked_reply, read_reply, statement_reply, run_reply, after_all, replies, performed, replied_of, answering, handover_reply, after_call, outcome_of};
+ghost use Rattle.call_list.specs.Encoding.{write_numbered, call_numbered, write_formed, formed_numbered, call_of, IsWithin, formed_at, all_true, well_formed, call_in, refused_reply, numbered_reply, numbered_read, checked_reply, read_reply, statement_reply, run_reply, after_all, replies, performed, replied_of, answering, handover_reply, after_call, outcome_of};
 
 use definition::refusal::Refusal;
 use definition::{Handover, RunAnswer, StatementAnswer};
@@ -75,22 +75,37 @@ pub fn reply_refused(context: ExecutionContext, number: u8) -> Replied
     reply(context, REFUSED, u32::from(number), 0)
 }
 
-pub fn reply_answer(context: ExecutionContext, answer: Result<(), Refusal>) -> Replied
-    ensures { result ≡ answering context (checked_reply answer) }
+// An answer whose refusal is a number, whichever number it is.
+pub fn reply_answer(context: ExecutionContext, answer: Result<(), u8>) -> Replied
+    ensures { result ≡ answering context (numbered_reply answer) }
 {
     match answer {
         Ok(()) => reply(context, ACCEPTED, 0, 0),
-        Err(refusal) => reply_refused(context, refusal.number()),
+        Err(number) => reply_refused(context, number),
     }
 }
 
-pub fn reply_read(context: ExecutionContext, answer: Result<u32, Refusal>) -> Replied
-    ensures { result ≡ answering context (read_reply answer) }
+pub fn reply_read(context: ExecutionContext, answer: Result<u32, u8>) -> Replied
+    ensures { result ≡ answering context (numbered_read answer) }
 {
     match answer {
         Ok(value) => reply(context, ACCEPTED, value, 0),
-        Err(refusal) => reply_refused(context, refusal.number()),
+        Err(number) => reply_refused(context, number),
     }
+}
+
+// The answer of an operation.
+pub fn reply_checked(context: ExecutionContext, answer: Result<(), Refusal>) -> Replied
+    ensures { result ≡ answering context (checked_reply answer) }
+{
+    reply_answer(context, answer.map_err(Refusal::number))
+}
+
+// What an operation gives.
+pub fn reply_value(context: ExecutionContext, answer: Result<u32, Refusal>) -> Replied
+    ensures { result ≡ answering context (read_reply answer) }
+{
+    reply_read(context, answer.map_err(Refusal::number))
 }
 
 // By a `match`, here and below: what an answer holds differs from case to case.
@@ -205,7 +220,7 @@ fn perform(
     match call {
         Call::Enter(function) => {
             let answer = now.enter(file, function, cells, store, entities);
-            reply_answer(now, answer)
+            reply_checked(now, answer)
         }
         Call::Step => reply_statement(server::statement(now, file, cells, store, entities)),
         Call::Run { target, limit } => {
@@ -213,24 +228,24 @@ fn perform(
         }
         Call::CarryOn => {
             let answer = now.carry_on(file, cells, store, entities);
-            reply_answer(now, answer)
+            reply_checked(now, answer)
         }
         Call::Abandon(target) => {
             let answer = now.abandon(file, target, cells, store, entities);
-            reply_answer(now, answer)
+            reply_checked(now, answer)
         }
         Call::Read(address) => {
             let answer = now.read(file, address, cells, store, entities);
-            reply_read(now, answer)
+            reply_value(now, answer)
         }
         Call::Write { address, value } => {
             let answer = now.write(file, address, value, cells, store, entities);
-            reply_answer(now, answer)
+            reply_checked(now, answer)
         }
         Call::WriteAll { first, count } => {
             let pairs = &numbers[first..first + count];
             let answer = now.write_all(file, pairs, cells, store, entities);
-            reply_answer(now, answer)
+            reply_checked(now, answer)
         }
     }
 }

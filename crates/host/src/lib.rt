@@ -36,8 +36,8 @@ pub extern "C" fn host_load(
     ensures { replied_of result cells.new store.now entities.now ≡ after_load settings file.now number cells.old store.now entities.now }
 {
     match load::load(settings, file, number, cells, store, entities) {
-        Ok(context) => call_list::reply_answer(context, Ok(())),
-        Err(refusal) => call_list::reply_answer(ExecutionContext::of_nothing(), Err(refusal)),
+        Ok(context) => call_list::reply_checked(context, Ok(())),
+        Err(refusal) => call_list::reply_checked(ExecutionContext::of_nothing(), Err(refusal)),
     }
 }
 
@@ -53,7 +53,7 @@ pub extern "C" fn host_enter(
     ensures { replied_of result cells.new store.new entities.now ≡ after_call (program_of file.now) (enters function) (config context cells.old store.old entities.now) }
 {
     let entered = context.enter(file, function, cells, store, entities);
-    call_list::reply_answer(context, entered)
+    call_list::reply_checked(context, entered)
 }
 
 // A run of the second engine, from the buffer (document 02, R-12).
@@ -87,7 +87,7 @@ pub extern "C" fn host_carry_on(
     ensures { replied_of result cells.now store.now entities.now ≡ after_call (program_of file.now) carries (config context cells.now store.now entities.now) }
 {
     let carried = context.carry_on(file, cells, store, entities);
-    call_list::reply_answer(context, carried)
+    call_list::reply_checked(context, carried)
 }
 
 #[unsafe(no_mangle)]
@@ -102,7 +102,7 @@ pub extern "C" fn host_abandon(
     ensures { replied_of result cells.new store.now entities.now ≡ after_call (program_of file.now) (abandons target) (config context cells.old store.now entities.now) }
 {
     let abandoned = context.abandon(file, target, cells, store, entities);
-    call_list::reply_answer(context, abandoned)
+    call_list::reply_checked(context, abandoned)
 }
 
 // The detail is the cell where it is accepted.
@@ -118,7 +118,7 @@ pub extern "C" fn host_read(
     ensures { replied_of result cells.now store.now entities.now ≡ after_call (program_of file.now) (reads address) (config context cells.now store.now entities.now) }
 {
     let read = context.read(file, address, cells, store, entities);
-    call_list::reply_read(context, read)
+    call_list::reply_value(context, read)
 }
 
 #[unsafe(no_mangle)]
@@ -134,7 +134,7 @@ pub extern "C" fn host_write(
     ensures { replied_of result cells.new store.now entities.now ≡ after_call (program_of file.now) (writes address value) (config context cells.old store.now entities.now) }
 {
     let written = context.write(file, address, value, cells, store, entities);
-    call_list::reply_answer(context, written)
+    call_list::reply_checked(context, written)
 }
 
 // The pairs of address and value in `numbers`, all or none (document 02, R-9).
@@ -150,7 +150,7 @@ pub extern "C" fn host_write_all(
     ensures { replied_of result cells.new store.now entities.now ≡ after_call (program_of file.now) (writes_all numbers.now) (config context cells.old store.now entities.now) }
 {
     let written = context.write_all(file, numbers, cells, store, entities);
-    call_list::reply_answer(context, written)
+    call_list::reply_checked(context, written)
 }
 
 // A written program is no longer than a file may be, so its length has room in 32 bits.
@@ -181,7 +181,7 @@ pub extern "C" fn host_write_file(
     ensures { writing_of result output.new ≡ after_writing file.now output.old context cells.now store.now entities.now }
 {
     let written = write_file(&context, file, cells, store, entities, output);
-    call_list::reply_read(context, written)
+    call_list::reply_value(context, written)
 }
 
 // The file's statements at the front of the buffer (document 02, R-12).
@@ -197,5 +197,5 @@ pub extern "C" fn host_unpack(
     ensures { unpacking_of result buffer.new ≡ after_unpacking file.now buffer.old context cells.now store.now entities.now }
 {
     let unpacked = unpacked::unpack(&context, file, buffer, cells, store, entities);
-    call_list::reply_answer(context, unpacked)
+    call_list::reply_checked(context, unpacked)
 }
