@@ -33,7 +33,7 @@ pub struct Leaving {
     pub locals: usize,
 }
 
-// The conditions of an entry into a function that is there.
+// The conditions of an entry into a function that is there. `count` is the file's count of cells, by which 15 refuses: more may be lent.
 #[tactic(auto, unfolding(definition::specs::Machine::entry_conditions, definition::specs::Checks::judge))]
 fn check_entry(
     def: FunctionDef,
