@@ -30,7 +30,7 @@ fn check_raw(globals: Typing, raw: bool, cell: usize) -> Result<(), Refusal>
     ensures { refusal_in result ≡ raw_refusal (typing globals.entry.defs.now globals.entry.count) raw cell }
 {
     if !raw {
-        return globals.check_cell_by_call(FLOAT, cell);
+        return globals.check_cell(FLOAT, cell);
     }
     if cell < globals.count {
         Ok(())

@@ -59,7 +59,7 @@ fn check_string(globals: Typing, strings: &[u8], cells: &[u32], cell: usize) -> 
     ensures refused { refusal_in result ≡ judge (text_access (typing globals.entry.defs.now globals.entry.count) strings.now cell cells.now) }
     ensures below { IfOk result (λ _. cell < globals.entry.count) }
 {
-    globals.check_cell_by_call(typed::STRING, cell)?;
+    globals.check_cell(typed::STRING, cell)?;
     match functions::id_from_i32(cells[cell], strings.len()) {
         Some(_) => Ok(()),
         None => Err(Refusal::StringNumber),

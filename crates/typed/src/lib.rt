@@ -121,14 +121,6 @@ pub fn find(defs: &[u8], cell: usize) -> Option<u16>
     find_past_void(defs, wanted)
 }
 
-// The same as a call, for the checks of `check_cell_by_call`.
-#[inline(never)]
-fn find_by_call(defs: &[u8], cell: usize) -> Option<u16>
-    ensures { result ≡ found (lookup (definitions_in defs.now) cell) }
-{
-    find(defs, cell)
-}
-
 #[tactic(auto, unfolding(definition::specs::Cells::scalar))]
 fn scalar(t: u16) -> u16
     ensures { result ≡ scalar t }
@@ -143,15 +135,6 @@ pub fn type_check(defs: &[u8], cell: usize, want: u16) -> bool
     ensures { result ≡ type_check (definitions_in defs.now) want cell }
 {
     defs.is_empty() || find(defs, cell).is_none_or(|t| scalar(t) == scalar(want))
-}
-
-// The same, but that the search is a call.
-#[inline(always)]
-#[tactic(auto, using(crate::proofs::Lookup::type_of_none, crate::proofs::Lookup::type_of_untyped, crate::proofs::Lookup::type_of_typed))]
-fn type_check_by_call(defs: &[u8], cell: usize, want: u16) -> bool
-    ensures { result ≡ type_check (definitions_in defs.now) want cell }
-{
-    defs.is_empty() || find_by_call(defs, cell).is_none_or(|t| scalar(t) == scalar(want))
 }
 
 // A refusal of a check. A seldom made call, so that what passes is told by jumps alone: in place the compiler works out at each check what would refuse it.
@@ -218,22 +201,6 @@ impl<'a> Typing<'a> {
         ensures { refusal_in result ≡ judge (cell_access (typing self.entry.defs.now self.entry.count) want cell) }
     {
         self.check_one(Refusal::Address, want, cell)
-    }
-
-    // The same, but that the search is a call: of a statement that checks cell after cell it would be six times in place, and make all of the statement a call.
-    #[inline(always)]
-    #[tactic(auto, using(definition::proofs::RefusalLaws::numbered), unfolding(definition::specs::Checks::judge, definition::specs::Cells::cell_access, crate::specs::Typing::type_check))]
-    pub fn check_cell_by_call(self, want: u16, cell: usize) -> Result<(), Refusal>
-        ensures { refusal_in result ≡ judge (cell_access (typing self.entry.defs.now self.entry.count) want cell) }
-    {
-        if !type_check_by_call(self.defs, cell, want) {
-            return refused(Refusal::Type);
-        }
-        if cell < self.count {
-            Ok(())
-        } else {
-            refused(Refusal::Address)
-        }
     }
 
     // A typed access.
