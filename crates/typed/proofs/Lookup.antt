@@ -1,6 +1,6 @@
 -- Laws of the type lookup, a definition or two at a time. Assumes nothing.
 use Rattle.std.specs.Prelude.{ℕ, zero, suc, ◌+◌, ◌*◌, ◌≤◌, ◌<◌, ◌%◌, ◌/◌, List, [], ◌∷◌, ◌++◌, Option, None, Some, is_some, Bool, true, false, not, ◌&&◌, ◌||◌, cond, eqb, length, get_or, drop}
-use Rattle.std.proofs.Common.{◌≡◌, refl, sym, ◌∙◌, arith, true≢false, ne_eqb, length-append, drop_at}
+use Rattle.std.proofs.Common.{◌≡◌, refl, sym, ◌∙◌, arith, true≢false, ne_eqb, length-append, append-nil, drop_at}
 use Rattle.std.proofs.lemmas.Bool.{false≢true}
 use Rattle.std.proofs.lemmas.List.{get_or_append_left, length-drop, drop-append-le}
 use Rattle.definition.specs.declared.Definition.{Definition}
@@ -35,6 +35,12 @@ some_more (suc n) x more e =
     let here : definitions_in x ≡ read_definition x 0 ∷ definitions_in (drop 8 x) = records_more read_definition 8 definition_local (omega arith) x (omega (arith, e)) in
     records_more read_definition 8 definition_local (omega arith) (x ++ more) (omega (arith, e, length-append x more))
     ∙ rw (drop-append-le 8 x more (omega (arith, e)), some_more n (drop 8 x) more (omega (arith, e, length-drop 8 x)), here, definition_local (x ++ more) x 0 0 (front_same x more 0 (omega (arith, e))))
+
+-- what is over after whole definitions has none
+pub whole_all : (part x more : List ℕ) → part ≡ x ++ more → length x ≡ length part / 8 * 8 → definitions_in x ≡ definitions_in part
+whole_all part x more e n =
+    let l : length part ≡ length x + length more = rw e (length-append x more) in
+    rw (e, some_more (length part / 8) x more (omega (arith, n)), no_more more (omega (arith, n, l)), append-nil (definitions_in x))
 
 -- ---- a search f that gives what it finds first
 

@@ -137,6 +137,24 @@ pub fn type_check(defs: &[u8], cell: usize, want: u16) -> bool
     defs.is_empty() || find(defs, cell).is_none_or(|t| scalar(t) == scalar(want))
 }
 
+// The same as a call, where there are definitions. The compiler makes more of a length that is known to be a multiple of a definition's.
+#[inline(never)]
+#[tactic(auto, using(crate::proofs::Lookup::whole_all, crate::proofs::Lookup::type_of_untyped, crate::proofs::Lookup::type_of_typed))]
+fn type_check_called(defs: &[u8], cell: usize, want: u16) -> bool
+    ensures { result ≡ type_check (definitions_in defs.now) want cell }
+{
+    let (whole, _) = defs.split_at(defs.len() / DEFINITION_SIZE * DEFINITION_SIZE);
+    find(whole, cell).is_none_or(|t| scalar(t) == scalar(want))
+}
+
+#[inline(always)]
+#[tactic(auto, using(crate::proofs::Lookup::type_of_none))]
+fn type_check_by_call(defs: &[u8], cell: usize, want: u16) -> bool
+    ensures { result ≡ type_check (definitions_in defs.now) want cell }
+{
+    defs.is_empty() || type_check_called(defs, cell, want)
+}
+
 // A refusal of a check. A seldom made call, so that what passes is told by jumps alone: in place the compiler works out at each check what would refuse it.
 #[cold]
 #[inline(never)]
@@ -179,6 +197,23 @@ impl<'a> Typing<'a> {
         }
     }
 
+    // The same by a call of the type check, for the cells of vectors and for `check_cell`: with each search in place statements of vectors and of strings are so long
+    // that the compiler leaves less of them in the run's loop, and where there are no definitions they take a fifth more.
+    #[inline(always)]
+    #[tactic(auto, using(definition::proofs::RefusalLaws::numbered), unfolding(definition::specs::Checks::judge, crate::specs::Typing::type_check, crate::specs::Checking::one_access))]
+    fn check_called(self, above: Refusal, want: u16, cell: usize) -> Result<(), Refusal>
+        ensures { refusal_in result ≡ judge (one_access (number above) (typing self.entry.defs.now self.entry.count) want cell) }
+    {
+        if !type_check_by_call(self.defs, cell, want) {
+            return refused(Refusal::Type);
+        }
+        if cell < self.count {
+            Ok(())
+        } else {
+            refused(above)
+        }
+    }
+
     // An access of what has that type: a vector is three cells, each typed as float. The first cell isn't looked up as a vector too: what passes for a float
     // passes for a vector.
     #[inline(always)]
@@ -189,9 +224,9 @@ impl<'a> Typing<'a> {
         if want != VECTOR {
             return self.check_one(above, want, cell);
         }
-        self.check_one(above, FLOAT, cell)?;
-        self.check_one(above, FLOAT, cell + 1)?;
-        self.check_one(above, FLOAT, cell + 2)
+        self.check_called(above, FLOAT, cell)?;
+        self.check_called(above, FLOAT, cell + 1)?;
+        self.check_called(above, FLOAT, cell + 2)
     }
 
     // A typed access of one cell.
@@ -200,7 +235,7 @@ impl<'a> Typing<'a> {
     pub fn check_cell(self, want: u16, cell: usize) -> Result<(), Refusal>
         ensures { refusal_in result ≡ judge (cell_access (typing self.entry.defs.now self.entry.count) want cell) }
     {
-        self.check_one(Refusal::Address, want, cell)
+        self.check_called(Refusal::Address, want, cell)
     }
 
     // A typed access.
