@@ -82,10 +82,10 @@ fn past_void_of_few(defs: &[u8], wanted: u16) -> Option<u16>
     None
 }
 
-// The type of the first definition of a cell that isn't void, two definitions a turn as above. A call: cells whose first definition is void are seldom.
-#[inline(never)]
+// The type of the first definition of a cell that isn't void, two definitions a turn as above.
+#[inline(always)]
 #[tactic(auto, using(crate::proofs::Lookup::found_kept, crate::proofs::Lookup::found_passed, crate::proofs::Lookup::twos_left, crate::proofs::Lookup::lookup_none))]
-fn find_past_void(defs: &[u8], wanted: u16) -> Option<u16>
+fn first_past_void(defs: &[u8], wanted: u16) -> Option<u16>
     ensures { result ≡ found (lookup (definitions_in defs.now) wanted) }
 {
     let (odd, twos) = defs.split_at(defs.len() / DEFINITION_SIZE % 2 * DEFINITION_SIZE);
@@ -100,6 +100,17 @@ fn find_past_void(defs: &[u8], wanted: u16) -> Option<u16>
         }
     }
     None
+}
+
+// The same as a call, since cells whose first definition is void are seldom. The compiler makes more of a length that is known to be a multiple of a
+// definition's.
+#[inline(never)]
+#[tactic(auto, using(crate::proofs::Lookup::whole_all))]
+fn find_past_void(defs: &[u8], wanted: u16) -> Option<u16>
+    ensures { result ≡ found (lookup (definitions_in defs.now) wanted) }
+{
+    let (whole, _) = defs.split_at(defs.len() / DEFINITION_SIZE * DEFINITION_SIZE);
+    first_past_void(whole, wanted)
 }
 
 // The type of the first definition of a cell that isn't void. Whether a definition is void is asked after the search, of the one that was found, so that
@@ -137,7 +148,7 @@ pub fn type_check(defs: &[u8], cell: usize, want: u16) -> bool
     defs.is_empty() || find(defs, cell).is_none_or(|t| scalar(t) == scalar(want))
 }
 
-// The same as a call, where there are definitions. The compiler makes more of a length that is known to be a multiple of a definition's.
+// The same as a call, where there are definitions.
 #[inline(never)]
 #[tactic(auto, using(crate::proofs::Lookup::whole_all, crate::proofs::Lookup::type_of_untyped, crate::proofs::Lookup::type_of_typed))]
 fn type_check_called(defs: &[u8], cell: usize, want: u16) -> bool

@@ -4,7 +4,7 @@ use Rattle.std.specs.Slice.Iter.{chunks_exact_rest, chunks_exact_size}
 use Rattle.definition.specs.Cells.{lookup}
 use Rattle.functions.specs.Parts.{definitions_in}
 use Rattle.typed.specs.Typing.{found}
-use Rattle.typed.proofs.find_past_void.Given as goal
+use Rattle.typed.proofs.first_past_void.Given as goal
 
 abbrev pub invariant-loop-two : goal.invariant-loop-two
 invariant-loop-two l =
