@@ -59,7 +59,8 @@ fn write(
     }
 }
 
-// A statement that goes by the texts of strings (document 02, R-4).
+// A statement that goes by the texts of strings (document 02, R-4). Inlined, as `field`, `branch` and `call` below: as calls they take their structs through
+// memory, for which each uncommon statement of the second engine clears room, 20 instructions.
 #[inline(always)]
 #[tactic(auto, unfolding(crate::specs::Shapes::string_effect))]
 fn string(
@@ -114,7 +115,7 @@ pub fn branched(k: usize, when: bool, value: u32, by: u16) -> i64
 
 // If and IfNot.
 #[inline(always)]
-#[tactic(auto, using(crate::proofs::Transfers::branches_as))]
+#[tactic(auto, using(crate::proofs::Transfers::branches_as), unfolding(definition::specs::Cells::access))]
 fn branch(
     globals: Typing,
     cells: &[u32],
@@ -126,7 +127,7 @@ fn branch(
     requires { (globals.count ≤ length cells.now) × (k < 2147483648) }
     ensures { does_of result cells.now ≡ branches_do when (typing globals.entry.defs.now globals.entry.count) (pos k) a (signed by) cells.now }
 {
-    globals.check_cell(typed::FLOAT, a)?;
+    globals.check_access(typed::FLOAT, a)?;
     Ok(Executed::Next(branched(k, when, cells[a], by)))
 }
 
