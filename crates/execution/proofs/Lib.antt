@@ -2,3 +2,4 @@ pub mod ByShape
 pub mod Fetching
 pub mod Opcodes
 pub mod Transfers
+mod Distances

@@ -101,13 +101,32 @@ fn field(
     }
 }
 
+// `fetch::signed`, by a comparison: of one instruction, the compiler makes a conditional move of a branch, and the next fetch waits for the float that is tested.
+fn distance(by: u16) -> i64
+    ensures { result ≡ signed by }
+{
+    if by < 32768 {
+        by as i64
+    } else {
+        by as i64 - 65536
+    }
+}
+
+// `fetch::jump`, by that distance.
+fn far_from(k: usize, by: u16) -> i64
+    requires { k < 2147483648 }
+    ensures { result ≡ pos k +ℤ signed by }
+{
+    (k as i64) + distance(by)
+}
+
 // The position after a branch: If jumps where the float isn't zero, IfNot where it is.
 pub fn branched(k: usize, when: bool, value: u32, by: u16) -> i64
     requires { k < 2147483648 }
     ensures { result ≡ pos k +ℤ cond (beq (is_zero value) when) (signed by) (pos 1) }
 {
     if floats::is_zero(value) == when {
-        fetch::jump(k, by)
+        far_from(k, by)
     } else {
         fetch::after(k)
     }
