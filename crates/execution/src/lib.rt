@@ -101,7 +101,8 @@ fn field(
     }
 }
 
-// `fetch::signed`, by a comparison: of one instruction, the compiler makes a conditional move of a branch, and the next fetch waits for the float that is tested.
+// As `fetch::signed`, but by a comparison: where it is one instruction, the compiler turns a branch into a conditional move, and the next fetch waits for the float
+// that is tested.
 fn distance(by: u16) -> i64
     ensures { result ≡ signed by }
 {

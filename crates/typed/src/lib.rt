@@ -166,7 +166,7 @@ fn type_check_by_call(defs: &[u8], cell: usize, want: u16) -> bool
     defs.is_empty() || type_check_called(defs, cell, want)
 }
 
-// A refusal of a check. A seldom made call, so that what passes is told by jumps alone: in place the compiler works out at each check what would refuse it.
+// A refusal of a check. A call that is seldom made, so that what passes is told by jumps alone: in place the compiler works out at each check what would refuse it.
 #[cold]
 #[inline(never)]
 fn refused(refusal: Refusal) -> Result<(), Refusal>
